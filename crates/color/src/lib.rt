@@ -1,0 +1,106 @@
+// Oklab colours: the squared distance, places of a flat slice of three numbers a colour, sums and the mean.
+// Each function gives what its definition in specs/Color.antt says, bit for bit.
+ghost use mathlib.Core.Path.{_≡_};
+ghost use Prim.Native.Nat.{_+_, _*_, _/_, _≤_, _<_};
+ghost use lib.ListN.{length};
+ghost use Rattle.color.specs.Color.{sqdistOf, colourAt, putAt, plusOf, scaledOf, plusTimes, overOf, meanOf};
+
+pub struct Oklab {
+    pub l: f32,
+    pub a: f32,
+    pub b: f32,
+}
+
+// Squared distance between two colours, penalizing chroma mismatch by `weight`.
+pub fn oklab_sqdist(p: Oklab, q: Oklab, weight: f32) -> f32
+    ensures { λ r. ⌜ r ≡ sqdistOf p q weight ⌝ }
+{
+    let dl = p.l - q.l;
+    let da = p.a - q.a;
+    let db = p.b - q.b;
+    dl * dl + weight * (da * da + db * db)
+}
+
+// Colour i of a flat slice.
+pub fn colour(s: &[f32], i: usize) -> Oklab
+    requires { ⌜ 3 * i + 2 < length (now s) ⌝ }
+    ensures { λ r. ⌜ r ≡ colourAt (now (s .entry)) i ⌝ }
+{
+    let j = 3 * i;
+    Oklab {
+        l: s[j],
+        a: s[j + 1],
+        b: s[j + 2],
+    }
+}
+
+// Colour i of a flat slice becomes x.
+pub fn put(s: &mut [f32], i: usize, x: Oklab)
+    requires { ⌜ 3 * i + 2 < length (now s) ⌝ }
+    ensures { λ r. ⌜ now (s .exit) ≡ putAt (now (s .entry)) i x ⌝ }
+{
+    let j = 3 * i;
+    s[j] = x.l;
+    s[j + 1] = x.a;
+    s[j + 2] = x.b;
+}
+
+pub fn plus(x: Oklab, q: Oklab) -> Oklab
+    ensures { λ r. ⌜ r ≡ plusOf x q ⌝ }
+{
+    Oklab {
+        l: x.l + q.l,
+        a: x.a + q.a,
+        b: x.b + q.b,
+    }
+}
+
+pub fn scaled(q: Oklab, x: f32) -> Oklab
+    ensures { λ r. ⌜ r ≡ scaledOf q x ⌝ }
+{
+    Oklab {
+        l: q.l * x,
+        a: q.a * x,
+        b: q.b * x,
+    }
+}
+
+// x with m pixels of the colour q; so few pixels that the cast is exact.
+pub fn plus_times(x: Oklab, q: Oklab, m: u32) -> Oklab
+    requires { ⌜ m ≤ 16777216 ⌝ }
+    ensures { λ r. ⌜ r ≡ plusTimes x q m ⌝ }
+{
+    plus(x, scaled(q, m as f32))
+}
+
+// x divided by n, which the format holds.
+pub fn over(x: Oklab, n: usize) -> Oklab
+    requires { ⌜ n ≤ 16777216 ⌝ }
+    ensures { λ r. ⌜ r ≡ overOf x n ⌝ }
+{
+    let f = n as f32;
+    Oklab {
+        l: x.l / f,
+        a: x.a / f,
+        b: x.b / f,
+    }
+}
+
+// Component-wise mean of the colours of a flat slice, summed in order.
+pub fn mean_oklab(colours: &[f32]) -> Oklab
+    requires { ⌜ (1 ≤ length (now colours) / 3) × (length (now colours) / 3 ≤ 16777216) ⌝ }
+    ensures { λ r. ⌜ r ≡ meanOf (colourAt (now (colours .entry))) (length (now (colours .entry)) / 3) ⌝ }
+{
+    let n = colours.len() / 3;
+    let mut sum = Oklab {
+        l: 0.0,
+        a: 0.0,
+        b: 0.0,
+    };
+    let mut i = 0;
+    while i < n {
+        sum = plus(sum, colour(colours, i));
+        i += 1;
+    }
+    over(sum, n)
+}
