@@ -1,0 +1,17 @@
+-- `stats::step_two` meets its contract, branch by branch. Assumes nothing.
+use borrow.Author.Needs.{needs}
+use Rattle.stats.specs.Steps.{two-taken, two-followed, two-left}
+use Rattle.stats.proofs.step_two.Statement.{statement}
+use Rattle.stats.proofs.step_two.Tie as tie
+
+returns : tie.Need-returns
+returns c = two-taken _ _ _ (search needs)
+
+returns-2 : tie.Need-returns-2
+returns-2 c = two-followed _ _ _ (search needs) (search needs)
+
+returns-3 : tie.Need-returns-3
+returns-3 c = two-left _ _ _ (search needs) (search needs)
+
+pub step-two-spec : {M : Type 1} → statement M
+step-two-spec = tie.close (tie.spec returns returns-2 returns-3)

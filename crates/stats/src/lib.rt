@@ -1,0 +1,68 @@
+// Selection helpers: the least, the least two.
+// Each function gives what its definition in specs/Stats.antt says.
+ghost use mathlib.Core.Path.{_≡_};
+ghost use lib.ListN.{length};
+ghost use Rattle.stats.specs.Stats.{valueAt, stepNear, stepTwo, leastTwo};
+
+// Index and value of the smallest.
+pub struct Near {
+    pub index: usize,
+    pub dist: f32,
+}
+
+// Index and values of the smallest and second smallest.
+pub struct Two {
+    pub index: usize,
+    pub dist: f32,
+    pub second: f32,
+}
+
+// b with one value more, d at index i.
+pub fn step_near(b: Near, i: usize, d: f32) -> Near
+    ensures { λ r. ⌜ r ≡ stepNear b i d ⌝ }
+{
+    if d < b.dist {
+        Near { index: i, dist: d }
+    } else {
+        b
+    }
+}
+
+// b with one value more, d at index i.
+pub fn step_two(b: Two, i: usize, d: f32) -> Two
+    ensures { λ r. ⌜ r ≡ stepTwo b i d ⌝ }
+{
+    if d < b.dist {
+        Two {
+            index: i,
+            dist: d,
+            second: b.dist,
+        }
+    } else if d < b.second {
+        Two {
+            index: b.index,
+            dist: b.dist,
+            second: d,
+        }
+    } else {
+        b
+    }
+}
+
+// Index and values of the smallest and second smallest of `values`, infinity where there is none.
+pub fn smallest_two(values: &[f32]) -> Two
+    ensures { λ r. ⌜ r ≡ leastTwo (valueAt (now (values .entry))) (length (now (values .entry))) ⌝ }
+{
+    let n = values.len();
+    let mut best = Two {
+        index: 0,
+        dist: 1.0 / 0.0,
+        second: 1.0 / 0.0,
+    };
+    let mut i = 0;
+    while i < n {
+        best = step_two(best, i, values[i]);
+        i += 1;
+    }
+    best
+}
