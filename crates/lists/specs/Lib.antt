@@ -1,0 +1,10 @@
+pub mod Tests
+pub mod Count
+pub mod Counting
+pub mod Firsts
+pub mod Hits
+pub mod Every
+pub mod Loops
+pub mod Runs
+pub mod Parts
+pub mod Copies

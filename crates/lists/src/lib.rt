@@ -1,0 +1,4 @@
+// Laws of lists of numbers, in specs/. The crate has one function, since a crate without code is none.
+pub fn next(i: u32) -> u64 {
+    i as u64 + 1
+}
