@@ -1,0 +1,14 @@
+pub mod Order
+pub mod Total
+pub mod Self
+pub mod Plus
+pub mod Within
+pub mod NonNeg
+pub mod Bounds
+pub mod Rings
+pub mod Mono
+pub mod Keys
+pub mod Goods
+pub mod Grows
+pub mod Ranks
+pub mod Cmp
