@@ -1,0 +1,92 @@
+-- `put` meets its contract: the bytes that the field touches are stored anew, with their other bits as they were. Assumes nothing.
+use Prim.Native.Nat.{_+_, _-_, _*_, _/_, _%_}
+use native.Mathlib.Omega.{arith}
+use Rattle.bits.specs.Bits.{bits}
+use Rattle.bits.specs.Bytes.{length-bits}
+use Rattle.bits.specs.Fields.{field-lt}
+use Rattle.bits.proofs.Spelled.{put-done}
+use borrow.Author.Needs.{needs}
+use Rattle.bits.proofs.put.Statement.{statement}
+use Rattle.bits.proofs.put.Tie as tie
+use Rattle.bits.proofs.put.Reads as reads
+use Rattle.bits.proofs.put.Lts as lts
+use Rattle.bits.proofs.get.Reads as get-reads
+use Rattle.bits.proofs.joined.Reads as joined-reads
+use Rattle.bits.proofs.spell.Reads as spell-reads
+
+add-end : tie.Need-add-end
+add-end c = search needs
+
+add-end-2 : tie.Need-add-end-2
+add-end-2 c = search needs
+
+mul-spare : tie.Need-mul-spare
+mul-spare c = search needs
+
+add-spare : tie.Need-add-spare
+add-spare c = search needs
+
+sub-spare : tie.Need-sub-spare
+sub-spare c = search needs
+
+mul-get : tie.Need-mul-get
+mul-get c = search needs
+
+get-requires : tie.Need-get-requires
+get-requires c κs = search needs
+
+add-get : tie.Need-add-get
+add-get c = search needs
+
+get-requires-2 : tie.Need-get-requires-2
+get-requires-2 c κs = search needs
+
+cast-joined : tie.Need-cast-joined
+cast-joined c = search needs
+
+cast-joined-2 : tie.Need-cast-joined-2
+cast-joined-2 c = search needs
+
+joined-requires : tie.Need-joined-requires
+joined-requires c κs = (
+  omega (arith, c .before .before .get .ensures, field-lt (bits (c .before .before .before .before .before .args .s .now)) (8 * (c .before .before .before .before .before .args .p / 8)) (c .before .before .before .before .before .args .p % 8) 7 (rw length-bits (omega arith)) (omega arith)),
+  omega arith,
+  omega arith,
+  omega (
+    arith,
+    c .get2 .ensures,
+    field-lt (bits (c .before .before .before .before .before .args .s .now)) (c .before .before .before .before .before .args .p + c .before .before .before .before .before .args .k) (8 * ((c .before .before .before .before .before .args .p + c .before .before .before .before .before .args .k + 7) / 8) - (c .before .before .before .before .before .args .p + c .before .before .before .before .before .args .k))
+        (8 * ((c .before .before .before .before .before .args .p + c .before .before .before .before .before .args .k + 7) / 8) - (c .before .before .before .before .before .args .p + c .before .before .before .before .before .args .k)) (rw length-bits (omega arith)) (omega arith),
+  ),
+)
+
+spell-requires : tie.Need-spell-requires
+spell-requires c κs = search needs
+
+same-length : tie.Need-same-length
+same-length c = search needs
+
+returns : tie.Need-returns
+returns c =
+    put-done (bits (c .before .before .before .before .before .before .before .before .before .before .args .s .now)) _ (c .before .before .before .before .before .before .before .before .before .before .args .p) (c .before .before .before .before .before .before .before .before .before .before .args .k) (c .before .before .before .before .before .before .before .before .before .before .args .v) (c .before .before .before .before .before .before .before .get .result) (c .before .before .before .before .before .get2 .result) (c .before .before .before .before .joined .result)
+    (rw length-bits (omega arith)) (c .before .before .before .before .before .before .before .get .ensures) (c .before .before .before .before .before .get2 .ensures) (c .before .before .before .before .joined .ensures) (c .before .before .spell .ensures)
+
+pub put-spec : {M : Type 1} → statement M
+put-spec =
+    tie.close
+    (tie.spec
+    add-end
+    add-end-2
+    mul-spare
+    add-spare
+    sub-spare
+    mul-get
+    get-requires
+    add-get
+    get-requires-2
+    cast-joined
+    cast-joined-2
+    joined-requires
+    spell-requires
+    same-length
+    returns)
