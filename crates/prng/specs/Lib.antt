@@ -1,0 +1,4 @@
+pub mod SplitMix
+pub mod Shuffle
+pub mod Vectors
+pub mod Shuffled
