@@ -4,7 +4,7 @@ use mathlib.Core.Path.{_≡_, refl, ap, sym, _∙_}
 use native.Mathlib.Numerals.{add-one}
 use native.Mathlib.Nat.{le-antisymm}
 use lib.IntN.{pos}
-use lib.Ieee.{binary32, ofBits, ofInt}
+use lib.Ieee.{binary32, ofInt}
 use Rattle.color.specs.declared.Oklab.{Oklab}
 use Rattle.color.specs.Color.{black, plusOf, scaledOf, plusTimes, overOf, sumOf, meanOf}
 

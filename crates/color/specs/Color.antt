@@ -6,6 +6,7 @@ use lib.IntN.{pos}
 use lib.Dec.{T}
 use lib.Ieee.Scale.{finite}
 use lib.Ieee.{Float, nan, binary32, add, sub, mul, div, ofInt, ofBits}
+use Rattle.ieee.specs.Within.{Within}
 use Rattle.color.specs.declared.Oklab.{Oklab}
 
 -- each product and each sum is rounded once
@@ -23,10 +24,6 @@ colourAt s i = record { l = getD s (3 * i) nan; a = getD s (3 * i + 1) nan; b = 
 -- colour i becomes x
 unfoldable pub putAt : List Float → ℕ → Oklab → List Float
 putAt s i x = set (set (set s (3 * i) (x .l)) (3 * i + 1) (x .a)) (3 * i + 2) (x .b)
-
--- every number is finite
-abbrev pub Finite : List Float → Type 0
-Finite s = (i : ℕ) → i < length s → T (finite (getD s i nan))
 
 abbrev pub black : Oklab
 black = record { l = ofBits binary32 0; a = ofBits binary32 0; b = ofBits binary32 0 }
@@ -54,3 +51,24 @@ sumOf c (suc n) = plusOf (sumOf c n) (c n)
 
 abbrev pub meanOf : (ℕ → Oklab) → ℕ → Oklab
 meanOf c n = overOf (sumOf c n) n
+
+-- ---- bounds
+-- every component is finite
+pub record Real (p : Oklab) : Type 0 where
+  pub rl : T (finite (p .l))
+  pub ra : T (finite (p .a))
+  pub rb : T (finite (p .b))
+
+-- every component is finite and at most k in size
+pub record Sized (p : Oklab) (k : ℕ) : Type 0 where
+  pub sl : Within (p .l) k 1
+  pub sa : Within (p .a) k 1
+  pub sb : Within (p .b) k 1
+
+-- every number of a list is finite
+abbrev pub Finite : List Float → Type 0
+Finite s = (i : ℕ) → i < length s → T (finite (getD s i nan))
+
+-- every number of a list is finite and at most k in size
+abbrev pub Bounded : List Float → ℕ → Type 0
+Bounded s k = (i : ℕ) → i < length s → Within (getD s i nan) k 1

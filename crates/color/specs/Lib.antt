@@ -1,2 +1,5 @@
 pub mod Color
-pub mod Counts
+pub mod Puts
+pub mod Sizes
+pub mod Distances
+pub mod Means

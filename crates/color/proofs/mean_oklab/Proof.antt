@@ -3,7 +3,6 @@ use Prim.Native.Nat.{_≤_, _-_}
 use mathlib.Core.Path.{_≡_}
 use native.Mathlib.Omega.{arith}
 use borrow.Author.Needs.{needs}
-use lib.Ieee.{ofBits}
 use Rattle.color.specs.Color.{colourAt, sumOf}
 use Rattle.color.proofs.Steps.{sum-none, sum-more, mean-done}
 use Rattle.color.proofs.mean_oklab.Statement.{statement}

@@ -1,11 +1,12 @@
 -- `color::over` meets its contract: a count up to 2 ^ 24 casts exactly. Assumes nothing.
 use borrow.Author.Needs.{needs}
-use Rattle.color.specs.Counts.{count-exact}
+use lib.Ieee.{binary32}
+use Rattle.ieee.specs.Goods.{count-exact}
 use Rattle.color.proofs.over.Statement.{statement}
 use Rattle.color.proofs.over.Tie as tie
 
 int-to-float-f : tie.Need-int-to-float-f
-int-to-float-f c = count-exact _ (c .before .pre)
+int-to-float-f c = count-exact binary32 _ (c .before .pre)
 
 returns : tie.Need-returns
 returns c = search needs

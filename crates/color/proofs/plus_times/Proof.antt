@@ -1,12 +1,13 @@
 -- `color::plus_times` meets its contract: a count up to 2 ^ 24 casts exactly. Assumes nothing.
 use borrow.Author.Needs.{needs}
-use Rattle.color.specs.Counts.{count-exact}
+use lib.Ieee.{binary32}
+use Rattle.ieee.specs.Goods.{count-exact}
 use Rattle.color.proofs.Steps.{times-done}
 use Rattle.color.proofs.plus_times.Statement.{statement}
 use Rattle.color.proofs.plus_times.Tie as tie
 
 int-to-float-scaled : tie.Need-int-to-float-scaled
-int-to-float-scaled c = count-exact _ (c .before .pre)
+int-to-float-scaled c = count-exact binary32 _ (c .before .pre)
 
 scaled-requires : tie.Need-scaled-requires
 scaled-requires c κs = search needs
