@@ -1,0 +1,4 @@
+pub mod Format
+pub mod Tests
+pub mod Lawful
+pub mod Files
