@@ -4,7 +4,7 @@
 use mathlib.Core.Path.{_≡_, refl, sym, ap, _∙_, subst}
 use mathlib.Core.Logic.{_⊎_, inl, inr}
 use Prim.Native.Nat.{ℕ, zero, suc, _+_, _-_, _*_, _/_, _^_, _≤_, _<_, zero-le}
-use native.Mathlib.Nat.{le-refl, le-trans, le-of-eq, lt-of-le-of-lt, le-antisymm, eq-or-lt-of-le, zero-add, add-assoc, mul-comm, mul-assoc, mul-right-comm, mul-le-mul-right, mul-suc, suc-mul, le-div-iff-mul-le, div-le-of-le-mul}
+use native.Mathlib.Nat.{le-refl, le-trans, le-of-eq, lt-of-le-of-lt, le-antisymm, eq-or-lt-of-le, zero-add, add-assoc, mul-comm, mul-assoc, mul-right-comm, mul-le-mul-right, mul-suc, suc-mul, le-div-iff-mul-le, div-le-of-le-mul, mul-div-cancel}
 use native.Mathlib.Omega.{arith}
 use mathlib.Core.Bool.{Bool, true, false, not, _&&_, _||_, cond}
 use lib.IntN.{ℤ}
@@ -12,6 +12,7 @@ use lib.Dec.{T, leb, ltb, eqb, leb→le, le→leb, nleb→lt, ltb→lt, lt→ltb
 use lib.Pow.{pow-add, pow-pos, shr-mono}
 use lib.Ieee.{Float, nan, inf, fin, Format, binary32, binary64, prec, emax, low, up, down, size, hid, ones, top, lt, eq, le, fits, isNan, toBits, ofBits}
 use lib.Ieee.Digits.{size-lt, size-le, size-reaches}
+use lib.Ieee.Exact.{HasValue}
 use lib.Ieee.Fits.{down-pos, kept-lt, two, two-le-pos, eq→eqb}
 use lib.Ieee.Nearest.{div-mono}
 use lib.Ieee.Bits.{ofBits-toBits}
@@ -55,6 +56,13 @@ bits-are f (inf s) h = ap (λ (z : ℕ). cond s (top f) 0 + z) (sym (pack-top f)
 bits-are f (fin s m e) h =
     let n = m * up e * 2 ^ low f / down e in
     add-assoc (cond s (top f) 0) ((size n - prec f) * hid f) (n / 2 ^ (size n - prec f))
+
+-- a value of a of the smallest ones
+pub value-key : (f : Format) (x : Float) (s : Bool) (a : ℕ) → HasValue x s a (2 ^ low f) → key f x ≡ a
+unfolding key
+value-key f nan s a v = absurd v
+value-key f (inf t) s a v = absurd v
+value-key f (fin t m e) s a v = ap (λ (z : ℕ). z / down e) (v .1) ∙ mul-div-cancel a (down-pos e)
 
 -- ---- more units, a larger pattern
 fewer : (x y p : ℕ) → x ≤ y → x - p ≤ y - p
@@ -182,6 +190,9 @@ plus-abs (inf true) p = absurd p
 plus-abs (inf false) p = refl
 plus-abs (fin true m e) p = absurd p
 plus-abs (fin false m e) p = refl
+
+pub plus-bits : (f : Format) (x : Float) → T (plus x) → toBits f x ≡ pack f (key f x)
+plus-bits f x p = ap (toBits f) (sym (plus-abs x p)) ∙ abs-bits f x (plus-real x p)
 
 module _ (f : Format) (x y : Float) (g : Good f x) (h : Good f y) where
   pub le→keys : T (le x y) → key f x ≤ key f y

@@ -12,3 +12,5 @@ pub mod Goods
 pub mod Grows
 pub mod Ranks
 pub mod Cmp
+pub mod Narrow
+pub mod Narrows

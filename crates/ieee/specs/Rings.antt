@@ -96,7 +96,7 @@ mul-oneF f (fin true m e) h = unfold mul in simp mul-one (round-self f true m e 
 mul-oneF f (fin false m e) h = unfold mul in simp mul-one (round-self f false m e h)
 
 -- ---- the square of a difference
-odd-neg : (d : ℕ) (s : Bool) (q k l : ℕ) → odd d (not s) q k l ≡ neg (odd d s q k l)
+pub odd-neg : (d : ℕ) (s : Bool) (q k l : ℕ) → odd d (not s) q k l ≡ neg (odd d s q k l)
 unfolding odd neg
 odd-neg d s zero k l = refl
 odd-neg d s (suc q) k l = refl

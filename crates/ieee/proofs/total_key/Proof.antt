@@ -10,8 +10,8 @@ use Rattle.ieee.proofs.total_key.Tie as tie
 use Rattle.ieee.proofs.total_key.Reads as reads
 use Rattle.ieee.proofs.total_key.Lts as lts
 
-float-to-bits-b : tie.Need-float-to-bits-b
-float-to-bits-b c = search needs
+float-to-bits-bits : tie.Need-float-to-bits-bits
+float-to-bits-bits c = search needs
 
 add-result : tie.Need-add-result
 add-result c = search needs
@@ -26,4 +26,4 @@ returns-2 : tie.Need-returns-2
 returns-2 c = rw (le-ltb (toBits binary32 (c .before .args .x)) 2147483648 (c .if1 .left)) (omega (arith, toBits-lt binary32 (c .before .args .x) (of-true (c .before .good .0 .1))))
 
 pub total-key-spec : {M : Type 1} → statement M
-total-key-spec = tie.close (tie.spec float-to-bits-b add-result sub-result returns returns-2)
+total-key-spec = tie.close (tie.spec float-to-bits-bits add-result sub-result returns returns-2)

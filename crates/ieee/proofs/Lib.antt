@@ -1,0 +1,4 @@
+pub mod Rounds
+pub mod Packs
+pub mod Bands
+pub mod Fields
