@@ -1,0 +1,117 @@
+-- The rules that a job is held to, in their order, for tiles of at most `size` pixels. Definitions only. Assumes nothing.
+use Prim.Native.Nat.{ℕ, _+_, _*_}
+use mathlib.Core.Bool.{Bool, _&&_}
+use mathlib.Core.List.{List, [], _∷_, _++_}
+use lib.Dec.{eqb, ltb, leb}
+use lib.ListN.{length, getD}
+use lib.Ieee.{Float, nan, lt, le, neg}
+use Rattle.lists.specs.Every.{every, sum}
+use Rattle.job.specs.First.{firstNot}
+use Rattle.job.specs.Rules.{Rule, rule, answer}
+use Rattle.job.specs.Job.{Job, firstOf, sizeOf, countsPart, mostSubpalettes, mostColours, mostTiles, mostTileColours, mostSamples, nought, two, sixteen}
+
+-- ---- numbers
+unfoldable pub among : ℕ → ℕ → Bool
+among x most = leb 1 x && leb x most
+
+-- |x| ≤ m, false for a NaN
+unfoldable pub within : Float → Float → Bool
+within m x = le x m && le (neg m) x
+
+unfoldable pub weightFits : Float → Bool
+weightFits w = lt nought w && le w sixteen
+
+-- ---- the tile table
+-- a tile of n colours from f on begins where those before it end, and ends among the colours lent
+unfoldable pub tileTest : ℕ → ℕ → ℕ → ℕ → ℕ → Bool
+tileTest size total at f n = eqb f at && (leb n size && leb (at + n) total)
+
+unfoldable pub tileFits : ℕ → ℕ → List ℕ → ℕ → Bool
+tileFits size total tiles t = tileTest size total (sum (sizeOf tiles) t) (firstOf tiles t) (sizeOf tiles t)
+
+unfoldable pub tilesFit : ℕ → ℕ → List ℕ → ℕ → Bool
+tilesFit size total tiles t = every (tileFits size total tiles) t && eqb (sum (sizeOf tiles) t) total
+
+-- ---- counts
+-- a count is at least 1, and with those before it the tile's size at most
+unfoldable pub countTest : ℕ → ℕ → ℕ → Bool
+countTest size before n = leb 1 n && leb (before + n) size
+
+unfoldable pub countFits : ℕ → List ℕ → ℕ → Bool
+countFits size cs k = countTest size (sum (λ i. getD cs i 0) k) (getD cs k 0)
+
+-- the counts of one tile
+unfoldable pub partFits : ℕ → List ℕ → Bool
+partFits size cs = every (countFits size cs) (length cs)
+
+unfoldable pub tileCountsFit : ℕ → List ℕ → List ℕ → ℕ → Bool
+tileCountsFit size tiles counts t = partFits size (countsPart tiles counts t)
+
+unfoldable pub countsFit : ℕ → List ℕ → List ℕ → ℕ → Bool
+countsFit size tiles counts t = every (tileCountsFit size tiles counts) t
+
+-- ---- components of magnitude m at most: the first that is not, and whether there is none
+unfoldable pub componentFits : Float → List Float → ℕ → Bool
+componentFits m xs i = within m (getD xs i nan)
+
+unfoldable pub firstBad : Float → List Float → ℕ
+firstBad m xs = firstNot (componentFits m xs) (length xs)
+
+abbrev pub componentsFit : Float → List Float → Bool
+componentsFit m xs = eqb (firstBad m xs) (length xs)
+
+-- ---- samples: a tile, and a colour by its place in that tile
+unfoldable pub sampleTest : List ℕ → ℕ → ℕ → ℕ → Bool
+sampleTest tiles t tile place = ltb tile t && ltb place (sizeOf tiles tile)
+
+unfoldable pub sampleFits : List ℕ → ℕ → List ℕ → ℕ → Bool
+sampleFits tiles t samples i = sampleTest tiles t (getD samples (2 * i) 0) (getD samples (2 * i + 1) 0)
+
+unfoldable pub samplesFit : List ℕ → ℕ → List ℕ → ℕ → Bool
+samplesFit tiles t samples n = every (sampleFits tiles t samples) n
+
+-- ---- the rules in their order. A number has a line for each of its tests
+abbrev pub sizeRules : ℕ → ℕ → ℕ → List Rule
+sizeRules s c t = rule 2 (among s mostSubpalettes) ∷ rule 2 (among c mostColours) ∷ rule 2 (among t mostTiles) ∷ []
+
+abbrev pub shapeRules : ℕ → List ℕ → List Float → List ℕ → List Rule
+shapeRules t tiles colours counts = rule 3 (eqb (length tiles) (2 * t)) ∷ rule 3 (eqb (length colours) (3 * length counts)) ∷ []
+
+abbrev pub tableRules : ℕ → ℕ → Float → List ℕ → List ℕ → List Rule
+tableRules size t weight tiles counts =
+    rule 4 (weightFits weight)
+    ∷ rule 5 (leb (length counts) mostTileColours)
+    ∷ rule 5 (tilesFit size (length counts) tiles t)
+    ∷ rule 6 (countsFit size tiles counts t) ∷ []
+
+abbrev pub sizes : Job → List Rule
+sizes J = sizeRules (J .S) (J .C) (J .T)
+
+abbrev pub shapes : Job → List Rule
+shapes J = shapeRules (J .T) (J .tiles) (J .colours) (J .counts)
+
+abbrev pub tables : ℕ → Job → List Rule
+tables size J = tableRules size (J .T) (J .weight) (J .tiles) (J .counts)
+
+-- a call without samples: the palette is among the job's colours; `room` says that the call's own lent slices have their lengths
+abbrev pub plainRules : ℕ → Job → List Float → Bool → List Rule
+plainRules size J palette room =
+    sizes J
+    ++ (shapes J
+    ++ (rule 3 (eqb (length palette) (3 * (J .S * J .C))) ∷ rule 3 room
+    ∷ (tables size J ++ (rule 7 (componentsFit two palette) ∷ rule 7 (componentsFit two (J .colours)) ∷ []))))
+
+-- a call with n samples
+abbrev pub sampledRules : ℕ → Job → ℕ → List ℕ → Bool → List Rule
+sampledRules size J n samples room =
+    sizes J
+    ++ (rule 2 (leb n mostSamples)
+    ∷ (shapes J
+    ++ (rule 3 (eqb (length samples) (2 * n)) ∷ rule 3 room ∷ rule 1 (leb 1 n)
+    ∷ (tables size J ++ (rule 7 (componentsFit two (J .colours)) ∷ rule 8 (samplesFit (J .tiles) (J .T) samples n) ∷ [])))))
+
+unfoldable pub plainAnswer : ℕ → Job → List Float → Bool → ℕ
+plainAnswer size J palette room = answer (plainRules size J palette room)
+
+unfoldable pub sampledAnswer : ℕ → Job → ℕ → List ℕ → Bool → ℕ
+sampledAnswer size J n samples room = answer (sampledRules size J n samples room)

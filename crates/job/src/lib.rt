@@ -1,0 +1,82 @@
+// A job's tiles as parts of what is lent, and the test of a component.
+ghost use mathlib.Core.Path.{_≡_};
+ghost use Prim.Native.Nat.{ℕ, _+_, _*_, _<_};
+ghost use lib.Dec.{eqb};
+ghost use lib.ListN.{length};
+ghost use Rattle.job.specs.Job.{firstOf, sizeOf, coloursPart, countsPart, Placed};
+ghost use Rattle.job.specs.Checks.{within, firstBad};
+
+pub fn wide(x: u32) -> usize
+    ensures { λ r. ⌜ r ≡ x ⌝ }
+{
+    x as usize
+}
+
+// ---- the tile table
+
+pub fn first_of(tiles: &[u32], i: usize) -> usize
+    requires { ⌜ 2 * i + 1 < length (now tiles) ⌝ }
+    ensures { λ r. ⌜ r ≡ firstOf (now (tiles .entry)) i ⌝ }
+{
+    wide(tiles[2 * i])
+}
+
+pub fn size_of(tiles: &[u32], i: usize) -> usize
+    requires { ⌜ 2 * i + 1 < length (now tiles) ⌝ }
+    ensures { λ r. ⌜ r ≡ sizeOf (now (tiles .entry)) i ⌝ }
+{
+    wide(tiles[2 * i + 1])
+}
+
+pub fn is_empty(tiles: &[u32], i: usize) -> bool
+    requires { ⌜ 2 * i + 1 < length (now tiles) ⌝ }
+    ensures { λ r. ⌜ r ≡ eqb (sizeOf (now (tiles .entry)) i) 0 ⌝ }
+{
+    size_of(tiles, i) == 0
+}
+
+// The colours of tile i.
+pub fn tile_part<'a>(tiles: &[u32], colours: &'a [f32], i: usize) -> &'a [f32]
+    requires { ⌜ Placed 3 (now tiles) i (length (now colours)) ⌝ }
+    ensures { λ r. ⌜ now r ≡ coloursPart (now (tiles .entry)) (now (colours .entry)) i ⌝ }
+{
+    let at = 3 * first_of(tiles, i);
+    let size = 3 * size_of(tiles, i);
+    &colours[at..at + size]
+}
+
+// The counts of tile i.
+pub fn counts_part<'a>(tiles: &[u32], counts: &'a [u32], i: usize) -> &'a [u32]
+    requires { ⌜ Placed 1 (now tiles) i (length (now counts)) ⌝ }
+    ensures { λ r. ⌜ now r ≡ countsPart (now (tiles .entry)) (now (counts .entry)) i ⌝ }
+{
+    let at = first_of(tiles, i);
+    let size = size_of(tiles, i);
+    &counts[at..at + size]
+}
+
+// ---- components
+
+// From -limit to limit: no NaN and no infinity is.
+pub fn is_within(x: f32, limit: f32) -> bool
+    ensures { λ r. ⌜ r ≡ within limit x ⌝ }
+{
+    if x <= limit {
+        return x >= -limit;
+    }
+    false
+}
+
+// The index of the first component that is not within the limit, or how many there are.
+pub fn first_bad(xs: &[f32], limit: f32) -> usize
+    ensures { λ r. ⌜ r ≡ firstBad limit (now (xs .entry)) ⌝ }
+{
+    let mut i = 0usize;
+    while i < xs.len() {
+        if !is_within(xs[i], limit) {
+            return i;
+        }
+        i += 1;
+    }
+    i
+}
