@@ -1,0 +1,5 @@
+pub mod Choice
+pub mod Scan
+pub mod Leading
+pub mod Two
+pub mod Runner

@@ -1,0 +1,4 @@
+pub mod Palette
+pub mod Parts
+pub mod Sums
+pub mod Example
