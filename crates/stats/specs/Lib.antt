@@ -1,2 +1,4 @@
 pub mod Stats
 pub mod Steps
+pub mod Choices
+pub mod Examples

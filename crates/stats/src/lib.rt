@@ -1,8 +1,8 @@
-// Selection helpers: the least, the least two.
+// Selection helpers: the least, the least two, the greatest and the least by IEEE 754's total order.
 // Each function gives what its definition in specs/Stats.antt says.
 ghost use mathlib.Core.Path.{_≡_};
 ghost use lib.ListN.{length};
-ghost use Rattle.stats.specs.Stats.{valueAt, stepNear, stepTwo, leastTwo};
+ghost use Rattle.stats.specs.Stats.{valueAt, stepNear, stepTwo, leastTwo, NoNan, argmaxOf, argminOf};
 
 // Index and value of the smallest.
 pub struct Near {
@@ -62,6 +62,40 @@ pub fn smallest_two(values: &[f32]) -> Two
     let mut i = 0;
     while i < n {
         best = step_two(best, i, values[i]);
+        i += 1;
+    }
+    best
+}
+
+// The last of the greatest, 0 where there is none.
+pub fn argmax(values: &[f32]) -> usize
+    requires { ⌜ NoNan (valueAt (now values)) (length (now values)) ⌝ }
+    ensures { λ r. ⌜ r ≡ argmaxOf (valueAt (now (values .entry))) (length (now (values .entry))) ⌝ }
+{
+    let n = values.len();
+    let mut best = 0;
+    let mut i = 0;
+    while i < n {
+        if ieee::total_key(values[best]) <= ieee::total_key(values[i]) {
+            best = i;
+        }
+        i += 1;
+    }
+    best
+}
+
+// The first of the least, 0 where there is none.
+pub fn argmin(values: &[f32]) -> usize
+    requires { ⌜ NoNan (valueAt (now values)) (length (now values)) ⌝ }
+    ensures { λ r. ⌜ r ≡ argminOf (valueAt (now (values .entry))) (length (now (values .entry))) ⌝ }
+{
+    let n = values.len();
+    let mut best = 0;
+    let mut i = 0;
+    while i < n {
+        if ieee::total_key(values[i]) < ieee::total_key(values[best]) {
+            best = i;
+        }
         i += 1;
     }
     best
