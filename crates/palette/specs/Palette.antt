@@ -79,11 +79,10 @@ pub record Counted (X : Tile) : Type 0 where
   pub low : (k : ℕ) → k < length (X .counts) → 1 ≤ getD (X .counts) k 0
   pub high : (k : ℕ) → k < length (X .counts) → getD (X .counts) k 0 ≤ 16777216
 
--- a palette and a tile that is not empty
+-- a palette, and a tile that may be empty
 pub record Fits (P : Palette) (X : Tile) (w : Float) : Type 0 where
   pub palette : Present P
   pub tile : Counted X
-  pub some : 1 ≤ length (X .counts)
   pub weight : T (positive w)
 
 -- place t of the hints is there, and a u32 holds every index

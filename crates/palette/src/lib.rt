@@ -52,7 +52,7 @@ pub fn tile_distance(s: &[f32], tile: &[f32], counts: &[u32], w: f32) -> f32
 }
 
 // Index and distance of the subpalette that fits a tile best. The search starts at the hint, since that is usually still best,
-// and leaves a subpalette as soon as its sum can't win.
+// and leaves a subpalette as soon as its sum can't win. On an empty tile no sum is tested, so that the answer would be the hint.
 pub fn best_from(
     pal: &[f32],
     c: usize,
@@ -63,7 +63,7 @@ pub fn best_from(
     w: f32,
     hint: usize,
 ) -> Near
-    requires { ⌜ Fits (paletteWith (now pal) c have n) (tileWith (now tile) (now counts)) w × (hint < n) ⌝ }
+    requires { ⌜ Fits (paletteWith (now pal) c have n) (tileWith (now tile) (now counts)) w × ((1 ≤ length (now counts)) × (hint < n)) ⌝ }
     ensures { λ r. ⌜ r ≡ bestFit (paletteWith (now (pal .entry)) c have n) (tileWith (now (tile .entry)) (now (counts .entry))) w ⌝ }
 {
     let mut best = hint;
@@ -111,7 +111,7 @@ pub fn best_fit(
     hints: &mut [u32],
     t: usize,
 ) -> Near
-    requires { ⌜ Fits (paletteWith (now pal) c have n) (tileWith (now tile) (now counts)) w × Hinted n (now hints) t ⌝ }
+    requires { ⌜ Fits (paletteWith (now pal) c have n) (tileWith (now tile) (now counts)) w × ((1 ≤ length (now counts)) × Hinted n (now hints) t) ⌝ }
     ensures { λ r. ⌜ (r ≡ bestFit (paletteWith (now (pal .entry)) c have n) (tileWith (now (tile .entry)) (now (counts .entry))) w) × (now (hints .exit) ≡ set (now (hints .entry)) t (r .index)) ⌝ }
 {
     let hint = least(hints[t] as usize, n - 1);

@@ -24,7 +24,7 @@ best-from-requires : tie.Need-best-from-requires
 best-from-requires c κs = search needs
 
 cast-hints : tie.Need-cast-hints
-cast-hints c = let z = c .before .before .before .before .before .before .before in omega (arith, best-below _ _ _ _ (z .pre .1 .subs) (c .best-from .ensures), z .pre .1 .few)
+cast-hints c = let z = c .before .before .before .before .before .before .before in omega (arith, best-below _ _ _ _ (z .pre .1 .1 .subs) (c .best-from .ensures), z .pre .1 .1 .few)
 
 mul-hints : tie.Need-mul-hints
 mul-hints c = search needs

@@ -34,13 +34,13 @@ none : 0 < 0 → ⊥
 none h = omega arith
 
 part-requires : tie.Need-part-requires Inv-loop μ-loop Inv-subs μ-subs
-part-requires c κs = let z = c .before .before .before in part-asks _ _ _ (z .pre .0) (z .args .hint) (z .args .hint) (z .pre .1)
+part-requires c κs = let z = c .before .before .before in part-asks _ _ _ (z .pre .0) (z .args .hint) (z .args .hint) (z .pre .1 .1)
 
 tile-distance-requires : tie.Need-tile-distance-requires Inv-loop μ-loop Inv-subs μ-subs
 tile-distance-requires c κs = let z = c .before .before .before .before in (z .pre .0 .tile .three, z .pre .0 .tile .high)
 
 subs-holds : tie.Need-subs-holds Inv-loop μ-loop Inv-subs μ-subs
-subs-holds c = let z = c .before .before .before .before .before in (omega arith, turn-start _ _ _ (z .pre .0) _ (z .pre .1) _ (c .before .part .ensures) _ (c .tile-distance .ensures))
+subs-holds c = let z = c .before .before .before .before .before in (omega arith, turn-start _ _ _ (z .pre .0) _ (z .pre .1 .1) _ (c .before .part .ensures) _ (c .tile-distance .ensures))
 
 add-i : tie.Need-add-i Inv-loop μ-loop Inv-subs μ-subs
 add-i c = omega arith
@@ -119,7 +119,7 @@ subs-again-3 c =
     let o = c .before .before .before .before .before in
     let v = c .before in
     turn-reached _ _ _ (z .pre .0) _ (omega (arith, z .fits .n)) _ (o .subs .i) (o .subs .inv .1) (omega (arith, c .before .before .before .before .subs-test)) _ (c .before .before .part2 .ensures) (v .loop .i) (v .loop .inv .0) _
-    (v .loop .inv .1 .1 .0 ∙ ap (totalOf _ _ _) (omega arith)) (v .loop .inv .1 .1 .1 (omega (arith, z .pre .0 .some)))
+    (v .loop .inv .1 .1 .0 ∙ ap (totalOf _ _ _) (omega arith)) (v .loop .inv .1 .1 .1 (omega (arith, z .pre .1 .0)))
 
 returns : tie.Need-returns Inv-loop μ-loop Inv-subs μ-subs
 returns c = let z = c .before .before .before .before .before .before .before in turn-end _ _ _ (z .pre .0) _ (omega (arith, z .fits .n)) (c .before .subs .i) _ (omega arith) (omega arith) (c .before .subs .inv .1)
