@@ -2,7 +2,7 @@
 -- Assumes nothing.
 use mathlib.Core.Path.{_≡_, refl, sym, ap, _∙_}
 use Prim.Native.Nat.{ℕ, _+_, _-_, _%_, _≤_}
-use native.Mathlib.Nat.{le-refl, mod-lt}
+use native.Mathlib.Nat.{le-refl, lt-of-lt-of-le, mod-lt}
 use native.Mathlib.Omega.{arith}
 use lib.ListN.{length}
 use borrow.Author.Needs.{needs}
@@ -37,10 +37,7 @@ rem-j : tie.Need-rem-j Inv-loop μ-loop
 rem-j c = omega arith
 
 swap-requires : tie.Need-swap-requires Inv-loop μ-loop
-swap-requires c κs =
-    let at-next = c .before .before in
-    let i = at-next .before .before .loop .i in
-    (omega arith, omega (arith, mod-lt (at-next .next .result .value) {m = i - 1 + 1} (omega arith)))
+swap-requires c κs = (omega arith, lt-of-lt-of-le (mod-lt (c .before .before .next .result .value) (omega arith)) (omega arith))
 
 loop-less : tie.Need-loop-less Inv-loop μ-loop
 loop-less c = omega arith

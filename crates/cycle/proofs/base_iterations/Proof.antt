@@ -1,0 +1,11 @@
+-- `cycle::base_iterations` meets its contract, by the law on the Rust's tenth. Assumes nothing.
+use mathlib.Core.Path.{sym}
+use Rattle.cycle.specs.Tenths.{tenth-is}
+use Rattle.cycle.proofs.base_iterations.Statement.{statement}
+use Rattle.cycle.proofs.base_iterations.Tie as tie
+
+returns : tie.Need-returns
+returns c = sym (tenth-is (c .args .n) (c .pre))
+
+pub base-iterations-spec : {M : Type 1} → statement M
+base-iterations-spec = tie.close (tie.spec returns)

@@ -1,0 +1,9 @@
+pub mod Cycle
+pub mod Follow
+pub mod Ready
+pub mod Rounds
+pub mod Even
+pub mod Shares
+pub mod Tenth
+pub mod Tenths
+pub mod Examples
