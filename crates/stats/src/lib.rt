@@ -17,18 +17,18 @@ pub struct Two {
     pub second: f32,
 }
 
-// b with one value more, d at index i.
-pub fn step_near(b: Near, i: usize, d: f32) -> Near
-    ensures { λ r. ⌜ r ≡ stepNear b i d ⌝ }
+// The smallest with one value more, d at index i.
+pub fn step_near(best: Near, i: usize, d: f32) -> Near
+    ensures { λ r. ⌜ r ≡ stepNear best i d ⌝ }
 {
-    if d < b.dist {
+    if d < best.dist {
         Near { index: i, dist: d }
     } else {
-        b
+        best
     }
 }
 
-// b with one value more, d at index i.
+// The smallest two, b, with one value more, d at index i.
 pub fn step_two(b: Two, i: usize, d: f32) -> Two
     ensures { λ r. ⌜ r ≡ stepTwo b i d ⌝ }
 {
