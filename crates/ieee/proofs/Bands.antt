@@ -1,11 +1,11 @@
 -- m * 2 ^ j of the smallest f64 as an f32, in the three bands of `rounded_bits`: so small that it is 0, with few digits, and normal or overflowing. Assumes nothing.
 use mathlib.Core.Path.{_≡_, refl, sym, ap, _∙_, subst}
-use Prim.Native.Nat.{ℕ, zero, suc, _+_, _-_, _*_, _/_, _%_, _^_, _≤_, _<_}
-use native.Mathlib.Nat.{le-refl, le-trans, le-of-eq, le-of-lt, lt-of-lt-of-le, lt-of-le-of-lt, mul-comm, mul-assoc, mul-left-comm, mul-right-comm, mul-one, mul-pos, mul-le-mul-right, mul-le-mul-left, mul-lt-mul-of-pos-right, mod-lt, mod-eq-of-lt, div-lt-iff-lt-mul, le-div-iff-mul-le}
+use Prim.Native.Nat.{ℕ, suc, _+_, _-_, _*_, _/_, _^_, _≤_, _<_}
+use native.Mathlib.Nat.{le-refl, le-trans, le-of-eq, le-of-lt, lt-of-lt-of-le, lt-of-le-of-lt, mul-assoc, mul-one, mul-pos, mul-le-mul-right, mul-lt-mul-of-pos-right, div-lt-iff-lt-mul, le-div-iff-mul-le}
 use native.Mathlib.Omega.{arith}
-use mathlib.Core.Bool.{true, false}
+use mathlib.Core.Bool.{false}
 use lib.Dec.{T, lit<, lit≤}
-use lib.Pow.{pow-add, pow-lt, pow-mono, pow-pos, shl-lt}
+use lib.Pow.{pow-add, pow-mono, pow-pos, shl-lt}
 use lib.Ieee.{Float, binary32, size, units, round, fits, ofBits}
 use lib.Ieee.Digits.{size-le}
 use lib.Ieee.Fits.{round-is, round-fits}

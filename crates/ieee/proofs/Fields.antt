@@ -4,11 +4,9 @@ use Prim.Native.Nat.{ℕ, zero, suc, _+_, _-_, _*_, _/_, _%_, _^_, _≤_, _<_}
 use native.Mathlib.Nat.{mod-eq-of-lt, add-comm}
 use native.Mathlib.Omega.{arith}
 use mathlib.Core.Bool.{Bool, true, false, not, cond}
-use lib.IntN.{ℤ}
 use lib.Dec.{T, leb, ltb, eqb, eqb→eq, nltb→le}
-use lib.Arith.{le→nltb}
 use lib.Pow.{pow-pos}
-use lib.Ieee.{Float, nan, inf, fin, Format, binary32, binary64, prec, low, hid, ones, top, up, down, odd, round, neg, toBits, ofBits, ofFields, fits, isNan, nanBits}
+use lib.Ieee.{Float, nan, inf, fin, Format, binary32, binary64, prec, low, hid, ones, top, up, down, odd, round, neg, toBits, ofBits, ofFields, fits, isNan}
 use lib.Ieee.Exact.{HasValue, odd-sign}
 use lib.Ieee.Fits.{down-pos}
 use lib.Ieee.Bits.{ofBits-toBits, toBits-lt, nanBits-above, nanBits-is}
@@ -137,16 +135,3 @@ module _ (x : Float) (fit : T (fits binary64 x)) where
       where
         whole : (b : ℕ) → 0x8000000000000000 ≤ b → b < 0x10000000000000000 → b % 0x8000000000000000 + 0x8000000000000000 ≡ b
         whole b l u = omega arith
-
--- ---- no NaN is made
-pub no-nan : (r : ℕ) → r ≤ 0x7f800000 → T (not (nanBits binary32 r))
-no-nan r h = subst (λ (z : Bool). T (not z)) (sym (nanBits-above binary32 r)) (le→nltb 0x7f800000 (r % 0x80000000) (low r h))
-  where
-    low : (r : ℕ) → r ≤ 0x7f800000 → r % 0x80000000 ≤ 0x7f800000
-    low r h = omega arith
-
-pub no-nan-set : (r : ℕ) → r ≤ 0x7f800000 → T (not (nanBits binary32 (r + 0x80000000)))
-no-nan-set r h = subst (λ (z : Bool). T (not z)) (sym (nanBits-above binary32 (r + 0x80000000))) (le→nltb 0x7f800000 ((r + 0x80000000) % 0x80000000) (low r h))
-  where
-    low : (r : ℕ) → r ≤ 0x7f800000 → (r + 0x80000000) % 0x80000000 ≤ 0x7f800000
-    low r h = omega arith

@@ -1,18 +1,16 @@
 -- `units binary32 false q k`, of which the bits are k * 2 ^ 23 + q, or an infinity's. Assumes nothing.
 use mathlib.Core.Path.{_≡_, refl, sym, ap, _∙_, subst}
-use mathlib.Core.Logic.{_⊎_, inl, inr}
-use Prim.Native.Nat.{ℕ, zero, suc, _+_, _-_, _*_, _/_, _%_, _^_, _≤_, _<_}
-use native.Mathlib.Nat.{le-refl, le-trans, le-of-eq, le-of-lt, lt-of-lt-of-le, lt-of-le-of-lt, mul-comm, mul-assoc, mul-one, div-one, mul-div-cancel, mul-le-mul-right, mul-lt-mul-of-pos-right, eq-or-lt-of-le, eq-zero-or-pos, pow-succ'}
+use mathlib.Core.Logic.{inl, inr}
+use Prim.Native.Nat.{ℕ, suc, _+_, _-_, _*_, _/_, _^_, _≤_, _<_}
+use native.Mathlib.Nat.{le-refl, le-trans, le-of-eq, lt-of-lt-of-le, lt-of-le-of-lt, mul-assoc, mul-one, mul-div-cancel, mul-le-mul-right, mul-lt-mul-of-pos-right, eq-or-lt-of-le, eq-zero-or-pos, pow-succ'}
 use native.Mathlib.Omega.{arith}
-use mathlib.Core.Bool.{Bool, true, false, cond}
-use lib.IntN.{ℤ, pos}
+use mathlib.Core.Bool.{false}
 use lib.Dec.{T, ltb, lit<, lit≤}
 use lib.Arith.{le→nltb}
 use lib.Pow.{pow-add, pow-lt, pow-mono, pow-pos, shl-lt}
-use lib.Ieee.{Float, nan, inf, fin, binary32, up, down, size, odd, units, fits, toBits, ofBits, ofFields}
+use lib.Ieee.{Float, inf, binary32, size, odd, units, fits, toBits, ofBits, ofFields}
 use lib.Ieee.Digits.{size-le}
 use lib.Ieee.Exact.{HasValue, units-val}
-use lib.Ieee.Fits.{down-pos}
 use lib.Ieee.Bits.{ofBits-toBits, cond-no}
 use Rattle.ieee.specs.Plus.{value-plus}
 use Rattle.ieee.specs.Keys.{pack, plus-bits, value-key}

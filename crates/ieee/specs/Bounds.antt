@@ -1,20 +1,19 @@
 -- Bounds from tests, bounds as tests, and closer bounds where signs are known. Assumes nothing.
 use mathlib.Core.Path.{_≡_, refl, sym, ap, _∙_, subst}
-use mathlib.Core.Logic.{_⊎_, inl, inr}
+use mathlib.Core.Logic.{inl, inr}
 use Prim.Native.Nat.{ℕ, zero, suc, _+_, _-_, _*_, _^_, _≤_, _<_, zero-le}
-use native.Mathlib.Nat.{le-refl, le-trans, le-of-eq, zero-mul, mul-zero, mul-one, one-mul, mul-pos, mul-comm, mul-assoc, mul-left-comm, mul-right-comm, mul-le-mul-right, sub-le, add-mul, suc-mul, eq-or-lt-of-le}
+use native.Mathlib.Nat.{le-trans, le-of-eq, zero-mul, mul-zero, mul-one, one-mul, mul-pos, mul-comm, mul-assoc, mul-right-comm, mul-le-mul-right, sub-le, add-mul, suc-mul}
 use native.Mathlib.Omega.{arith}
-use mathlib.Core.Bool.{Bool, true, false, not, _&&_, Bool·beq, cond}
-use lib.IntN.{ℤ, pos}
-use lib.Dec.{T, ltb, lit≤, lit<, le→leb}
-use lib.Ieee.{Float, nan, inf, fin, Format, prec, up, down, round, sum, add, sub, neg, mul, le, lt, isNan, unlike}
+use mathlib.Core.Bool.{true, false, not}
+use lib.Dec.{T, ltb, lit<}
+use lib.Ieee.{Float, nan, inf, fin, Format, prec, up, down, round, sum, add, sub, mul, le, lt, isNan}
 use lib.Ieee.Fits.{down-pos}
 use lib.Ieee.Positive.{through}
-use Rattle.ieee.specs.Order.{Sle, le-fin→, le-fin←}
+use Rattle.ieee.specs.Order.{le-fin→}
 use Rattle.ieee.specs.Total.{not-lt→le}
 use Rattle.ieee.specs.Plus.{plus, mul-plus}
 use Rattle.ieee.specs.NonNeg.{zeroF, Minus0, nonneg-split, plus→nonneg, null→nonneg}
-use Rattle.ieee.specs.Within.{Within, AtLeast, Exact, whole-exact, wider, cond-within, round-within, mul-within, add-whole}
+use Rattle.ieee.specs.Within.{Within, AtLeast, Exact, whole-exact, cond-within, round-within, mul-within, add-whole}
 
 pub within-real : (x : Float) (k d : ℕ) → Within x k d → T (not (isNan x))
 unfolding isNan

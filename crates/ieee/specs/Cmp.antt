@@ -1,26 +1,19 @@
 -- Rust's `total_cmp` on what is no `nan`: by the sign, then by the size; and by a number made of the bit pattern. Assumes nothing.
 use mathlib.Core.Path.{_≡_, refl, sym, ap, _∙_, subst}
 use mathlib.Core.Logic.{_⊎_, inl, inr}
-use Prim.Native.Nat.{ℕ, zero, suc, _+_, _-_, _*_, _≤_, _<_}
+use Prim.Native.Nat.{ℕ, suc, _+_, _-_, _*_, _≤_, _<_}
 use native.Mathlib.Nat.{le-of-lt, le-antisymm}
 use native.Mathlib.Omega.{arith}
-use mathlib.Core.Bool.{Bool, true, false, not, _&&_, _||_, cond}
+use mathlib.Core.Bool.{Bool, true, false, not, cond}
 use lib.Dec.{T, nleb→lt, leb, ltb, leb→le, le→leb, ltb→lt, nltb→le}
 use lib.Ieee.{Float, nan, inf, fin, Format, top, lt, le, fits, isNan, toBits, ofBits}
 use lib.Ieee.Bits.{ofBits-toBits, toBits-lt}
 use Rattle.ieee.specs.Order.{same-test, le-fin→, le-fin←}
 use Rattle.ieee.specs.Total.{decide, lt→not-le}
 use Rattle.ieee.specs.Keys.{sgn, abs, key, pack, bits-are, le-is-bits, size-small}
+pub use Rattle.ieee.specs.Terms.{tle, keyOf}
 
--- x is not after y in `total_cmp`'s order: -0 comes before +0
-abbrev pub tle : Float → Float → Bool
-tle x y = cond (sgn x) (cond (sgn y) (le (abs y) (abs x)) true) (cond (sgn y) false (le (abs x) (abs y)))
-
--- the bit pattern made a number that grows with the value
-abbrev pub keyOf : Format → ℕ → ℕ
-keyOf f b = cond (ltb b (top f)) (b + top f) (2 * top f - suc b)
-
--- ---- the key
+-- ---- the bits as a number: those with the sign set turned round, below those with it clear
 key-clear : (t b n : ℕ) → b ≡ 0 + n → n < t → cond (ltb b t) (b + t) (2 * t - suc b) ≡ t + n
 key-clear t b n e h = go (ltb b t) (nltb→le b t)
   where

@@ -1,12 +1,12 @@
 -- What gives a value that the format holds, no `nan`, with the sign clear (`Good`): squares, sums, products with a factor above 0, quotients rounded. Assumes nothing.
 use Prim.Native.Nat.{ℕ, zero, suc, _+_, _-_, _*_, _^_, _≤_, _<_}
-use mathlib.Core.Path.{_≡_, refl, sym, ap, subst, subst⁻¹, _∙_}
+use mathlib.Core.Path.{_≡_, subst, subst⁻¹}
 use mathlib.Core.Bool.{Bool, true, false, not, _&&_, cond, Bool·beq}
 use native.Mathlib.Omega.{arith}
-use lib.Dec.{T, ltb, eqb, ltb→lt, le→leb, lit≤}
-use lib.IntN.{ℤ, pos}
-use lib.Ieee.{Float, nan, inf, fin, Format, prec, emax, low, up, down, odd, units, round, neg, sum, add, sub, mul, fits, ofInt, inFloat, isNan}
-use lib.Ieee.Fits.{add-fits, mul-fits, inf-fits, round-fits, ofInt-fits, round-is}
+use lib.Dec.{T, ltb, eqb, ltb→lt, le→leb}
+use lib.IntN.{pos}
+use lib.Ieee.{Float, nan, inf, fin, Format, prec, emax, low, odd, units, round, neg, sum, add, sub, mul, ofInt, inFloat, isNan}
+use lib.Ieee.Fits.{add-fits, mul-fits, inf-fits, round-fits, round-is}
 use lib.Ieee.Scale.{finite}
 use lib.Ieee.Positive.{positive, positive-of-value}
 use lib.Ieee.Back.{round-whole}

@@ -1,5 +1,5 @@
 -- A sum of two values that are not negative is no smaller than the first, by keys: what lets a walk over a sum stop early. Assumes nothing.
-use Prim.Native.Nat.{ℕ, _≤_}
+use Prim.Native.Nat.{_≤_}
 use lib.Ieee.{Float, Format, add}
 use Rattle.ieee.specs.Plus.{le-add}
 use Rattle.ieee.specs.Keys.{key, Good, le→keys}

@@ -2,43 +2,27 @@
 -- The bit pattern is made of the sign and the key, so a value that fits is given by them. Where the sign is clear (`Good`) `lt`, `eq` and `le` are those of the keys, so that `omega` reads the order.
 -- Assumes nothing.
 use mathlib.Core.Path.{_≡_, refl, sym, ap, _∙_, subst}
-use mathlib.Core.Logic.{_⊎_, inl, inr}
-use Prim.Native.Nat.{ℕ, zero, suc, _+_, _-_, _*_, _/_, _^_, _≤_, _<_, zero-le}
+use mathlib.Core.Logic.{inl, inr}
+use Prim.Native.Nat.{ℕ, zero, suc, _+_, _-_, _*_, _/_, _%_, _^_, _≤_, _<_, zero-le}
 use native.Mathlib.Nat.{le-refl, le-trans, le-of-eq, lt-of-le-of-lt, le-antisymm, eq-or-lt-of-le, zero-add, add-assoc, mul-comm, mul-assoc, mul-right-comm, mul-le-mul-right, mul-suc, suc-mul, le-div-iff-mul-le, div-le-of-le-mul, mul-div-cancel}
 use native.Mathlib.Omega.{arith}
-use mathlib.Core.Bool.{Bool, true, false, not, _&&_, _||_, cond}
+use mathlib.Core.Bool.{Bool, true, false, not, cond}
 use lib.IntN.{ℤ}
 use lib.Dec.{T, leb, ltb, eqb, leb→le, le→leb, nleb→lt, ltb→lt, lt→ltb, eqb→eq, not-T}
+use lib.Arith.{le→nltb}
 use lib.Pow.{pow-add, pow-pos, shr-mono}
-use lib.Ieee.{Float, nan, inf, fin, Format, binary32, binary64, prec, emax, low, up, down, size, hid, ones, top, lt, eq, le, fits, isNan, toBits, ofBits}
+use lib.Ieee.{Float, nan, inf, fin, Format, binary32, binary64, prec, emax, low, up, down, size, hid, ones, top, lt, eq, le, fits, isNan, nanBits, toBits, ofBits}
 use lib.Ieee.Digits.{size-lt, size-le, size-reaches}
 use lib.Ieee.Exact.{HasValue}
 use lib.Ieee.Fits.{down-pos, kept-lt, two, two-le-pos, eq→eqb}
 use lib.Ieee.Nearest.{div-mono}
-use lib.Ieee.Bits.{ofBits-toBits}
+use lib.Ieee.Bits.{ofBits-toBits, nanBits-above, nanBits-is}
 use Rattle.ieee.specs.Order.{same-test, le-fin→}
 use Rattle.ieee.specs.Total.{total, refl-le, lt→le, lt-is, antisym, eq→le, eq→ge}
 use Rattle.ieee.specs.Self.{fits-under}
 use Rattle.ieee.specs.Plus.{plus, plus-real}
-
-abbrev pub sgn : Float → Bool
-sgn nan = false
-sgn (inf s) = s
-sgn (fin s m e) = s
-
-abbrev pub abs : Float → Float
-abs nan = nan
-abs (inf s) = inf false
-abs (fin s m e) = fin false m e
-
--- ---- the size in units of the smallest value, an infinity as the first size that overflows, and its bits
-unfoldable pub key : Format → Float → ℕ
-key f nan = 0
-key f (inf s) = 2 ^ (low f + suc (emax f))
-key f (fin s m e) = m * up e * 2 ^ low f / down e
-
-abbrev pub pack : Format → ℕ → ℕ
-pack f n = (size n - prec f) * hid f + n / 2 ^ (size n - prec f)
+pub use Rattle.ieee.specs.Terms.{sgn, abs, pack, Good}
+unfoldable pub use Rattle.ieee.specs.Terms.{key}
 
 pack-top : (f : Format) → pack f (2 ^ (low f + suc (emax f))) ≡ ones f * hid f
 unfolding size
@@ -179,11 +163,14 @@ pub size-small : (f : Format) (x : Float) → T (fits f x) → pack f (key f x) 
 unfolding key
 size-small f x h = lt-of-le-of-lt (pack-mono f (key f x) (2 ^ (low f + suc (emax f))) (key-top f x h)) (subst (λ (z : ℕ). z < top f) (sym (pack-top f)) (small (ones f) (hid f) (pow-pos (prec f - 1))))
 
--- ---- values that the format holds, no `nan`, with the sign clear
-pub record Good (f : Format) (x : Float) : Type 0 where
-  pub fit : T (fits f x)
-  pub pos : T (plus x)
+-- ---- bits of no `nan`: the size is an infinity's at most
+pub real-bits : (f : Format) (b : ℕ) → b % top f ≤ ones f * hid f → T (not (nanBits f b))
+real-bits f b h = subst (λ (z : Bool). T (not z)) (sym (nanBits-above f b)) (le→nltb (ones f * hid f) (b % top f) h)
 
+pub real-of-bits : (f : Format) (b : ℕ) → b % top f ≤ ones f * hid f → T (not (isNan (ofBits f b)))
+real-of-bits f b h = subst (λ (z : Bool). T (not z)) (nanBits-is f b) (real-bits f b h)
+
+-- ---- values that the format holds, no `nan`, with the sign clear
 plus-abs : (x : Float) → T (plus x) → abs x ≡ x
 plus-abs nan p = absurd p
 plus-abs (inf true) p = absurd p

@@ -1,20 +1,20 @@
 -- Rounding keeps the order at either sign, and so a sum and a difference of finite values grow with the first operand. Assumes nothing.
 use mathlib.Core.Path.{_≡_, refl, sym, ap, _∙_, subst}
-use Prim.Native.Nat.{ℕ, zero, suc, _+_, _-_, _*_, _^_, _≤_, _<_, zero-le}
-use native.Mathlib.Nat.{le-trans, le-of-eq, zero-mul, mul-pos, mul-comm, mul-assoc, mul-left-comm, mul-le-mul-right, add-mul, eq-zero-or-pos, lt-irrefl, mul-one}
+use Prim.Native.Nat.{ℕ, _+_, _-_, _*_, _≤_, _<_, zero-le}
+use native.Mathlib.Nat.{le-trans, le-of-eq, zero-mul, mul-pos, mul-comm, mul-assoc, mul-left-comm, mul-le-mul-right, add-mul, eq-zero-or-pos, lt-irrefl}
 use native.Mathlib.Omega.{arith}
 use mathlib.Core.Logic.{inl, inr}
-use mathlib.Core.Bool.{Bool, true, false, not, _&&_, _||_, Bool·beq, cond}
+use mathlib.Core.Bool.{Bool, true, false, not, _&&_, Bool·beq, cond}
 use lib.IntN.{ℤ, pos}
-use lib.Dec.{T, ltb, ltb→lt, nltb→le, lit≤, lit<}
-use lib.Ieee.{Float, nan, inf, fin, Format, up, down, round, sum, add, sub, neg, le, isNan}
+use lib.Dec.{T, ltb, ltb→lt, nltb→le}
+use lib.Ieee.{Float, nan, inf, fin, Format, up, down, round, sum, add, neg, le}
 use lib.Ieee.Fits.{down-pos}
 use lib.Ieee.Order.{round-mono}
 use lib.Ieee.Scale.{finite}
-use Rattle.ieee.specs.Order.{Sle, sle→, sle←, le-fin→, le-fin←, trans}
-use Rattle.ieee.specs.Plus.{plus, round-plus}
+use Rattle.ieee.specs.Order.{Sle, le-fin→, le-fin←, trans}
+use Rattle.ieee.specs.Plus.{round-plus}
 use Rattle.ieee.specs.NonNeg.{zeroF, plus→nonneg, null→nonneg}
-use Rattle.ieee.specs.Within.{Within, whole-exact, round-within}
+use Rattle.ieee.specs.Within.{whole-exact, round-within}
 use Rattle.ieee.specs.Rings.{round-neg}
 
 -- ---- the order turned round
@@ -60,43 +60,43 @@ round-mono± f false a b true c d B D h =
     (subst (λ (z : Float). T (le z (neg zeroF))) (sym (round-neg f true a b)) (neg-anti zeroF (round f true a b) (null f true a b B (none a d D (h .0)))))
     (unfold neg in trans (fin true 0 (pos 0)) zeroF (round f true c d) (le-fin← true 0 (pos 0) false 0 (pos 0) tt) (null f true c d D (none c b B (h .1))))
 
--- ---- a signed number is P - N
-abbrev P : Bool → ℕ → ℕ
-P true a = 0
-P false a = a
+-- ---- a signed number is its part above 0 less its part below 0
+abbrev above : Bool → ℕ → ℕ
+above true a = 0
+above false a = a
 
-abbrev N : Bool → ℕ → ℕ
-N true a = a
-N false a = 0
+abbrev beneath : Bool → ℕ → ℕ
+beneath true a = a
+beneath false a = 0
 
-sle→pn : (s : Bool) (a : ℕ) (t : Bool) (b : ℕ) → Sle s a t b → P s a + N t b ≤ P t b + N s a
-sle→pn false a false b h = omega arith
-sle→pn false a true b h = omega arith
-sle→pn true a false b h = omega arith
-sle→pn true a true b h = omega arith
+sle→parts : (s : Bool) (a : ℕ) (t : Bool) (b : ℕ) → Sle s a t b → above s a + beneath t b ≤ above t b + beneath s a
+sle→parts false a false b h = omega arith
+sle→parts false a true b h = omega arith
+sle→parts true a false b h = omega arith
+sle→parts true a true b h = omega arith
 
-pn→sle : (s : Bool) (a : ℕ) (t : Bool) (b : ℕ) → P s a + N t b ≤ P t b + N s a → Sle s a t b
-pn→sle false a false b h = omega arith
-pn→sle false a true b h = omega arith
-pn→sle true a false b h = tt
-pn→sle true a true b h = omega arith
+parts→sle : (s : Bool) (a : ℕ) (t : Bool) (b : ℕ) → above s a + beneath t b ≤ above t b + beneath s a → Sle s a t b
+parts→sle false a false b h = omega arith
+parts→sle false a true b h = omega arith
+parts→sle true a false b h = tt
+parts→sle true a true b h = omega arith
 
-pm : (s : Bool) (a k : ℕ) → P s a * k ≡ P s (a * k)
-pm true a k = zero-mul k
-pm false a k = refl
+above-mul : (s : Bool) (a k : ℕ) → above s a * k ≡ above s (a * k)
+above-mul true a k = zero-mul k
+above-mul false a k = refl
 
-nm : (s : Bool) (a k : ℕ) → N s a * k ≡ N s (a * k)
-nm true a k = refl
-nm false a k = zero-mul k
+beneath-mul : (s : Bool) (a k : ℕ) → beneath s a * k ≡ beneath s (a * k)
+beneath-mul true a k = refl
+beneath-mul false a k = zero-mul k
 
 -- ---- the sum of two signed numbers: its sign and its size
-abbrev sg : Bool → ℕ → Bool → ℕ → Bool
-sg s a t b = cond (Bool·beq s t) s (cond (ltb a b) t (s && ltb b a))
+abbrev sumSign : Bool → ℕ → Bool → ℕ → Bool
+sumSign s a t b = cond (Bool·beq s t) s (cond (ltb a b) t (s && ltb b a))
 
-abbrev mg : Bool → ℕ → Bool → ℕ → ℕ
-mg s a t b = cond (Bool·beq s t) (a + b) (cond (ltb a b) (b - a) (a - b))
+abbrev sumSize : Bool → ℕ → Bool → ℕ → ℕ
+sumSize s a t b = cond (Bool·beq s t) (a + b) (cond (ltb a b) (b - a) (a - b))
 
-sum-is : (f : Format) (s : Bool) (a : ℕ) (t : Bool) (b c : ℕ) → sum f s a t b c ≡ round f (sg s a t b) (mg s a t b) c
+sum-is : (f : Format) (s : Bool) (a : ℕ) (t : Bool) (b c : ℕ) → sum f s a t b c ≡ round f (sumSign s a t b) (sumSize s a t b) c
 unfolding sum
 sum-is f s a t b c = go (Bool·beq s t) (ltb a b)
   where
@@ -105,56 +105,56 @@ sum-is f s a t b c = go (Bool·beq s t) (ltb a b)
     go false true = refl
     go false false = refl
 
-sum-pn : (s : Bool) (a : ℕ) (t : Bool) (b : ℕ) → P (sg s a t b) (mg s a t b) + N s a + N t b ≡ N (sg s a t b) (mg s a t b) + P s a + P t b
-sum-pn true a true b = omega arith
-sum-pn false a false b = omega arith
-sum-pn true a false b = go (ltb a b) (ltb b a) (ltb→lt a b) (ltb→lt b a) (nltb→le a b) (nltb→le b a)
+sum-parts : (s : Bool) (a : ℕ) (t : Bool) (b : ℕ) → above (sumSign s a t b) (sumSize s a t b) + beneath s a + beneath t b ≡ beneath (sumSign s a t b) (sumSize s a t b) + above s a + above t b
+sum-parts true a true b = omega arith
+sum-parts false a false b = omega arith
+sum-parts true a false b = go (ltb a b) (ltb b a) (ltb→lt a b) (ltb→lt b a) (nltb→le a b) (nltb→le b a)
   where
     go : (u v : Bool) → (T u → a < b) → (T v → b < a) → (T (not u) → b ≤ a) → (T (not v) → a ≤ b)
-        → P (cond u false (true && v)) (cond u (b - a) (a - b)) + a + 0 ≡ N (cond u false (true && v)) (cond u (b - a) (a - b)) + 0 + b
+        → above (cond u false (true && v)) (cond u (b - a) (a - b)) + a + 0 ≡ beneath (cond u false (true && v)) (cond u (b - a) (a - b)) + 0 + b
     go true v p q r w = let h : a < b = p tt in omega arith
     go false true p q r w = let h : b < a = q tt in omega arith
     go false false p q r w = let h : b ≤ a = r tt in let g : a ≤ b = w tt in omega arith
-sum-pn false a true b = go (ltb a b) (ltb→lt a b) (nltb→le a b)
+sum-parts false a true b = go (ltb a b) (ltb→lt a b) (nltb→le a b)
   where
-    go : (u : Bool) → (T u → a < b) → (T (not u) → b ≤ a) → P (cond u true false) (cond u (b - a) (a - b)) + 0 + b ≡ N (cond u true false) (cond u (b - a) (a - b)) + a + 0
+    go : (u : Bool) → (T u → a < b) → (T (not u) → b ≤ a) → above (cond u true false) (cond u (b - a) (a - b)) + 0 + b ≡ beneath (cond u true false) (cond u (b - a) (a - b)) + a + 0
     go true p r = let h : a < b = p tt in omega arith
     go false p r = let h : b ≤ a = r tt in omega arith
 
-scaled : (s t u : Bool) (a b n k : ℕ) → P u n + N s a + N t b ≡ N u n + P s a + P t b → P u (n * k) + N s (a * k) + N t (b * k) ≡ N u (n * k) + P s (a * k) + P t (b * k)
+scaled : (s t u : Bool) (a b n k : ℕ) → above u n + beneath s a + beneath t b ≡ beneath u n + above s a + above t b → above u (n * k) + beneath s (a * k) + beneath t (b * k) ≡ beneath u (n * k) + above s (a * k) + above t (b * k)
 scaled s t u a b n k e =
-    let l : (P u n + N s a + N t b) * k ≡ P u (n * k) + N s (a * k) + N t (b * k) = simp (add-mul, pm, nm) in
-    let r : (N u n + P s a + P t b) * k ≡ N u (n * k) + P s (a * k) + P t (b * k) = simp (add-mul, pm, nm) in
+    let l : (above u n + beneath s a + beneath t b) * k ≡ above u (n * k) + beneath s (a * k) + beneath t (b * k) = simp (add-mul, above-mul, beneath-mul) in
+    let r : (beneath u n + above s a + above t b) * k ≡ beneath u (n * k) + above s (a * k) + above t (b * k) = simp (add-mul, above-mul, beneath-mul) in
     sym l ∙ ap (λ (z : ℕ). z * k) e ∙ r
 
-scaled-le : (s t : Bool) (a b k : ℕ) → P s a + N t b ≤ P t b + N s a → P s (a * k) + N t (b * k) ≤ P t (b * k) + N s (a * k)
+scaled-le : (s t : Bool) (a b k : ℕ) → above s a + beneath t b ≤ above t b + beneath s a → above s (a * k) + beneath t (b * k) ≤ above t (b * k) + beneath s (a * k)
 scaled-le s t a b k h =
-    let l : (P s a + N t b) * k ≡ P s (a * k) + N t (b * k) = simp (add-mul, pm, nm) in
-    let r : (P t b + N s a) * k ≡ P t (b * k) + N s (a * k) = simp (add-mul, pm, nm) in
+    let l : (above s a + beneath t b) * k ≡ above s (a * k) + beneath t (b * k) = simp (add-mul, above-mul, beneath-mul) in
+    let r : (above t b + beneath s a) * k ≡ above t (b * k) + beneath s (a * k) = simp (add-mul, above-mul, beneath-mul) in
     le-trans (le-of-eq (sym l)) (le-trans (mul-le-mul-right k h) (le-of-eq r))
 
 cancel : (p n q m a b c d e g : ℕ) → p + a + e ≡ n + b + g → q + c + e ≡ m + d + g → b + c ≤ d + a → p + m ≤ q + n
 cancel p n q m a b c d e g h k l = omega arith
 
 sums : (s t r : Bool) (X Z Y p o q : ℕ) → Sle s (X * o) t (Z * p)
-    → Sle (sg s (X * q) r (Y * p)) (mg s (X * q) r (Y * p) * (o * q)) (sg t (Z * q) r (Y * o)) (mg t (Z * q) r (Y * o) * (p * q))
+    → Sle (sumSign s (X * q) r (Y * p)) (sumSize s (X * q) r (Y * p) * (o * q)) (sumSign t (Z * q) r (Y * o)) (sumSize t (Z * q) r (Y * o) * (p * q))
 sums s t r X Z Y p o q h =
-    let u = sg s (X * q) r (Y * p) in
-    let n = mg s (X * q) r (Y * p) in
-    let v = sg t (Z * q) r (Y * o) in
-    let k = mg t (Z * q) r (Y * o) in
-    let first = scaled s r u (X * q) (Y * p) n (o * q) (sum-pn s (X * q) r (Y * p)) in
-    let second = scaled t r v (Z * q) (Y * o) k (p * q) (sum-pn t (Z * q) r (Y * o)) in
+    let u = sumSign s (X * q) r (Y * p) in
+    let n = sumSize s (X * q) r (Y * p) in
+    let v = sumSign t (Z * q) r (Y * o) in
+    let k = sumSize t (Z * q) r (Y * o) in
+    let first = scaled s r u (X * q) (Y * p) n (o * q) (sum-parts s (X * q) r (Y * p)) in
+    let second = scaled t r v (Z * q) (Y * o) k (p * q) (sum-parts t (Z * q) r (Y * o)) in
     let left : X * q * (o * q) ≡ X * o * (q * q) = simp (mul-assoc, mul-comm, mul-left-comm) in
     let right : Z * q * (p * q) ≡ Z * p * (q * q) = simp (mul-assoc, mul-comm, mul-left-comm) in
     let b : Y * p * (o * q) ≡ Y * o * (p * q) = simp (mul-assoc, mul-comm, mul-left-comm) in
-    let l = scaled-le s t (X * o) (Z * p) (q * q) (sle→pn s (X * o) t (Z * p) h) in
-    pn→sle u (n * (o * q)) v (k * (p * q))
-    (cancel (P u (n * (o * q))) (N u (n * (o * q))) (P v (k * (p * q))) (N v (k * (p * q)))
-    (N s (X * o * (q * q))) (P s (X * o * (q * q))) (N t (Z * p * (q * q))) (P t (Z * p * (q * q))) (N r (Y * o * (p * q))) (P r (Y * o * (p * q)))
+    let l = scaled-le s t (X * o) (Z * p) (q * q) (sle→parts s (X * o) t (Z * p) h) in
+    parts→sle u (n * (o * q)) v (k * (p * q))
+    (cancel (above u (n * (o * q))) (beneath u (n * (o * q))) (above v (k * (p * q))) (beneath v (k * (p * q)))
+    (beneath s (X * o * (q * q))) (above s (X * o * (q * q))) (beneath t (Z * p * (q * q))) (above t (Z * p * (q * q))) (beneath r (Y * o * (p * q))) (above r (Y * o * (p * q)))
     (rw (left, b) at first) (rw right at second) l)
 
-add-fin : (f : Format) (s : Bool) (m : ℕ) (e : ℤ) (t : Bool) (n : ℕ) (d : ℤ) → add f (fin s m e) (fin t n d) ≡ round f (sg s (m * up e * down d) t (n * up d * down e)) (mg s (m * up e * down d) t (n * up d * down e)) (down e * down d)
+add-fin : (f : Format) (s : Bool) (m : ℕ) (e : ℤ) (t : Bool) (n : ℕ) (d : ℤ) → add f (fin s m e) (fin t n d) ≡ round f (sumSign s (m * up e * down d) t (n * up d * down e)) (sumSize s (m * up e * down d) t (n * up d * down e)) (down e * down d)
 unfolding add
 add-fin f s m e t n d = sum-is f s (m * up e * down d) t (n * up d * down e) (down e * down d)
 
@@ -167,7 +167,7 @@ add-mono f (fin s m e) (fin w k c) nan p q r h = absurd r
 add-mono f (fin s m e) (fin w k c) (inf t) p q r h = absurd r
 add-mono f (fin s m e) (fin w k c) (fin t n d) p q r h =
     rw (add-fin f s m e t n d, add-fin f w k c t n d)
-    (round-mono± f (sg s (m * up e * down d) t (n * up d * down e)) (mg s (m * up e * down d) t (n * up d * down e)) (down e * down d)
-    (sg w (k * up c * down d) t (n * up d * down c)) (mg w (k * up c * down d) t (n * up d * down c)) (down c * down d)
+    (round-mono± f (sumSign s (m * up e * down d) t (n * up d * down e)) (sumSize s (m * up e * down d) t (n * up d * down e)) (down e * down d)
+    (sumSign w (k * up c * down d) t (n * up d * down c)) (sumSize w (k * up c * down d) t (n * up d * down c)) (down c * down d)
     (mul-pos (down-pos e) (down-pos d)) (mul-pos (down-pos c) (down-pos d))
     (sums s w t (m * up e) (k * up c) (n * up d) (down e) (down c) (down d) (le-fin→ s m e w k c h)))

@@ -1,7 +1,7 @@
 -- The IEEE conversion of an f64 to an f32, ties to even: the Rust's `as f32`. Definitions only. Assumes nothing.
 use Prim.Native.Nat.{ℕ, _*_, _^_, _≤_}
 use mathlib.Core.Path.{_≡_}
-use mathlib.Core.Bool.{Bool, true, false, not}
+use mathlib.Core.Bool.{false}
 use lib.Ieee.{Float, nan, inf, fin, binary32, binary64, up, down, round, ofBits}
 
 unfoldable pub narrowOf : Float → Float

@@ -1,13 +1,13 @@
 -- What the conversion to f32 keeps: a bound that f32 holds, a clear sign, the order, and every value that is an f32 already. Assumes nothing.
 use Prim.Native.Nat.{ℕ, _*_}
 use mathlib.Core.Path.{_≡_, refl}
-use mathlib.Core.Bool.{Bool, true, false, not}
+use mathlib.Core.Bool.{true, false, not}
 use lib.Dec.{T}
 use lib.Ieee.{Float, nan, inf, fin, binary32, up, down, round, le, fits, isNan}
 use lib.Ieee.Fits.{down-pos, nan-fits, inf-fits, round-fits}
 use Rattle.ieee.specs.Order.{lowest, highest, le-fin→}
 use Rattle.ieee.specs.Self.{round-self}
-use Rattle.ieee.specs.Plus.{plus, round-plus}
+use Rattle.ieee.specs.Plus.{plus}
 use Rattle.ieee.specs.Within.{Within, Exact, round-within}
 use Rattle.ieee.specs.Mono.{round-mono±}
 use Rattle.ieee.specs.Keys.{Good}

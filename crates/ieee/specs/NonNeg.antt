@@ -1,22 +1,20 @@
 -- Values that are not below zero, -0 among them: `T (le zero x)`, which is what a test `x < 0.0` that fails leaves of an x that is no `nan`. Sums keep it, and no sum is below what it adds to. Assumes nothing.
 use mathlib.Core.Path.{_≡_, refl, sym, ap, _∙_, subst}
 use mathlib.Core.Logic.{_⊎_, inl, inr}
-use Prim.Native.Nat.{ℕ, zero, suc, _+_, _-_, _*_, _^_, _≤_, _<_, zero-le}
-use native.Mathlib.Nat.{le-refl, le-trans, le-of-eq, not-le-of-lt, zero-mul, mul-one, mul-pos, mul-assoc, mul-comm, mul-left-comm, mul-right-comm, mul-le-mul-right}
+use Prim.Native.Nat.{ℕ, _+_, _-_, _*_, _≤_, _<_, zero-le}
+use native.Mathlib.Nat.{le-refl, le-of-eq, not-le-of-lt, zero-mul, mul-one, mul-pos, mul-assoc, mul-comm, mul-left-comm}
 use native.Mathlib.Omega.{arith}
-use mathlib.Core.Bool.{Bool, true, false, not, _&&_, _||_, cond}
+use mathlib.Core.Bool.{Bool, true, false, _&&_, cond}
 use lib.IntN.{ℤ, pos}
-use lib.Dec.{T, ltb, ltb→lt, lit≤, lit<}
-use lib.Ieee.{Float, nan, inf, fin, Format, prec, up, down, round, sum, add, le, fits}
+use lib.Dec.{T, ltb, ltb→lt}
+use lib.Ieee.{Float, nan, inf, fin, Format, up, down, round, sum, add, le, fits}
 use lib.Ieee.Fits.{down-pos}
 use lib.Ieee.Order.{le-of-values, round-mono}
 use Rattle.ieee.specs.Order.{trans, le-fin→, le-fin←}
 use Rattle.ieee.specs.Self.{self}
 use Rattle.ieee.specs.Plus.{plus, round-plus, add-plus, le-add}
 use Rattle.ieee.specs.Within.{Within, whole-exact, round-within}
-
-abbrev pub zeroF : Float
-zeroF = fin false 0 (pos 0)
+pub use Rattle.ieee.specs.Terms.{zeroF, Minus0}
 
 nought : (n p : ℕ) → n ≡ 0 → n * p ≡ 0
 nought n p e = ap (λ (z : ℕ). z * p) e ∙ zero-mul p
@@ -37,12 +35,6 @@ null→nonneg (fin true m e) h = le-fin← false 0 (pos 0) true m e (zero-mul (d
   where
     none : (a d : ℕ) → a ≤ 0 * d → a ≡ 0
     none a d k = omega arith
-
--- -0, in any form
-abbrev pub Minus0 : Float → Type 0
-Minus0 nan = ⊥
-Minus0 (inf s) = ⊥
-Minus0 (fin s m e) = (s ≡ true) × (m * up e ≡ 0)
 
 pub nonneg-split : (x : Float) → T (le zeroF x) → T (plus x) ⊎ Minus0 x
 nonneg-split nan h = absurd (unfold le in h)
@@ -106,7 +98,7 @@ add-nonneg f (fin s m e) (inf true) h k = absurd (unfold le in k)
 add-nonneg f (fin s m e) (inf false) h k = unfold add le in tt
 add-nonneg f (fin s m e) (fin t n d) h k = add-nonneg-fin f s m e t n d h k
 
--- ---- L1 with -0 allowed
+-- ---- a sum is no smaller than what it adds to, with -0 allowed
 keep : (a b p q : ℕ) → b ≡ 0 → a * (p * q) ≤ (a * q - b) * p
 keep a b p q z = subst (λ (x : ℕ). a * (p * q) ≤ x * p) (same (a * q) b z) (le-of-eq (simp (mul-assoc, mul-comm, mul-left-comm)))
   where

@@ -1,22 +1,17 @@
 -- The values whose sign is clear and that are no `nan`: what `add`, `mul` and a square keep; and a rounded sum of two of them is no smaller than either. Assumes nothing.
-use mathlib.Core.Path.{_≡_, refl, sym, ap, _∙_, subst}
-use Prim.Native.Nat.{ℕ, zero, suc, _+_, _-_, _*_, _^_, _≤_, _<_, compare, _/_, _%_}
-use native.Mathlib.Nat.{le-trans, le-of-eq, mul-pos, mul-assoc, mul-comm, mul-left-comm, mul-right-comm, mul-le-mul-right, le-add-right, add-comm}
-use native.Mathlib.Omega.{arith}
-use mathlib.Core.Bool.{Bool, true, false, not, _&&_, _||_, Bool·beq, cond, true≢false}
+use mathlib.Core.Path.{_≡_, refl}
+use Prim.Native.Nat.{ℕ, suc, _+_, _-_, _*_, _^_, _≤_}
+use native.Mathlib.Nat.{le-trans, le-of-eq, mul-pos, mul-assoc, mul-comm, mul-left-comm, mul-le-mul-right, le-add-right}
+use mathlib.Core.Bool.{Bool, true, false, not, cond, true≢false}
 use lib.IntN.{ℤ}
 use lib.Dec.{T, ltb}
-use lib.Ieee.{Float, nan, inf, fin, Format, prec, emax, low, up, down, size, odd, units, nearest, round, sum, add, mul, le, fits, isNan, unlike}
+use lib.Ieee.{Float, nan, inf, fin, Format, prec, emax, low, up, down, odd, units, round, sum, add, mul, le, fits, isNan}
 use lib.Ieee.Fits.{down-pos, round-is}
 use lib.Ieee.Exact.{HasValue, odd-sign}
 use lib.Ieee.Order.{le-of-values, round-mono}
 use Rattle.ieee.specs.Order.{trans}
 use Rattle.ieee.specs.Self.{self}
-
-abbrev pub plus : Float → Bool
-plus nan = false
-plus (inf s) = not s
-plus (fin s m e) = not s
+pub use Rattle.ieee.specs.Terms.{plus}
 
 pub value-plus : (x : Float) (a c : ℕ) → HasValue x false a c → T (plus x)
 value-plus nan a c v = absurd v
@@ -35,7 +30,7 @@ units-plus f q k = go (ltb (q * 2 ^ k) (2 ^ (low f + suc (emax f))))
 pub round-plus : (f : Format) (a c : ℕ) → T (plus (round f false a c))
 round-plus f a c = rw round-is (units-plus f _ _)
 
--- ---- L2: what keeps the sign clear
+-- ---- what keeps the sign clear
 pub add-plus : (f : Format) (x y : Float) → T (plus x) → T (plus y) → T (plus (add f x y))
 unfolding add sum
 add-plus f nan y p q = absurd p
@@ -62,7 +57,7 @@ square-plus f (inf true) h = unfold mul in tt
 square-plus f (inf false) h = unfold mul in tt
 square-plus f (fin s m e) h = mul-plus f m e m e s
 
--- ---- L1: a sum is no smaller than what it adds to
+-- ---- a sum is no smaller than what it adds to
 more : (a b p q : ℕ) → a * (p * q) ≤ (a * q + b * p) * p
 more a b p q = le-trans (le-of-eq (simp (mul-assoc, mul-comm, mul-left-comm))) (mul-le-mul-right p (le-add-right (a * q) (b * p)))
 

@@ -1,30 +1,17 @@
 -- Values with their indexes, in order: first by value and then by index, as one number, since an index is below 2 ^ 64; and the test that stops a sum, by keys.
 -- Values are `Good`, so no `nan` and none negative. Assumes nothing.
-use Prim.Native.Nat.{ℕ, _+_, _*_, _≤_, _<_}
-use mathlib.Core.Path.{_≡_, refl, sym, ap, _∙_}
-use mathlib.Core.Bool.{Bool, true, false, _&&_, _||_}
+use Prim.Native.Nat.{ℕ, _≤_, _<_}
+use mathlib.Core.Path.{_≡_, sym, ap, _∙_}
+use mathlib.Core.Bool.{Bool, true, false, _&&_}
 use mathlib.Core.Logic.{inl, inr}
 use native.Mathlib.Nat.{eq-or-lt-of-le}
 use native.Mathlib.Omega.{arith}
-use lib.Dec.{ltb, eqb}
-use lib.Ieee.{Float, Format, binary32, lt, eq}
+use lib.Dec.{ltb}
+use lib.Ieee.{Float, Format, lt, eq}
 use borrow.Author.Tests.{lt-ltb, le-ltb, eq-eqb, ne-eqb, ltb-true, ltb-false, eqb-true, eqb-false}
 use Rattle.lists.specs.Tests.{and-l, and-r, and-i, and-no-l, and-no-r, and-case, or-l, or-r, or-case, or-none, or-no}
 use Rattle.ieee.specs.Keys.{key, Good, lt-key, eq-key}
-
-abbrev pub key32 : Float → ℕ
-key32 x = key binary32 x
-
--- x at index j, as one number
-abbrev pub rankOf : Format → Float → ℕ → ℕ
-rankOf f x j = key f x * 18446744073709551616 + j
-
-abbrev pub rank : Float → ℕ → ℕ
-rank x j = rankOf binary32 x j
-
--- d is over the limit, or equals it where a tie loses
-abbrev pub over : Float → Float → Bool → Bool
-over d limit lose = lt limit d || (eq d limit && lose)
+pub use Rattle.ieee.specs.Terms.{key32, rankOf, rank, over}
 
 -- ---- the answers of tests, as facts of keys
 module _ {f : Format} (x y : Float) (g : Good f x) (h : Good f y) where

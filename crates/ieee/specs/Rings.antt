@@ -1,15 +1,16 @@
 -- What of a ring's laws rounding leaves: sums and products commute, a square has no sign, x - y and y - x have one square, and 0 and 1 are neutral. Assumes nothing.
-use mathlib.Core.Path.{_≡_, refl, sym, ap, _∙_, subst}
+use mathlib.Core.Path.{_≡_, refl, sym, ap, _∙_}
 use Prim.Native.Nat.{ℕ, zero, suc, _+_, _-_, _*_, _^_, _≤_, _<_}
-use native.Mathlib.Nat.{add-comm, mul-comm, mul-one, one-mul, zero-mul, add-zero}
+use native.Mathlib.Nat.{add-comm, mul-comm, mul-one, zero-mul, add-zero}
 use native.Mathlib.Omega.{arith}
-use mathlib.Core.Bool.{Bool, true, false, not, _&&_, _||_, Bool·beq, cond}
+use mathlib.Core.Bool.{Bool, true, false, not, _&&_, Bool·beq, cond}
 use lib.IntN.{ℤ, pos}
 use lib.Dec.{T, ltb, eqb, ltb→lt, nltb→le}
-use lib.Ieee.{Float, nan, inf, fin, Format, prec, emax, low, odd, units, up, down, round, sum, add, sub, neg, mul, fits, unlike, isNan}
-use lib.Ieee.Fits.{down-pos, round-is}
+use lib.Ieee.{Float, nan, inf, fin, Format, prec, emax, low, odd, units, up, down, round, sum, add, sub, neg, mul, fits, unlike}
+use lib.Ieee.Fits.{round-is}
 use Rattle.ieee.specs.Self.{round-self}
 use Rattle.ieee.specs.Plus.{add-clear}
+pub use Rattle.ieee.specs.Terms.{sq}
 
 beq-comm : (s t : Bool) → Bool·beq s t ≡ Bool·beq t s
 beq-comm true true = refl
@@ -111,9 +112,6 @@ units-neg f s q k = go (ltb (q * 2 ^ k) (2 ^ (low f + suc (emax f))))
 
 pub round-neg : (f : Format) (s : Bool) (a c : ℕ) → round f (not s) a c ≡ neg (round f s a c)
 round-neg f s a c = round-is f (not s) a c ∙ units-neg f s _ _ ∙ ap neg (sym (round-is f s a c))
-
-abbrev pub sq : Format → Float → Float
-sq f x = mul f x x
 
 sq-round : (f : Format) (s t : Bool) (a c : ℕ) → sq f (round f s a c) ≡ sq f (round f t a c)
 sq-round f true true a c = refl

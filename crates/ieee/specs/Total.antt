@@ -1,13 +1,11 @@
 -- `le` is a total order on what is no `nan`, and `lt` is its strict part. Assumes nothing.
-use mathlib.Core.Path.{_≡_, refl, sym, ap, _∙_, subst}
+use mathlib.Core.Path.{_≡_, refl, sym, _∙_, subst}
 use mathlib.Core.Logic.{_⊎_, inl, inr}
-use Prim.Native.Nat.{ℕ, zero, suc, _+_, _*_, _≤_, _<_}
-use native.Mathlib.Nat.{le-refl, le-trans, le-of-eq, le-of-lt, lt-irrefl, lt-of-not-le, le-of-suc-le-suc, le-antisymm, eq-or-lt-of-le, eq-zero-or-pos}
-use native.Mathlib.Decide.{decLe}
+use Prim.Native.Nat.{ℕ, _+_, _*_, _≤_, _<_}
+use native.Mathlib.Nat.{le-of-eq, eq-zero-or-pos}
 use native.Mathlib.Omega.{arith}
-use mathlib.Core.Bool.{Bool, true, false, not, _&&_, _||_, Bool·beq}
-use lib.IntN.{ℤ}
-use lib.Dec.{T, leb, ltb, eqb, ltb→lt, lt→ltb, leb→le, nleb→lt, eqb→eq, T-not, not-T}
+use mathlib.Core.Bool.{Bool, true, false, not, _||_, Bool·beq}
+use lib.Dec.{T, leb, eqb, ltb→lt, lt→ltb, leb→le, nleb→lt, eqb→eq, T-not, not-T}
 use lib.Ieee.{Float, nan, inf, fin, up, down, below, level, lt, eq, le, isNan}
 use lib.Ieee.Fits.{and-l, and-r}
 use Rattle.ieee.specs.Order.{or-l, or-r, or-split, same-test, Sle, sle, sle→, sle←, trans, le→right, le-fin←}

@@ -1,15 +1,15 @@
 -- `Within x k d`: x is finite, and its size is at most k / d. What an operation on such values keeps, by monotone rounding: a bound that the format holds (`Exact`) on the true result is a bound on the rounded one.
 -- Assumes nothing.
-use mathlib.Core.Path.{_≡_, refl, sym, ap, _∙_, subst}
-use Prim.Native.Nat.{ℕ, zero, suc, _+_, _-_, _*_, _^_, _≤_, _<_}
-use native.Mathlib.Nat.{le-refl, le-trans, le-of-eq, le-of-lt, lt-of-lt-of-le, lt-irrefl, mul-one, one-mul, zero-mul, mul-pos, mul-assoc, mul-comm, mul-left-comm, mul-right-comm, mul-le-mul, mul-le-mul-left, mul-le-mul-right, le-of-mul-le-mul-right, mul-mul-mul-comm, add-mul, add-le-add, le-add-right, le-add-left, sub-le, pow-suc}
+use mathlib.Core.Path.{_≡_, sym, subst}
+use Prim.Native.Nat.{ℕ, _+_, _-_, _*_, _^_, _≤_, _<_}
+use native.Mathlib.Nat.{le-trans, le-of-eq, lt-of-lt-of-le, lt-irrefl, mul-one, one-mul, mul-pos, mul-assoc, mul-comm, mul-left-comm, mul-right-comm, mul-le-mul, mul-le-mul-right, le-of-mul-le-mul-right, mul-mul-mul-comm, add-mul, add-le-add, le-add-right, le-add-left, sub-le}
 use native.Mathlib.Omega.{arith}
-use mathlib.Core.Bool.{Bool, true, false, not, _&&_, _||_, Bool·beq, cond, true≢false}
-use lib.IntN.{ℤ, pos, negsuc}
-use lib.Dec.{T, ltb, eqb, eqb→eq, lit≤, lit<}
+use mathlib.Core.Bool.{Bool, true, false, _&&_, Bool·beq, cond, true≢false}
+use lib.IntN.{ℤ, pos}
+use lib.Dec.{T, ltb, eqb, eqb→eq, lit<}
 use lib.Pow.{pow-pos}
-use lib.Ieee.{Float, nan, inf, fin, Format, binary32, prec, emax, low, up, down, round, sum, add, sub, neg, mul, div, le, fits, unlike, ofInt}
-use lib.Ieee.Fits.{down-pos, up-pos, round-is}
+use lib.Ieee.{Float, nan, inf, fin, Format, prec, low, up, down, round, sum, add, sub, neg, mul, div, le, fits, unlike, ofInt}
+use lib.Ieee.Fits.{down-pos, round-is}
 use lib.Ieee.Exact.{HasValue, units-val}
 use lib.Ieee.Order.{transfer, round-mono, kept, drop}
 use lib.Ieee.Positive.{first-pos, through}
@@ -18,16 +18,7 @@ use lib.Ieee.Back.{round-whole}
 use Rattle.ieee.specs.Order.{le-fin→}
 use Rattle.ieee.specs.Plus.{plus, round-plus}
 use Rattle.ieee.specs.Self.{self}
-
-abbrev pub Within : Float → ℕ → ℕ → Type 0
-Within nan k d = ⊥
-Within (inf s) k d = ⊥
-Within (fin s m e) k d = m * up e * d ≤ k * down e
-
--- the format holds k / d
-pub record Exact (f : Format) (k d : ℕ) : Type 0 where
-  pub above : 0 < d
-  pub exact : HasValue (round f false k d) false k d
+pub use Rattle.ieee.specs.Terms.{Within, Exact, AtLeast}
 
 -- ---- what is exact: a whole number up to 2 ^ prec, a value that fits, a closed fraction by computation
 pub whole-exact : (f : Format) (n : ℕ) → n ≤ 2 ^ prec f → Exact f n 1
@@ -145,11 +136,6 @@ mul-within f (fin s m e) (fin t n g) a p b q k d p0 q0 E h v w =
     (product-cross (m * up e) (down e) (n * up g) (down g) a p b q k d p0 q0 v w h)
 
 -- ---- the quotient, by a value of size b / q at least
-abbrev pub AtLeast : Float → ℕ → ℕ → Type 0
-AtLeast nan b q = ⊥
-AtLeast (inf s) b q = ⊥
-AtLeast (fin s m e) b q = b * down e ≤ m * up e * q
-
 quotient-cross : (X P Y Q a p b q k d : ℕ) → 0 < p → 0 < b → X * p ≤ a * P → b * Q ≤ Y * q → a * q * d ≤ k * (p * b) → X * Q * d ≤ k * (Y * P)
 quotient-cross X P Y Q a p b q k d p0 b0 h g w =
     let l : X * Q * (p * b) ≡ X * p * (b * Q) = simp (mul-assoc, mul-comm, mul-left-comm) in

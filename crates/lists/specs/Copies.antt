@@ -1,13 +1,13 @@
 -- A loop that copies the first places of one row to another, place by place, and what the copy leaves: the row written has them, every other row keeps its own.
 -- Over any type of items. Assumes nothing.
-use Prim.Native.Nat.{ℕ, suc, _+_, _*_, _≤_, _<_}
+use Prim.Native.Nat.{ℕ, _+_, _*_, _≤_, _<_}
 use mathlib.Core.Path.{_≡_, sym, ap, _∙_}
 use mathlib.Core.Logic.{_≢_, inl, inr}
 use mathlib.Core.List.{List}
 use native.Mathlib.Nat.{le-antisymm, le-trans, le-of-eq, mul-le-mul-right, suc-mul}
 use native.Mathlib.Numerals.{add-one}
 use native.Mathlib.Omega.{arith}
-use lib.ListN.{getD, length, set, take, drop, length-take, length-drop}
+use lib.ListN.{getD, length, set, drop, length-take, length-drop}
 use lib.Seq.{paste, getD-take, getD-drop, length-paste, paste-suc, ext-getD}
 use Rattle.lists.specs.Parts.{part, copied}
 use Rattle.lists.specs.Runs.{lt-or-ge, lt-or-gt, paste-before, paste-in, paste-after}

@@ -1,6 +1,6 @@
 -- Counts among the first values of a sequence: of 0 .. n - 1 each stands once, a count that grows has met its number, and the counts where the sequence
 -- reads one permutation after the other. Assumes nothing.
-use mathlib.Core.List.{List, [], _∷_, _++_}
+use mathlib.Core.List.{List, [], _∷_}
 use mathlib.Core.Path.{_≡_, refl, sym, ap, _∙_}
 use Prim.Native.Nat.{ℕ, zero, suc, _+_, _*_, _/_, _%_, _≤_, _<_}
 use native.Mathlib.Nat.{add-zero, add-suc, zero-mul, suc-mul, le-refl, lt-irrefl, mod-lt, div-add-mod', not-suc-le-zero}

@@ -1,3 +1,4 @@
+-- Definitions (Count, Firsts, Every, Parts), each with its laws below it, and the laws of tests and of writes. Assumes nothing.
 pub mod Tests
 pub mod Count
 pub mod Counting

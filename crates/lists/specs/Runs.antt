@@ -9,7 +9,7 @@ use mathlib.Core.Bool.{Bool, true, false, not}
 use lib.Arith.{lt-of-le-ne}
 use lib.Dec.{T, ltb, ltb→lt, nltb→le}
 use lib.ListN.{getD, length, set, take, drop, length-set, List·getD-append}
-use lib.Seq.{paste, sets, length-sets, getD-set-same, getD-set-other, getD-take, getD-drop, getD-append-add, length-paste, length-paste-head, length-take-le}
+use lib.Seq.{paste, sets, getD-set-same, getD-set-other, getD-take, getD-drop, getD-append-add, length-paste, length-paste-head, length-take-le}
 
 -- ---- two numbers
 pub lt-or-ge : (a b : ℕ) → (a < b) ⊎ (b ≤ a)

@@ -1,5 +1,5 @@
 -- What the answer of `&&` or `||` says of its two sides, in the form in which a branch knows it, `t ≡ true` or `t ≡ false`. Assumes nothing.
-use mathlib.Core.Path.{_≡_, refl, sym, ap, _∙_}
+use mathlib.Core.Path.{_≡_, refl, sym}
 use mathlib.Core.Bool.{Bool, true, false, _&&_, _||_, true≢false}
 
 -- ---- both

@@ -1,13 +1,12 @@
+-- `half_even` meets its contract: the three ways in which twice the remainder compares with the divisor. Assumes nothing.
 use mathlib.Core.Path.{_≡_}
-use Prim.Native.Nat.{ℕ, _+_, _*_, _/_, _%_, _^_, _≤_, _<_}
+use Prim.Native.Nat.{ℕ, _≤_, _<_}
 use native.Mathlib.Nat.{mod-lt, div-le-self}
 use native.Mathlib.Omega.{arith}
 use borrow.Author.Needs.{needs}
 use Rattle.ieee.proofs.Rounds.{closest-lt, closest-eq, closest-gt}
 use Rattle.ieee.proofs.half_even.Statement.{statement}
 use Rattle.ieee.proofs.half_even.Tie as tie
-use Rattle.ieee.proofs.half_even.Reads as reads
-use Rattle.ieee.proofs.half_even.Lts as lts
 
 div-q : tie.Need-div-q
 div-q c = search needs

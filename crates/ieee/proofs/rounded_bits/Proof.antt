@@ -1,6 +1,6 @@
+-- `rounded_bits` meets its contract, band by band. Assumes nothing.
 use mathlib.Core.Path.{_≡_, subst, sym, ap, _∙_}
-use Prim.Native.Nat.{ℕ, _+_, _-_, _*_, _^_, _≤_, _<_}
-use native.Mathlib.Nat.{le-trans, le-of-eq}
+use Prim.Native.Nat.{ℕ, _-_, _^_, _≤_, _<_}
 use native.Mathlib.Omega.{arith}
 use lib.Pow.{pow-lt, pow-pos}
 use lib.Ieee.Nearest.{closest}
@@ -8,10 +8,6 @@ use borrow.Author.Needs.{needs}
 use Rattle.ieee.proofs.Bands.{rounds-to-none, rounds-low, rounds-high, rounds-over, low-le, high-le}
 use Rattle.ieee.proofs.rounded_bits.Statement.{statement}
 use Rattle.ieee.proofs.rounded_bits.Tie as tie
-use Rattle.ieee.proofs.rounded_bits.Reads as reads
-use Rattle.ieee.proofs.rounded_bits.Lts as lts
-use Rattle.ieee.proofs.half_even.Reads as half-even-reads
-use Rattle.ieee.proofs.power_of_two.Reads as power-of-two-reads
 
 returns : tie.Need-returns
 returns c = rounds-to-none _ _ (c .before .pre .0) (c .if1 .taken)

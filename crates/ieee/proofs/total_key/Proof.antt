@@ -7,8 +7,6 @@ use lib.Ieee.Bits.{toBits-lt}
 use Rattle.ieee.specs.Order.{of-true}
 use Rattle.ieee.proofs.total_key.Statement.{statement}
 use Rattle.ieee.proofs.total_key.Tie as tie
-use Rattle.ieee.proofs.total_key.Reads as reads
-use Rattle.ieee.proofs.total_key.Lts as lts
 
 float-to-bits-bits : tie.Need-float-to-bits-bits
 float-to-bits-bits c = search needs
