@@ -220,7 +220,7 @@ pub fn values(rng: &mut Rng) -> Vec<f32> {
     (0..n).map(value).collect()
 }
 
-/// A finite f64 with no sign, for narrowing to f32: anywhere, near the overflow, subnormal results, ties.
+/// An f64 that is no NaN, for narrowing to f32: anywhere, near the overflow, subnormal results, ties, infinity.
 pub fn wide(rng: &mut Rng) -> f64 {
     let bits = match rng.below(6) {
         // the halfway points between two f32 numbers and their neighbours
@@ -234,8 +234,9 @@ pub fn wide(rng: &mut Rng) -> f64 {
         4 => ((1023 - 160 + rng.bits() % 320) << 52) | rng.bits() >> 12,
         _ => rng.bits() & !(1 << 63),
     };
-    let value = f64::from_bits(bits);
-    if value.is_finite() { value } else { f64::MAX }
+    let size = f64::from_bits(bits);
+    let size = if size.is_nan() { f64::INFINITY } else { size };
+    if rng.once_in(3) { -size } else { size }
 }
 
 /// The middle between an f32 below `limit` in bits and the next, or a neighbour of that middle.

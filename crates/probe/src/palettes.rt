@@ -1,0 +1,47 @@
+// Forwarders to palette. Assumes of callers what each callee requires.
+ghost use mathlib.Core.Path.{_≡_};
+ghost use Prim.Native.Nat.{ℕ, _*_, _≤_, _<_};
+ghost use lib.ListN.{length, getD};
+ghost use Rattle.palette.specs.Palette.{paletteWith, tileWith, Fits, Hinted};
+use color::Oklab;
+
+#[no_mangle]
+pub extern "C" fn probe_nearest(
+    sub: &[f32],
+    l: f32,
+    a: f32,
+    b: f32,
+    weight: f32,
+    dist: &mut f32,
+) -> usize {
+    let near = palette::nearest(sub, Oklab { l, a, b }, weight);
+    *dist = near.dist;
+    near.index
+}
+
+#[no_mangle]
+pub extern "C" fn probe_tile_distance(sub: &[f32], tile: &[f32], counts: &[u32], weight: f32) -> f32
+    requires { ⌜ (length (now tile) ≡ 3 * length (now counts)) × ((k : ℕ) → k < length (now counts) → getD (now counts) k 0 ≤ 16777216) ⌝ }
+{
+    palette::tile_distance(sub, tile, counts, weight)
+}
+
+#[no_mangle]
+pub extern "C" fn probe_best_fit(
+    pal: &[f32],
+    c: usize,
+    have: usize,
+    n: usize,
+    tile: &[f32],
+    counts: &[u32],
+    weight: f32,
+    hints: &mut [u32],
+    t: usize,
+    dist: &mut f32,
+) -> usize
+    requires { ⌜ Fits (paletteWith (now pal) c have n) (tileWith (now tile) (now counts)) weight × ((1 ≤ length (now counts)) × Hinted n (now hints) t) ⌝ }
+{
+    let near = palette::best_fit(pal, c, have, n, tile, counts, weight, hints, t);
+    *dist = near.dist;
+    near.index
+}

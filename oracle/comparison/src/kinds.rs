@@ -1,0 +1,30 @@
+//! The kinds of comparison.
+
+mod leaves;
+mod own;
+mod palettes;
+
+use terms::rng::Rng;
+
+use crate::tally::Tally;
+
+pub struct Kind {
+    pub name: &'static str,
+    /// How many cases at scale 1.
+    pub cases: u64,
+    /// The cases are all there are, whatever the scale.
+    pub whole: bool,
+    /// Compares one case, which its number and the generator determine.
+    pub compare: fn(&mut Rng, u64, &mut Tally),
+}
+
+pub const KINDS: [&[Kind]; 3] = [own::KINDS, leaves::KINDS, palettes::KINDS];
+
+const fn kind(name: &'static str, cases: u64, compare: fn(&mut Rng, u64, &mut Tally)) -> Kind {
+    Kind { name, cases, whole: false, compare }
+}
+
+/// All the cases there are.
+const fn whole(name: &'static str, cases: u64, compare: fn(&mut Rng, u64, &mut Tally)) -> Kind {
+    Kind { name, cases, whole: true, compare }
+}

@@ -1,0 +1,73 @@
+//! The oracle held to itself: its copies of the Rust to the unchanged files, its run in steps to the whole run.
+
+use answers::requests::flat;
+use answers::{probed, rust};
+use terms::jobs;
+use terms::rng::Rng;
+use terms::{Colour, Job, Ran};
+
+use super::{Kind, kind};
+use crate::tally::Tally;
+
+pub const KINDS: &[Kind] = &[kind("oracle copies", 150, copies), kind("oracle steps", 150, steps)];
+
+struct Case {
+    job: Job,
+    hints: Vec<usize>,
+    seed: u64,
+    reduced: Vec<Vec<Colour>>,
+}
+
+fn case(rng: &mut Rng) -> Case {
+    let job = jobs::job(rng, 300);
+    let hints = jobs::hints(rng, job.tiles.len(), job.s);
+    let reduced = (0..3).map(|_| jobs::reduced(rng, job.s, job.c)).collect();
+    Case { job, hints, seed: rng.bits(), reduced }
+}
+
+impl Case {
+    fn ran(&self, rust: &dyn terms::Rust) -> Ran {
+        let reduced = self.reduced.clone();
+        rust.run(&self.job, &self.hints, self.seed, Box::new(move |stop, place, _| reduced[stop][place]))
+    }
+}
+
+/// The probed copy at the Rust's own weight.
+fn copies(rng: &mut Rng, _: u64, tally: &mut Tally) {
+    let mut case = case(rng);
+    case.job.weight = 2.15;
+    let (copy, whole) = (case.ran(probed(2.15)), case.ran(rust(2.15)));
+    for (a, b) in copy.stops.iter().zip(&whole.stops) {
+        tally.same((a.palette.clone(), a.hints.clone()), (b.palette.clone(), b.hints.clone()), || "a stop".to_string());
+    }
+    tally.same((copy.result, copy.hints), (whole.result, whole.hints), || "the result".to_string());
+}
+
+/// The run in steps, cut anywhere.
+fn steps(rng: &mut Rng, _: u64, tally: &mut Tally) {
+    let case = case(rng);
+    let whole = case.ran(rust(case.job.weight));
+    let mut run = probed(case.job.weight).start(&case.job, &case.hints, case.seed);
+    let mut stop = 0;
+    loop {
+        let held = run.held();
+        match held.words[1] {
+            3 | 5 | 6 => {
+                let seen = &whole.stops[stop];
+                let at = (held.palette, held.hints);
+                tally.same(at, (seen.palette.clone(), seen.hints.clone()), || format!("stop {stop}"));
+                run.hand_in(&case.reduced[stop]);
+                stop += 1;
+            }
+            7 => {
+                let (s, c) = (case.job.s, case.job.c);
+                let made = (s + c + 18) as u64 * probed(2.15).base_iterations(case.job.samples.len()) as u64;
+                tally.same(held.words[4], made, || "draws made".to_string());
+                let result = (flat(&held.palette, s, c), held.hints);
+                tally.same(result, (flat(&whole.result, s, c), whole.hints), || "the result".to_string());
+                return;
+            }
+            _ => drop(run.advance(1 + rng.below(40) as u64)),
+        }
+    }
+}
