@@ -1,0 +1,4 @@
+pub mod Edits
+pub mod Kept
+pub mod Gentle
+pub mod Example

@@ -1,0 +1,2 @@
+pub mod PaletteTwo
+pub mod Empty
