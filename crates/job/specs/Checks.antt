@@ -84,32 +84,40 @@ tableRules size t weight tiles counts =
     ∷ rule 5 (tilesFit size (length counts) tiles t)
     ∷ rule 6 (countsFit size tiles counts t) ∷ []
 
-abbrev pub sizes : Job → List Rule
-sizes J = sizeRules (J .S) (J .C) (J .T)
+-- 2 and 3 of a call without samples, whose palette has `palette` numbers; `room` says that the call's own lent slices have their lengths
+abbrev pub formRules : ℕ → ℕ → ℕ → List ℕ → List Float → List ℕ → ℕ → Bool → List Rule
+formRules s c t tiles colours counts palette room =
+    sizeRules s c t ++ (shapeRules t tiles colours counts ++ (rule 3 (eqb palette (3 * (s * c))) ∷ rule 3 room ∷ []))
 
-abbrev pub shapes : Job → List Rule
-shapes J = shapeRules (J .T) (J .tiles) (J .colours) (J .counts)
+-- 2, 3 and 1 of a call with n samples, for which `samples` numbers are lent
+abbrev pub sampledFormRules : ℕ → ℕ → ℕ → ℕ → List ℕ → List Float → List ℕ → ℕ → Bool → List Rule
+sampledFormRules s c t n tiles colours counts samples room =
+    sizeRules s c t
+    ++ (rule 2 (leb n mostSamples)
+    ∷ (shapeRules t tiles colours counts ++ (rule 3 (eqb samples (2 * n)) ∷ rule 3 room ∷ rule 1 (leb 1 n) ∷ [])))
 
+-- 7 of a call without samples: the palette is among the job's colours
+abbrev pub nearRules : List Float → List Float → List Rule
+nearRules palette colours = rule 7 (componentsFit two palette) ∷ rule 7 (componentsFit two colours) ∷ []
+
+-- 7 and 8 of a call with samples
+abbrev pub placeRules : ℕ → List ℕ → List Float → ℕ → List ℕ → List Rule
+placeRules t tiles colours n samples = rule 7 (componentsFit two colours) ∷ rule 8 (samplesFit tiles t samples n) ∷ []
+
+-- ---- the rules of a call
 abbrev pub tables : ℕ → Job → List Rule
 tables size J = tableRules size (J .T) (J .weight) (J .tiles) (J .counts)
 
--- a call without samples: the palette is among the job's colours; `room` says that the call's own lent slices have their lengths
 abbrev pub plainRules : ℕ → Job → List Float → Bool → List Rule
 plainRules size J palette room =
-    sizes J
-    ++ (shapes J
-    ++ (rule 3 (eqb (length palette) (3 * (J .S * J .C))) ∷ rule 3 room
-    ∷ (tables size J ++ (rule 7 (componentsFit two palette) ∷ rule 7 (componentsFit two (J .colours)) ∷ []))))
+    formRules (J .S) (J .C) (J .T) (J .tiles) (J .colours) (J .counts) (length palette) room ++ (tables size J ++ nearRules palette (J .colours))
 
--- a call with n samples
 abbrev pub sampledRules : ℕ → Job → ℕ → List ℕ → Bool → List Rule
 sampledRules size J n samples room =
-    sizes J
-    ++ (rule 2 (leb n mostSamples)
-    ∷ (shapes J
-    ++ (rule 3 (eqb (length samples) (2 * n)) ∷ rule 3 room ∷ rule 1 (leb 1 n)
-    ∷ (tables size J ++ (rule 7 (componentsFit two (J .colours)) ∷ rule 8 (samplesFit (J .tiles) (J .T) samples n) ∷ [])))))
+    sampledFormRules (J .S) (J .C) (J .T) n (J .tiles) (J .colours) (J .counts) (length samples) room
+    ++ (tables size J ++ placeRules (J .T) (J .tiles) (J .colours) n samples)
 
+-- the number that a call without samples, and one with n samples, gets before its own rules
 unfoldable pub plainAnswer : ℕ → Job → List Float → Bool → ℕ
 plainAnswer size J palette room = answer (plainRules size J palette room)
 

@@ -48,7 +48,11 @@ pub record Placed (per : ℕ) (tiles : List ℕ) (t length·part : ℕ) : Type 0
   pub listed : 2 * t + 1 < length tiles
   pub inside : per * (firstOf tiles t + sizeOf tiles t) ≤ length·part
 
--- ---- limits. The tile size is none of them: each definition takes it
+-- ---- limits
+-- the pixels of a tile, which every definition below takes as `size`: only the public calls name this
+abbrev pub tileSize : ℕ
+tileSize = 64
+
 abbrev pub mostSubpalettes : ℕ
 mostSubpalettes = 16
 

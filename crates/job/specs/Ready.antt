@@ -22,7 +22,7 @@ use Rattle.job.specs.First.{firstNot, none-first}
 use Rattle.job.specs.Rules.{Passed, answer, numbered}
 use Rattle.job.specs.Passing.{all-pass}
 use Rattle.job.specs.Job.{Job, firstOf, sizeOf, countsPart, countsOf, mostSubpalettes, mostColours, mostTiles, mostTileColours, mostSamples, nought, two, sixteen}
-use Rattle.job.specs.Checks.{among, within, weightFits, tileTest, tileFits, tilesFit, countTest, countFits, partFits, tileCountsFit, countsFit, componentFits, firstBad, componentsFit, sampleTest, sampleFits, samplesFit, sizeRules, sizes, shapes, tables, plainRules, sampledRules, plainAnswer, sampledAnswer}
+use Rattle.job.specs.Checks.{among, within, weightFits, tileTest, tileFits, tilesFit, countTest, countFits, partFits, tileCountsFit, countsFit, componentFits, firstBad, componentsFit, sampleTest, sampleFits, samplesFit, sizeRules, shapeRules, tables, plainRules, sampledRules, plainAnswer, sampledAnswer}
 
 pub record Sizes (s c t : ℕ) : Type 0 where
   pub subs : 1 ≤ s
@@ -118,7 +118,7 @@ lt-le x y h = or-l (lt x y) _ (of-true h)
 weight-within : (w : Float) → lt nought w ≡ true → le w sixteen ≡ true → Within w 16 1
 weight-within w h g = between nought w sixteen 16 1 nought-within sixteen-within (lt-le nought w h) (of-true g)
 
-two-within : Within two 2 1
+pub two-within : Within two 2 1
 unfolding ofBits
 two-within = lit≤ tt
 
@@ -192,7 +192,7 @@ unfolding countsFit tileCountsFit
 part-passed size tiles counts n F t l = every-at (tileCountsFit size tiles counts) n t F l
 
 -- ---- the job
-ready-of : (size : ℕ) (J : Job) → Passed (sizes J) → Passed (shapes J) → Passed (tables size J) → componentsFit two (J .colours) ≡ true → Ready size J
+ready-of : (size : ℕ) (J : Job) → Passed (sizeRules (J .S) (J .C) (J .T)) → Passed (shapeRules (J .T) (J .tiles) (J .colours) (J .counts)) → Passed (tables size J) → componentsFit two (J .colours) ≡ true → Ready size J
 unfolding weightFits
 ready-of size J p q r v =
     let part = part-passed size (J .tiles) (J .counts) (J .T) (r .1 .1 .1 .0) in

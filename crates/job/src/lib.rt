@@ -6,6 +6,12 @@ ghost use lib.ListN.{length};
 ghost use Rattle.job.specs.Job.{firstOf, sizeOf, coloursPart, countsPart, Placed};
 ghost use Rattle.job.specs.Checks.{within, firstBad};
 
+// The pixels of a tile, at most.
+pub const TILE_SIZE: usize = 64;
+
+// The magnitude of a job's component, at most.
+pub const MOST_COMPONENT: f32 = 2.0;
+
 pub fn wide(x: u32) -> usize
     ensures { λ r. ⌜ r ≡ x ⌝ }
 {
