@@ -1,15 +1,14 @@
 -- Bounds from tests, bounds as tests, and closer bounds where signs are known. Assumes nothing.
-use mathlib.Core.Path.{_≡_, refl, sym, ap, _∙_, subst}
+use mathlib.Core.Path.{_≡_, sym, ap, _∙_, subst}
 use mathlib.Core.Logic.{inl, inr}
-use Prim.Native.Nat.{ℕ, zero, suc, _+_, _-_, _*_, _^_, _≤_, _<_, zero-le}
-use native.Mathlib.Nat.{le-trans, le-of-eq, zero-mul, mul-zero, mul-one, one-mul, mul-pos, mul-comm, mul-assoc, mul-right-comm, mul-le-mul-right, sub-le, add-mul, suc-mul}
-use native.Mathlib.Omega.{arith}
+use Prim.Native.Nat.{ℕ, _+_, _-_, _*_, _^_, _≤_, _<_, zero-le}
+use native.Mathlib.Nat.{le-trans, le-of-eq, zero-mul, mul-zero, mul-one, one-mul, mul-pos, mul-comm, mul-assoc, mul-right-comm, mul-le-mul-right, sub-le, add-mul}
 use mathlib.Core.Bool.{true, false, not}
 use lib.Dec.{T, ltb, lit<}
 use lib.Ieee.{Float, nan, inf, fin, Format, prec, up, down, round, sum, add, sub, mul, le, lt, isNan}
 use lib.Ieee.Fits.{down-pos}
 use lib.Ieee.Positive.{through}
-use Rattle.ieee.specs.Order.{le-fin→}
+use Rattle.ieee.specs.Order.{factor-zero, zero-times, le-fin→}
 use Rattle.ieee.specs.Total.{not-lt→le}
 use Rattle.ieee.specs.Plus.{plus, mul-plus}
 use Rattle.ieee.specs.NonNeg.{zeroF, Minus0, nonneg-split, plus→nonneg, null→nonneg}
@@ -23,14 +22,7 @@ within-real (fin s m e) k d w = tt
 
 -- ---- between two values of size k / d at most
 zero-within : (a c k d : ℕ) → 0 < c → a * c ≡ 0 → a * d ≤ k
-zero-within a c k d C e = le-trans (le-of-eq (ap (λ (z : ℕ). z * d) (none a c C e) ∙ zero-mul d)) zero-le
-  where
-    none : (x q : ℕ) → 0 < q → x * q ≡ 0 → x ≡ 0
-    none zero q Q h = refl
-    none (suc x) q Q h = absurd (never (x * q) q (sym (suc-mul x q) ∙ h) Q)
-      where
-        never : (y z : ℕ) → y + z ≡ 0 → 0 < z → ⊥
-        never y z g Z = omega arith
+zero-within a c k d C e = le-trans (le-of-eq (zero-times a d (factor-zero a c C (le-of-eq e)))) zero-le
 
 pub between : (lo x hi : Float) (k d : ℕ) → Within lo k d → Within hi k d → T (le lo x) → T (le x hi) → Within x k d
 between lo nan hi k d v w h g = absurd (unfold le in g)
@@ -97,15 +89,15 @@ mul-nonneg f x y a p b q p0 q0 v w h g =
       | inl s ↦
           elim (nonneg-split y g) [
             | inl t ↦ plus→nonneg (mul f x y) (both x y s t v w)
-            | inr t ↦ null→nonneg (mul f x y) (mul-within f x y a p 0 1 0 1 p0 (lit< tt) (whole-exact f 0 zero-le) (le-of-eq (mul-one (a * 0) ∙ mul-zero a ∙ sym (zero-mul (p * 1)))) v (none y t))
+            | inr t ↦ null→nonneg (mul f x y) (mul-within f x y a p 0 1 0 1 p0 (lit< tt) (whole-exact f 0 zero-le) (le-of-eq (mul-one (a * 0) ∙ mul-zero a ∙ sym (zero-mul (p * 1)))) v (no-size y t))
           ]
-      | inr s ↦ null→nonneg (mul f x y) (mul-within f x y 0 1 b q 0 1 (lit< tt) q0 (whole-exact f 0 zero-le) (le-of-eq (mul-one (0 * b) ∙ zero-mul b ∙ sym (zero-mul (1 * q)))) (none x s) w)
+      | inr s ↦ null→nonneg (mul f x y) (mul-within f x y 0 1 b q 0 1 (lit< tt) q0 (whole-exact f 0 zero-le) (le-of-eq (mul-one (0 * b) ∙ zero-mul b ∙ sym (zero-mul (1 * q)))) (no-size x s) w)
     ]
   where
-    none : (z : Float) → Minus0 z → Within z 0 1
-    none nan m = m
-    none (inf u) m = m
-    none (fin u n d) m = le-trans (le-of-eq (mul-one (n * up d) ∙ m .1)) zero-le
+    no-size : (z : Float) → Minus0 z → Within z 0 1
+    no-size nan m = m
+    no-size (inf u) m = m
+    no-size (fin u n d) m = le-trans (le-of-eq (mul-one (n * up d) ∙ m .1)) zero-le
 
     both : (z u : Float) → T (plus z) → T (plus u) → Within z a p → Within u b q → T (plus (mul f z u))
     both nan u i j k l = absurd i

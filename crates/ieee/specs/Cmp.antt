@@ -6,11 +6,12 @@ use native.Mathlib.Nat.{le-of-lt, le-antisymm}
 use native.Mathlib.Omega.{arith}
 use mathlib.Core.Bool.{Bool, true, false, not, cond}
 use lib.Dec.{T, nleb→lt, leb, ltb, leb→le, le→leb, ltb→lt, nltb→le}
-use lib.Ieee.{Float, nan, inf, fin, Format, top, lt, le, fits, isNan, toBits, ofBits}
+use lib.Ieee.{Float, nan, inf, fin, Format, top, neg, lt, le, fits, isNan, toBits, ofBits}
 use lib.Ieee.Bits.{ofBits-toBits, toBits-lt}
 use Rattle.ieee.specs.Order.{same-test, le-fin→, le-fin←}
 use Rattle.ieee.specs.Total.{decide, lt→not-le}
 use Rattle.ieee.specs.Keys.{sgn, abs, key, pack, bits-are, le-is-bits, size-small}
+use Rattle.ieee.specs.NonNeg.{zeroF}
 pub use Rattle.ieee.specs.Terms.{tle, keyOf}
 
 -- ---- the bits as a number: those with the sign set turned round, below those with it clear
@@ -79,7 +80,7 @@ key-inj t a b p q = go (ltb a t) (ltb b t) (ltb→lt a t) (nltb→le a t) (ltb�
     go false false c d e g h = omega arith
 
 module _ (f : Format) (x y : Float) (h : T (fits f x)) (k : T (fits f y)) (p : T (not (isNan x))) (q : T (not (isNan y))) where
-  tle-total : T (tle x y) ⊎ T (tle y x)
+  pub tle-total : T (tle x y) ⊎ T (tle y x)
   tle-total =
       let a = keyOf f (toBits f x) in
       let b = keyOf f (toBits f y) in
@@ -98,3 +99,8 @@ module _ (f : Format) (x y : Float) (h : T (fits f x)) (k : T (fits f y)) (p : T
       let u : keyOf f a ≤ keyOf f b = leb→le (keyOf f a) (keyOf f b) (subst T (tle-is-key f x y h k p q) l) in
       let v : keyOf f b ≤ keyOf f a = leb→le (keyOf f b) (keyOf f a) (subst T (tle-is-key f y x k h q p) r) in
       sym (ofBits-toBits f x h) ∙ ap (ofBits f) (key-inj (top f) a b (toBits-lt f x h) (toBits-lt f y k) (le-antisymm u v)) ∙ ofBits-toBits f y k
+
+-- ---- -0 comes before +0
+pub minus-zero-first : (tle (neg zeroF) zeroF ≡ true) × (tle zeroF (neg zeroF) ≡ false)
+unfolding neg
+minus-zero-first = (refl, refl)

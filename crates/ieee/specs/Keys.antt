@@ -55,8 +55,8 @@ fewer x y p h = omega arith
 all-in-use : (z p : ℕ) → 0 < p → 0 < z - p → p - 1 + (z - p) < z
 all-in-use z p P h = omega arith
 
-step : (a b c h x y : ℕ) → a + h ≤ b → x < h + h → h ≤ y → a + x ≤ b + y
-step a b c h x y p q r = omega arith
+step : (a b h x y : ℕ) → a + h ≤ b → x < h + h → h ≤ y → a + x ≤ b + y
+step a b h x y p q r = omega arith
 
 pub pack-mono : (f : Format) (n l : ℕ) → n ≤ l → pack f n ≤ pack f l
 pack-mono f n l h =
@@ -66,7 +66,7 @@ pack-mono f n l h =
     elim (eq-or-lt-of-le (fewer (size n) (size l) p (size-le n (size l) (lt-of-le-of-lt h (size-lt l))))) [
       | inl e ↦ subst (λ (i : ℕ). i * hid f + n / 2 ^ i ≤ pack f l) (sym e) (low-part (k * hid f) (n / 2 ^ k) (l / 2 ^ k) (shr-mono k h))
       | inr g ↦
-          step (j * hid f) (k * hid f) 0 (hid f) (n / 2 ^ j) (l / 2 ^ k)
+          step (j * hid f) (k * hid f) (hid f) (n / 2 ^ j) (l / 2 ^ k)
           (le-trans (le-of-eq (sym (suc-mul j (hid f)))) (mul-le-mul-right (hid f) g))
           (subst (λ (i : ℕ). n / 2 ^ j < i) (twice f) (kept-lt p n))
           (le-div-iff-mul-le (pow-pos k) .1 (le-trans (le-of-eq (sym (pow-add 2 (p - 1) k))) (size-reaches l (p - 1 + k) (all-in-use (size l) p (two-le-pos p (two f)) (lt-of-le-of-lt zero-le g)))))

@@ -1,9 +1,8 @@
 -- Rounding keeps the order at either sign, and so a sum and a difference of finite values grow with the first operand. Assumes nothing.
 use mathlib.Core.Path.{_≡_, refl, sym, ap, _∙_, subst}
 use Prim.Native.Nat.{ℕ, _+_, _-_, _*_, _≤_, _<_, zero-le}
-use native.Mathlib.Nat.{le-trans, le-of-eq, zero-mul, mul-pos, mul-comm, mul-assoc, mul-left-comm, mul-le-mul-right, add-mul, eq-zero-or-pos, lt-irrefl}
+use native.Mathlib.Nat.{le-trans, le-of-eq, zero-mul, mul-pos, mul-assoc, mul-left-comm, mul-le-mul-right, add-mul}
 use native.Mathlib.Omega.{arith}
-use mathlib.Core.Logic.{inl, inr}
 use mathlib.Core.Bool.{Bool, true, false, not, _&&_, Bool·beq, cond}
 use lib.IntN.{ℤ, pos}
 use lib.Dec.{T, ltb, ltb→lt, nltb→le}
@@ -11,7 +10,7 @@ use lib.Ieee.{Float, nan, inf, fin, Format, up, down, round, sum, add, neg, le}
 use lib.Ieee.Fits.{down-pos}
 use lib.Ieee.Order.{round-mono}
 use lib.Ieee.Scale.{finite}
-use Rattle.ieee.specs.Order.{Sle, le-fin→, le-fin←, trans}
+use Rattle.ieee.specs.Order.{factor-zero, Sle, le-fin→, le-fin←, trans}
 use Rattle.ieee.specs.Plus.{round-plus}
 use Rattle.ieee.specs.NonNeg.{zeroF, plus→nonneg, null→nonneg}
 use Rattle.ieee.specs.Within.{whole-exact, round-within}
@@ -40,9 +39,6 @@ neg-anti (fin s m e) (inf false) h = unfold le in tt
 neg-anti (fin s m e) (fin t n d) h = le-fin← (not t) n d (not s) m e (flip s (m * up e * down d) t (n * up d * down e) (le-fin→ s m e t n d h))
 
 -- ---- rounding, at either sign
-none : (x q : ℕ) → 0 < q → x * q ≡ 0 → x ≡ 0
-none x q Q h = elim (eq-zero-or-pos x) [ inl z ↦ z | inr p ↦ absurd (lt-irrefl 0 (subst (λ (z : ℕ). 0 < z) h (mul-pos p Q))) ]
-
 null : (f : Format) (s : Bool) (a b : ℕ) → 0 < b → a ≡ 0 → T (le zeroF (round f s a b))
 null f s a b B z = null→nonneg (round f s a b) (round-within f s a b 0 1 B (whole-exact f 0 zero-le) (omega arith))
 
@@ -57,8 +53,8 @@ round-mono± f true a b false c d B D h =
     (unfold neg in trans (fin true 0 (pos 0)) zeroF (round f false c d) (le-fin← true 0 (pos 0) false 0 (pos 0) tt) (plus→nonneg (round f false c d) (round-plus f c d)))
 round-mono± f false a b true c d B D h =
     trans (round f false a b) (neg zeroF) (round f true c d)
-    (subst (λ (z : Float). T (le z (neg zeroF))) (sym (round-neg f true a b)) (neg-anti zeroF (round f true a b) (null f true a b B (none a d D (h .0)))))
-    (unfold neg in trans (fin true 0 (pos 0)) zeroF (round f true c d) (le-fin← true 0 (pos 0) false 0 (pos 0) tt) (null f true c d D (none c b B (h .1))))
+    (subst (λ (z : Float). T (le z (neg zeroF))) (sym (round-neg f true a b)) (neg-anti zeroF (round f true a b) (null f true a b B (factor-zero a d D (le-of-eq (h .0))))))
+    (unfold neg in trans (fin true 0 (pos 0)) zeroF (round f true c d) (le-fin← true 0 (pos 0) false 0 (pos 0) tt) (null f true c d D (factor-zero c b B (le-of-eq (h .1)))))
 
 -- ---- a signed number is its part above 0 less its part below 0
 abbrev above : Bool → ℕ → ℕ
@@ -145,9 +141,9 @@ sums s t r X Z Y p o q h =
     let k = sumSize t (Z * q) r (Y * o) in
     let first = scaled s r u (X * q) (Y * p) n (o * q) (sum-parts s (X * q) r (Y * p)) in
     let second = scaled t r v (Z * q) (Y * o) k (p * q) (sum-parts t (Z * q) r (Y * o)) in
-    let left : X * q * (o * q) ≡ X * o * (q * q) = simp (mul-assoc, mul-comm, mul-left-comm) in
-    let right : Z * q * (p * q) ≡ Z * p * (q * q) = simp (mul-assoc, mul-comm, mul-left-comm) in
-    let b : Y * p * (o * q) ≡ Y * o * (p * q) = simp (mul-assoc, mul-comm, mul-left-comm) in
+    let left : X * q * (o * q) ≡ X * o * (q * q) = simp (mul-assoc, mul-left-comm) in
+    let right : Z * q * (p * q) ≡ Z * p * (q * q) = simp (mul-assoc, mul-left-comm) in
+    let b : Y * p * (o * q) ≡ Y * o * (p * q) = simp (mul-assoc, mul-left-comm) in
     let l = scaled-le s t (X * o) (Z * p) (q * q) (sle→parts s (X * o) t (Z * p) h) in
     parts→sle u (n * (o * q)) v (k * (p * q))
     (cancel (above u (n * (o * q))) (beneath u (n * (o * q))) (above v (k * (p * q))) (beneath v (k * (p * q)))

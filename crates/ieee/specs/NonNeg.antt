@@ -1,8 +1,8 @@
 -- Values that are not below zero, -0 among them: `T (le zero x)`, which is what a test `x < 0.0` that fails leaves of an x that is no `nan`. Sums keep it, and no sum is below what it adds to. Assumes nothing.
-use mathlib.Core.Path.{_≡_, refl, sym, ap, _∙_, subst}
+use mathlib.Core.Path.{_≡_, refl, sym, _∙_, subst}
 use mathlib.Core.Logic.{_⊎_, inl, inr}
 use Prim.Native.Nat.{ℕ, _+_, _-_, _*_, _≤_, _<_, zero-le}
-use native.Mathlib.Nat.{le-refl, le-of-eq, not-le-of-lt, zero-mul, mul-one, mul-pos, mul-assoc, mul-comm, mul-left-comm}
+use native.Mathlib.Nat.{le-refl, le-of-eq, not-le-of-lt, zero-mul, mul-one, mul-pos, mul-assoc, mul-comm}
 use native.Mathlib.Omega.{arith}
 use mathlib.Core.Bool.{Bool, true, false, _&&_, cond}
 use lib.IntN.{ℤ, pos}
@@ -10,14 +10,11 @@ use lib.Dec.{T, ltb, ltb→lt}
 use lib.Ieee.{Float, nan, inf, fin, Format, up, down, round, sum, add, le, fits}
 use lib.Ieee.Fits.{down-pos}
 use lib.Ieee.Order.{le-of-values, round-mono}
-use Rattle.ieee.specs.Order.{trans, le-fin→, le-fin←}
+use Rattle.ieee.specs.Order.{zero-times, trans, le-fin→, le-fin←}
 use Rattle.ieee.specs.Self.{self}
 use Rattle.ieee.specs.Plus.{plus, round-plus, add-plus, le-add}
 use Rattle.ieee.specs.Within.{Within, whole-exact, round-within}
 pub use Rattle.ieee.specs.Terms.{zeroF, Minus0}
-
-nought : (n p : ℕ) → n ≡ 0 → n * p ≡ 0
-nought n p e = ap (λ (z : ℕ). z * p) e ∙ zero-mul p
 
 pub plus→nonneg : (x : Float) → T (plus x) → T (le zeroF x)
 plus→nonneg nan h = absurd h
@@ -77,14 +74,14 @@ add-nonneg-fin : (f : Format) (s : Bool) (m : ℕ) (e : ℤ) (t : Bool) (n : ℕ
 unfolding add
 add-nonneg-fin f false m e false n d h k = plus→nonneg _ (add-plus f (fin false m e) (fin false n d) tt tt)
 add-nonneg-fin f false m e true n d h k =
-    let z : n * up d * down e ≡ 0 = nought (n * up d) (down e) (sym (mul-one (n * up d)) ∙ le-fin→ false 0 (pos 0) true n d k .1) in
+    let z : n * up d * down e ≡ 0 = zero-times (n * up d) (down e) (sym (mul-one (n * up d)) ∙ le-fin→ false 0 (pos 0) true n d k .1) in
     rw (sum-right f (m * up e * down d) (n * up d * down e) (down e * down d) (omega arith)) (plus→nonneg _ (round-plus f (m * up e * down d - n * up d * down e) (down e * down d)))
 add-nonneg-fin f true m e false n d h k =
-    plus→nonneg _ (sum-left f (m * up e * down d) (n * up d * down e) (down e * down d) (nought (m * up e) (down d) (sym (mul-one (m * up e)) ∙ le-fin→ false 0 (pos 0) true m e h .1)))
+    plus→nonneg _ (sum-left f (m * up e * down d) (n * up d * down e) (down e * down d) (zero-times (m * up e) (down d) (sym (mul-one (m * up e)) ∙ le-fin→ false 0 (pos 0) true m e h .1)))
 add-nonneg-fin f true m e true n d h k =
     null→nonneg _ (sum-both f (m * up e * down d) (n * up d * down e) (down e * down d) (mul-pos (down-pos e) (down-pos d))
-    (nought (m * up e) (down d) (sym (mul-one (m * up e)) ∙ le-fin→ false 0 (pos 0) true m e h .1))
-    (nought (n * up d) (down e) (sym (mul-one (n * up d)) ∙ le-fin→ false 0 (pos 0) true n d k .1)))
+    (zero-times (m * up e) (down d) (sym (mul-one (m * up e)) ∙ le-fin→ false 0 (pos 0) true m e h .1))
+    (zero-times (n * up d) (down e) (sym (mul-one (n * up d)) ∙ le-fin→ false 0 (pos 0) true n d k .1)))
 
 pub add-nonneg : (f : Format) (x y : Float) → T (le zeroF x) → T (le zeroF y) → T (le zeroF (add f x y))
 add-nonneg f nan y h k = absurd (unfold le in h)
@@ -100,7 +97,7 @@ add-nonneg f (fin s m e) (fin t n d) h k = add-nonneg-fin f s m e t n d h k
 
 -- ---- a sum is no smaller than what it adds to, with -0 allowed
 keep : (a b p q : ℕ) → b ≡ 0 → a * (p * q) ≤ (a * q - b) * p
-keep a b p q z = subst (λ (x : ℕ). a * (p * q) ≤ x * p) (same (a * q) b z) (le-of-eq (simp (mul-assoc, mul-comm, mul-left-comm)))
+keep a b p q z = subst (λ (x : ℕ). a * (p * q) ≤ x * p) (same (a * q) b z) (le-of-eq (simp (mul-assoc, mul-comm)))
   where
     same : (x y : ℕ) → y ≡ 0 → x ≡ x - y
     same x y e = omega arith
@@ -111,7 +108,7 @@ le-add-minus0 f m e n d h z0 =
     let a = m * up e in
     let c = down e in
     let r = round f false a c in
-    let z : n * up d * c ≡ 0 = nought (n * up d) c z0 in
+    let z : n * up d * c ≡ 0 = zero-times (n * up d) c z0 in
     rw (sum-right f (m * up e * down d) (n * up d * down e) (down e * down d) (omega arith))
     (trans (fin false m e) r (round f false (a * down d - n * up d * c) (c * down d))
     (le-of-values (fin false m e) r a c a c (down-pos e) (down-pos e) (refl, refl) (self f false false m e h) (le-refl (a * c)))

@@ -1,7 +1,7 @@
 -- The values whose sign is clear and that are no `nan`: what `add`, `mul` and a square keep; and a rounded sum of two of them is no smaller than either. Assumes nothing.
 use mathlib.Core.Path.{_≡_, refl}
 use Prim.Native.Nat.{ℕ, suc, _+_, _-_, _*_, _^_, _≤_}
-use native.Mathlib.Nat.{le-trans, le-of-eq, mul-pos, mul-assoc, mul-comm, mul-left-comm, mul-le-mul-right, le-add-right}
+use native.Mathlib.Nat.{le-trans, le-of-eq, mul-pos, mul-assoc, mul-comm, mul-le-mul-right, le-add-right}
 use mathlib.Core.Bool.{Bool, true, false, not, cond, true≢false}
 use lib.IntN.{ℤ}
 use lib.Dec.{T, ltb}
@@ -59,7 +59,7 @@ square-plus f (fin s m e) h = mul-plus f m e m e s
 
 -- ---- a sum is no smaller than what it adds to
 more : (a b p q : ℕ) → a * (p * q) ≤ (a * q + b * p) * p
-more a b p q = le-trans (le-of-eq (simp (mul-assoc, mul-comm, mul-left-comm))) (mul-le-mul-right p (le-add-right (a * q) (b * p)))
+more a b p q = le-trans (le-of-eq (simp (mul-assoc, mul-comm))) (mul-le-mul-right p (le-add-right (a * q) (b * p)))
 
 pub add-clear : (f : Format) (m : ℕ) (e : ℤ) (n : ℕ) (d : ℤ) → add f (fin false m e) (fin false n d) ≡ round f false (m * up e * down d + n * up d * down e) (down e * down d)
 unfolding add sum

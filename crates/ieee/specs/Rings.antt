@@ -34,15 +34,15 @@ mul-commutes f (fin s m e) (fin t n d) =
     ∙ ap (λ (z : ℕ). round f (unlike t s) (n * up d * (m * up e)) z) (mul-comm (down e) (down d))
 
 -- the two tests a < b and b < a are not both passed, and where neither is, a = b
+both : (x y : ℕ) → x < y → y < x → ⊥
+both x y g h = omega arith
+
+level : (x y : ℕ) → y ≤ x → x ≤ y → x - y ≡ y - x
+level x y g h = omega arith
+
 apart : (f : Format) (s : Bool) (a b c : ℕ) → cond (ltb a b) (round f (not s) (b - a) c) (round f (s && ltb b a) (a - b) c) ≡ cond (ltb b a) (round f s (a - b) c) (round f (not s && ltb a b) (b - a) c)
 apart f s a b c = go s (ltb a b) (ltb b a) (ltb→lt a b) (ltb→lt b a) (nltb→le a b) (nltb→le b a)
   where
-    both : (x y : ℕ) → x < y → y < x → ⊥
-    both x y g h = omega arith
-
-    level : (x y : ℕ) → y ≤ x → x ≤ y → x - y ≡ y - x
-    level x y g h = omega arith
-
     go : (s u v : Bool) → (T u → a < b) → (T v → b < a) → (T (not u) → b ≤ a) → (T (not v) → a ≤ b)
         → cond u (round f (not s) (b - a) c) (round f (s && v) (a - b) c) ≡ cond v (round f s (a - b) c) (round f (not s && u) (b - a) c)
     go s true true p q r t = absurd (both a b (p tt) (q tt))
@@ -122,12 +122,6 @@ sq-round f false false a c = refl
 sq-apart : (f : Format) (s : Bool) (a b c : ℕ) → sq f (cond (ltb a b) (round f (not s) (b - a) c) (round f (s && ltb b a) (a - b) c)) ≡ sq f (cond (ltb b a) (round f (not s) (a - b) c) (round f (s && ltb a b) (b - a) c))
 sq-apart f s a b c = go (ltb a b) (ltb b a) (ltb→lt a b) (ltb→lt b a) (nltb→le a b) (nltb→le b a)
   where
-    both : (x y : ℕ) → x < y → y < x → ⊥
-    both x y g h = omega arith
-
-    level : (x y : ℕ) → y ≤ x → x ≤ y → x - y ≡ y - x
-    level x y g h = omega arith
-
     go : (u v : Bool) → (T u → a < b) → (T v → b < a) → (T (not u) → b ≤ a) → (T (not v) → a ≤ b)
         → sq f (cond u (round f (not s) (b - a) c) (round f (s && v) (a - b) c)) ≡ sq f (cond v (round f (not s) (a - b) c) (round f (s && u) (b - a) c))
     go true true p q r t = absurd (both a b (p tt) (q tt))
