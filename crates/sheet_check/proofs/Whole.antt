@@ -1,0 +1,143 @@
+-- What the test of a whole sheet finds, from its head, its parts and the bits behind them. Assumes nothing.
+use mathlib.Core.Path.{_≡_, refl, sym, ap, ap₂, _∙_, subst}
+use Prim.Native.Nat.{ℕ, zero, suc, _+_, _-_, _*_, _/_, _%_, _^_, _≤_, _<_}
+use native.Mathlib.Nat.{zero-div, mul-le-mul}
+use native.Mathlib.Omega.{arith}
+use mathlib.Core.Bool.{Bool, true, false, cond, _&&_, true≢false}
+use mathlib.Core.List.{List, [], _∷_}
+use lib.Dec.{leb, ltb, eqb}
+use lib.ListN.{length, drop, length-drop}
+use lib.Seq.{take-all}
+use borrow.Author.Tests.{le-leb, lt-leb, eq-eqb, ne-eqb, lt-ltb, le-ltb}
+use Rattle.bits.specs.Bits.{bits, bitsOf, num, fieldAt}
+use Rattle.bits.specs.Numbers.{bitsOf-num}
+use Rattle.bits.specs.Bytes.{length-bits}
+use Rattle.format.specs.Format.{Res, fault, got, next, Format, both, times, clear, refused, accepted, ended, readOf}
+use Rattle.format.specs.Reading.{both-fault, both-got}
+use Rattle.sheet_format.specs.Exact.{rest-lawful}
+use Rattle.sheet_format.specs.Headed.{header-rest, header-sized, header-long}
+use Rattle.sheet_format.specs.Sheet.{Edition, edition1, Header, component, Colour, Parts, whole, tile, header, rest, sheet, readSheet}
+use Rattle.sheet_check.specs.declared.Step.{Step}
+use Rattle.sheet_check.specs.declared.Step.the-variants.{Fault, At}
+use Rattle.sheet_check.specs.declared.Checked.{Checked}
+use Rattle.sheet_check.specs.declared.Checked.the-variants.{Refused, Sound}
+use Rattle.sheet_check.specs.Steps.{stepOf, stepAt, headOf, checkedOf}
+use Rattle.sheet_check.proofs.Turns.{step-at}
+
+-- ---- spare bits
+zero-bits : (n : ℕ) → clear (bitsOf n 0) ≡ true
+zero-bits zero = refl
+zero-bits (suc n) = ap (λ (m : ℕ). clear (eqb (m % 2) 1 ∷ bitsOf n 0)) (zero-div (2 ^ n)) ∙ zero-bits n
+
+num-clear : (l : List Bool) → clear l ≡ true → num l ≡ 0
+num-clear [] h = refl
+num-clear (true ∷ l) h = absurd (true≢false (sym h))
+num-clear (false ∷ l) h = num-clear l h
+
+clear-num : (l : List Bool) → clear l ≡ eqb (num l) 0
+clear-num l = go (clear l) refl (num l) refl
+  where
+    go : (b : Bool) → clear l ≡ b → (n : ℕ) → num l ≡ n → b ≡ eqb n 0
+    go true h n e = sym (eq-eqb n 0 (sym e ∙ num-clear l h))
+    go false h zero e = absurd (true≢false (sym (zero-bits (length l)) ∙ ap clear (ap (bitsOf (length l)) (sym e) ∙ bitsOf-num (length l) l refl) ∙ h))
+    go false h (suc n) e = sym (ne-eqb (suc n) 0 (omega arith))
+
+module _ (s : List ℕ) (p : ℕ) where
+  left : length (drop p (bits s)) ≡ 8 * length s - p
+  left = length-drop p (bits s) ∙ ap (λ (n : ℕ). n - p) (length-bits s)
+
+  pub spare-some : (w : ℕ) → 8 * length s - p < 8 → w ≡ fieldAt (bits s) p (8 * length s - p) → eqb w 0 ≡ (ltb (length (drop p (bits s))) 8 && clear (drop p (bits s)))
+  spare-some w h e =
+      ap (λ (n : ℕ). eqb n 0) (e ∙ ap num (take-all (8 * length s - p) (drop p (bits s)) (omega (arith, left))))
+      ∙ sym (clear-num (drop p (bits s)))
+      ∙ sym (ap (λ (b : Bool). b && clear (drop p (bits s))) (lt-ltb (length (drop p (bits s))) 8 (omega (arith, left))))
+
+  pub spare-bytes : 8 ≤ 8 * length s - p → false ≡ (ltb (length (drop p (bits s))) 8 && clear (drop p (bits s)))
+  spare-bytes h = sym (ap (λ (b : Bool). b && clear (drop p (bits s))) (le-ltb (length (drop p (bits s))) 8 (omega (arith, left))))
+
+-- ---- the palette and the tiles
+module _ (E : Edition) (s : List ℕ) (p n t : ℕ) where
+  forget : (w : List Bool) (a : List ℕ) (x : Res (List (List Colour))) → stepOf {A = List ℕ × List (List Colour)} w (next x (λ b q. got (a, b) q)) ≡ stepOf w x
+  forget w a (fault m) = refl
+  forget w a (got b r) = refl
+
+  pub rest-fault : (f : ℕ) → times n component .parse (drop p (bits s)) ≡ fault f → stepAt (rest E n t) s p ≡ Fault f
+  rest-fault f e = ap (stepOf (bits s)) (both-fault (times n component) (λ p. times t (tile E)) (drop p (bits s)) f e)
+
+  pub rest-got : (a : List ℕ) (q : ℕ) → times n component .parse (drop p (bits s)) ≡ got a (drop q (bits s)) → stepAt (rest E n t) s p ≡ stepAt (times t (tile E)) s q
+  rest-got a q e =
+      ap (stepOf (bits s)) (both-got (times n component) (λ p. times t (tile E)) (drop p (bits s)) a (drop q (bits s)) (times t (tile E) .parse (drop q (bits s))) e refl)
+      ∙ forget (bits s) a (times t (tile E) .parse (drop q (bits s)))
+
+-- ---- the head's answer, taken apart
+refused-is : (n m : ℕ) → _≡_ {A = Checked} (Refused n) (Refused m) → n ≡ m
+refused-is n m e = cc
+
+refused-not : (n a b t w : ℕ) → _≡_ {A = Checked} (Refused n) (Sound a b t w) → ⊥
+refused-not n a b t w e = let z : _≡_ {A = ℕ} 0 1 = cc in omega arith
+
+sound-is : (a b t w c d u v : ℕ) → _≡_ {A = Checked} (Sound a b t w) (Sound c d u v) → (a ≡ c) × (b ≡ d) × (t ≡ u) × (w ≡ v)
+sound-is a b t w c d u v e = (cc, cc, cc, cc)
+
+pub head-fault : (x : Res Header) (n : ℕ) → Refused n ≡ headOf x → x ≡ fault n
+head-fault (fault m) n e = ap fault (sym (refused-is n m e))
+head-fault (got h r) n e = absurd (refused-not n (h .0) (h .1 .0) (h .1 .1 .0) (h .1 .1 .1) e)
+
+pub head-got : (x : Res Header) (a b t w : ℕ) → Sound a b t w ≡ headOf x → (r : List Bool) × (x ≡ got (a, (b, (t, w))) r)
+head-got (fault m) a b t w e = absurd (refused-not m a b t w (sym e))
+head-got (got h r) a b t w e =
+    let k = sound-is a b t w (h .0) (h .1 .0) (h .1 .1 .0) (h .1 .1 .1) e in
+    (r, ap (λ (y : Header). got y r) (sym (ap₂ {C = Header} (λ i j. (i, j)) (k .0) (ap₂ {C = ℕ × (ℕ × ℕ)} (λ i j. (i, j)) (k .1) (ap₂ {C = ℕ × ℕ} (λ i j. (i, j)) (k .2) (k .3))))))
+
+-- a head that was read: its fields, where it ends, its sizes
+pub record Headed (s : List ℕ) (a b t w : ℕ) : Type 0 where
+  pub reads : header edition1 .parse (bits s) ≡ got (a, (b, (t, w))) (drop 86 (bits s))
+  pub long : 86 ≤ 8 * length s
+  pub cells : a * b ≤ 256
+
+pub headed-of : (s : List ℕ) (a b t w : ℕ) → Sound a b t w ≡ headOf (header edition1 .parse (bits s)) → Headed s a b t w
+headed-of s a b t w e =
+    let (r, x) = head-got (header edition1 .parse (bits s)) a b t w e in
+    record {
+      reads = x ∙ ap (got (a, (b, (t, w)))) (header-rest edition1 (bits s) (a, (b, (t, w))) r x);
+      long = omega (arith, header-long edition1 (bits s) (a, (b, (t, w))) r x, length-bits s);
+      cells = header-sized edition1 (bits s) (a, (b, (t, w))) r x .cells;
+    }
+
+-- the palette and the tiles that were read behind it, up to bit z
+pub record Parted (s : List ℕ) (n t z : ℕ) : Type 0 where
+  pub parts : List ℕ × List (List Colour)
+  pub reads : rest edition1 n t .parse (drop 86 (bits s)) ≡ got parts (drop z (bits s))
+  pub reach : z ≤ 8 * length s
+
+pub parted-of : (s : List ℕ) (n t z : ℕ) → 86 ≤ 8 * length s → At z ≡ stepAt (rest edition1 n t) s 86 → Parted s n t z
+parted-of s n t z h e =
+    let (x, y, l) = step-at (rest edition1 n t) (rest-lawful edition1 n t) (bits s) 86 (rw length-bits h) z e in
+    record { parts = x; reads = y; reach = omega (arith, l, length-bits s) }
+
+-- ---- the whole
+module _ (E : Edition) (s : List ℕ) where
+  pub read-long : 65536 < length s → Refused 13 ≡ checkedOf (readSheet E s)
+  read-long h = sym (ap (λ (b : Bool). checkedOf (cond b (readOf (sheet E) s) (refused 13))) (lt-leb (length s) 65536 h))
+
+  module _ (fits : length s ≤ 65536) where
+    abbrev behind : Header → Format (List ℕ × List (List Colour))
+    behind h = rest E (3 * (h .0 * h .1 .0)) (h .1 .1 .0)
+
+    read-is : (x : Res Parts) → both (header E) behind .parse (bits s) ≡ x → checkedOf (readSheet E s) ≡ checkedOf (ended (next x (λ y r. got (whole y) r)))
+    read-is x e =
+        ap (λ (b : Bool). checkedOf (cond b (readOf (sheet E) s) (refused 13))) (le-leb (length s) 65536 fits)
+        ∙ ap (λ (o : Res Parts). checkedOf (ended (next o (λ y r. got (whole y) r)))) e
+
+    pub read-head : (n : ℕ) → header E .parse (bits s) ≡ fault n → Refused n ≡ checkedOf (readSheet E s)
+    read-head n e = sym (read-is (fault n) (both-fault (header E) behind (bits s) n e))
+
+    module _ (a b t w : ℕ) (r : List Bool) (head : header E .parse (bits s) ≡ got (a, (b, (t, w))) r) where
+      pub read-rest : (n : ℕ) → rest E (3 * (a * b)) t .parse r ≡ fault n → Refused n ≡ checkedOf (readSheet E s)
+      read-rest n e = sym (read-is (fault n) (both-got (header E) behind (bits s) (a, (b, (t, w))) r (fault n) head e))
+
+      pub read-end : (x : List ℕ × List (List Colour)) (q : List Bool) (o : Bool) → rest E (3 * (a * b)) t .parse r ≡ got x q → (ltb (length q) 8 && clear q) ≡ o
+          → checkedOf (cond o (accepted (whole ((a, (b, (t, w))), x))) (refused 13)) ≡ checkedOf (readSheet E s)
+      read-end x q o e f =
+          sym (read-is (got ((a, (b, (t, w))), x) q) (both-got (header E) behind (bits s) (a, (b, (t, w))) r (got x q) head e)
+          ∙ ap (λ (i : Bool). checkedOf (cond i (accepted (whole ((a, (b, (t, w))), x))) (refused 13))) f)

@@ -1,0 +1,97 @@
+-- `check` meets its contract: the head's faults come first, then those of the palette and the tiles, then what is left behind them. Assumes nothing.
+use Prim.Native.Nat.{_*_}
+use mathlib.Core.Path.{sym, _∙_}
+use mathlib.Core.Bool.{true, false}
+use native.Mathlib.Omega.{arith}
+use Rattle.bits.specs.Bits.{bits}
+use Rattle.sheet_format.specs.Sheet.{edition1}
+use Rattle.sheet_check.proofs.Turns.{step-fault}
+use Rattle.sheet_check.proofs.Whole.{head-fault, Headed, headed-of, Parted, parted-of, read-long, read-head, read-rest, read-end}
+use borrow.Author.Needs.{needs}
+use Rattle.sheet_check.proofs.check.Statement.{statement}
+use Rattle.sheet_check.proofs.check.Tie as tie
+
+returns : tie.Need-returns
+returns c = read-long edition1 (c .before .before .args .s .now) (c .if1 .taken)
+
+head-requires : tie.Need-head-requires
+head-requires c κs = search needs
+
+enum-known-f : tie.Need-enum-known-f
+enum-known-f c = search needs
+
+enum-known-subs : tie.Need-enum-known-subs
+enum-known-subs c = search needs
+
+-- the head that was read
+headed : (c : tie.After-known-told2) → Headed (c .before .before .before .before .before .before .args .s .now) (c .before .subs .given .0 .0) (c .before .subs .given .0 .1 .0) (c .before .subs .given .0 .1 .1 .0) (c .before .subs .given .0 .1 .1 .1 .0)
+headed c =
+    headed-of (c .before .before .before .before .before .before .args .s .now) (c .before .subs .given .0 .0) (c .before .subs .given .0 .1 .0) (c .before .subs .given .0 .1 .1 .0) (c .before .subs .given .0 .1 .1 .1 .0)
+    (sym (c .before .subs .given .1) ∙ c .before .before .before .head .ensures)
+
+-- and the palette and the tiles behind it
+parted : (c : tie.After-known-told4) → Parted (c .before .before .before .before .before .before .before .before .before .before .args .s .now) (3 * (c .before .before .before .before .before .subs .given .0 .0 * c .before .before .before .before .before .subs .given .0 .1 .0)) (c .before .before .before .before .before .subs .given .0 .1 .1 .0) (c .before .z .given .0 .0)
+parted c =
+    parted-of (c .before .before .before .before .before .before .before .before .before .before .args .s .now) (3 * (c .before .before .before .before .before .subs .given .0 .0 * c .before .before .before .before .before .subs .given .0 .1 .0)) (c .before .before .before .before .before .subs .given .0 .1 .1 .0) (c .before .z .given .0 .0)
+    (headed (c .before .before .before .before) .long) (sym (c .before .z .given .1) ∙ c .before .before .before .palette-then-tiles .ensures)
+
+mul-n : tie.Need-mul-n
+mul-n c = omega (arith, headed c .cells)
+
+mul-n-2 : tie.Need-mul-n-2
+mul-n-2 c = omega (arith, headed c .cells)
+
+cast-palette-then-tiles : tie.Need-cast-palette-then-tiles
+cast-palette-then-tiles c = omega (arith, headed c .cells)
+
+cast-palette-then-tiles-2 : tie.Need-cast-palette-then-tiles-2
+cast-palette-then-tiles-2 c = search needs
+
+palette-then-tiles-requires : tie.Need-palette-then-tiles-requires
+palette-then-tiles-requires c κs = (omega arith, headed c .long)
+
+enum-known-f-2 : tie.Need-enum-known-f-2
+enum-known-f-2 c = search needs
+
+enum-known-z : tie.Need-enum-known-z
+enum-known-z c = search needs
+
+only-spare-requires : tie.Need-only-spare-requires
+only-spare-requires c κs = (omega arith, parted c .reach)
+
+returns-2 : tie.Need-returns-2
+returns-2 c = read-head edition1 (c .before .before .before .before .before .before .args .s .now) (omega arith) (c .before .f .given .0 .0) (head-fault _ (c .before .f .given .0 .0) (sym (c .before .f .given .1) ∙ c .before .before .before .head .ensures))
+
+returns-3 : tie.Need-returns-3
+returns-3 c =
+    read-rest edition1 (c .before .before .before .before .before .before .before .before .before .before .args .s .now) (omega arith) (c .before .before .before .before .before .subs .given .0 .0) (c .before .before .before .before .before .subs .given .0 .1 .0) (c .before .before .before .before .before .subs .given .0 .1 .1 .0) (c .before .before .before .before .before .subs .given .0 .1 .1 .1 .0) _ (headed (c .before .before .before .before) .reads) (c .before .f2 .given .0 .0)
+    (step-fault (bits (c .before .before .before .before .before .before .before .before .before .before .args .s .now)) _ (c .before .f2 .given .0 .0) (sym (c .before .f2 .given .1) ∙ c .before .before .before .palette-then-tiles .ensures))
+
+returns-4 : tie.Need-returns-4
+returns-4 c =
+    read-end edition1 (c .before .before .before .before .before .before .before .before .before .before .before .before .args .s .now) (omega arith) (c .before .before .before .before .before .before .before .subs .given .0 .0) (c .before .before .before .before .before .before .before .subs .given .0 .1 .0) (c .before .before .before .before .before .before .before .subs .given .0 .1 .1 .0) (c .before .before .before .before .before .before .before .subs .given .0 .1 .1 .1 .0) _ (headed (c .before .before .before .before .before .before) .reads) (parted (c .before .before) .parts) _ true (parted (c .before .before) .reads) (sym (c .before .only-spare .ensures) ∙ c .if2 .taken)
+
+returns-5 : tie.Need-returns-5
+returns-5 c =
+    read-end edition1 (c .before .before .before .before .before .before .before .before .before .before .before .before .args .s .now) (omega arith) (c .before .before .before .before .before .before .before .subs .given .0 .0) (c .before .before .before .before .before .before .before .subs .given .0 .1 .0) (c .before .before .before .before .before .before .before .subs .given .0 .1 .1 .0) (c .before .before .before .before .before .before .before .subs .given .0 .1 .1 .1 .0) _ (headed (c .before .before .before .before .before .before) .reads) (parted (c .before .before) .parts) _ false (parted (c .before .before) .reads) (sym (c .before .only-spare .ensures) ∙ c .if2 .left)
+
+pub check-spec : {M : Type 1} → statement M
+check-spec =
+    tie.close
+    (tie.spec
+    returns
+    head-requires
+    enum-known-f
+    enum-known-subs
+    mul-n
+    mul-n-2
+    cast-palette-then-tiles
+    cast-palette-then-tiles-2
+    palette-then-tiles-requires
+    enum-known-f-2
+    enum-known-z
+    only-spare-requires
+    returns-2
+    returns-3
+    returns-4
+    returns-5)

@@ -1,0 +1,95 @@
+-- `head` meets its contract, by each of its tests. Assumes nothing.
+use mathlib.Core.Path.{sym, ap, _∙_}
+use native.Mathlib.Omega.{arith}
+use borrow.Author.Tests.{not-true, not-false}
+use Rattle.bits.specs.Bits.{bits}
+use Rattle.bits.specs.Bytes.{length-bits}
+use Rattle.bits.specs.Fields.{field-lt}
+use Rattle.sheet_format.specs.Sheet.{edition1}
+use Rattle.sheet_check.specs.Steps.{headOf}
+use Rattle.sheet_check.proofs.Heads.{opening-short, opening-wrong, edition-short, edition-wrong, sizes-short, weight-wrong, head-read}
+use borrow.Author.Needs.{needs}
+use Rattle.sheet_check.proofs.head.Statement.{statement}
+use Rattle.sheet_check.proofs.head.Tie as tie
+
+mul-end : tie.Need-mul-end
+mul-end c = search needs
+
+returns : tie.Need-returns
+returns c = sym (ap headOf (opening-short edition1 (c .before .before .args .s .now) (omega arith)))
+
+get-requires : tie.Need-get-requires
+get-requires c κs = search needs
+
+returns-2 : tie.Need-returns-2
+returns-2 c = sym (ap headOf (opening-wrong edition1 (c .before .before .before .before .args .s .now) (c .before .get .result) (omega arith) (c .before .get .ensures) (c .if2 .taken)))
+
+returns-3 : tie.Need-returns-3
+returns-3 c = sym (ap headOf (edition-short edition1 (c .before .before .before .before .before .args .s .now) (c .before .before .get .result) (c .before .before .get .ensures) (c .before .if2 .left) (omega arith) (omega arith)))
+
+get-requires-2 : tie.Need-get-requires-2
+get-requires-2 c κs = search needs
+
+returns-4 : tie.Need-returns-4
+returns-4 c = sym (ap headOf (edition-wrong edition1 (c .before .before .before .before .before .before .before .args .s .now) (c .before .before .before .before .get .result) (c .before .before .before .before .get .ensures) (c .before .before .before .if2 .left) (c .before .get2 .result) (omega arith) (c .before .get2 .ensures) (c .if4 .taken)))
+
+returns-5 : tie.Need-returns-5
+returns-5 c = sym (ap headOf (sizes-short edition1 (c .before .before .before .before .before .before .before .before .args .s .now) (c .before .before .before .before .before .get .result) (c .before .before .before .before .before .get .ensures) (c .before .before .before .before .if2 .left) (c .before .before .get2 .result) (c .before .before .get2 .ensures) (c .before .if4 .left) (omega arith) (omega arith)))
+
+get-requires-3 : tie.Need-get-requires-3
+get-requires-3 c κs = search needs
+
+is-weight-requires : tie.Need-is-weight-requires
+is-weight-requires c κs = search needs
+
+returns-6 : tie.Need-returns-6
+returns-6 c =
+    sym (ap headOf (weight-wrong edition1 (c .before .before .before .before .before .before .before .before .before .before .before .args .s .now) (c .before .before .before .before .before .before .before .before .get .result) (c .before .before .before .before .before .before .before .before .get .ensures) (c .before .before .before .before .before .before .before .if2 .left) (c .before .before .before .before .before .get2 .result) (c .before .before .before .before .before .get2 .ensures) (c .before .before .before .before .if4 .left) (c .before .before .get3 .result) (omega arith) (c .before .before .get3 .ensures)
+    (sym (c .before .is-weight .ensures) ∙ not-true (c .before .is-weight .result) (c .if6 .taken))))
+
+get-requires-4 : tie.Need-get-requires-4
+get-requires-4 c κs = search needs
+
+add-t8 : tie.Need-add-t8
+add-t8 c = omega (arith, c .get4 .ensures, field-lt (bits (c .before .before .before .before .before .before .before .before .before .before .before .before .args .s .now)) 36 4 4 (rw length-bits (omega arith)) (omega arith))
+
+get-requires-5 : tie.Need-get-requires-5
+get-requires-5 c κs = search needs
+
+add-t10 : tie.Need-add-t10
+add-t10 c = omega (arith, c .get5 .ensures, field-lt (bits (c .before .before .before .before .before .before .before .before .before .before .before .before .before .args .s .now)) 40 4 4 (rw length-bits (omega arith)) (omega arith))
+
+get-requires-6 : tie.Need-get-requires-6
+get-requires-6 c κs = search needs
+
+add-t12 : tie.Need-add-t12
+add-t12 c = omega (arith, c .get6 .ensures, field-lt (bits (c .before .before .before .before .before .before .before .before .before .before .before .before .before .before .args .s .now)) 44 10 10 (rw length-bits (omega arith)) (omega arith))
+
+returns-7 : tie.Need-returns-7
+returns-7 c =
+    sym (ap headOf (head-read edition1 (c .before .before .before .before .before .before .before .before .before .before .before .before .before .before .args .s .now) (c .before .before .before .before .before .before .before .before .before .before .before .get .result) (c .before .before .before .before .before .before .before .before .before .before .before .get .ensures) (c .before .before .before .before .before .before .before .before .before .before .if2 .left) (c .before .before .before .before .before .before .before .before .get2 .result) (c .before .before .before .before .before .before .before .before .get2 .ensures) (c .before .before .before .before .before .before .before .if4 .left) (c .before .before .before .before .before .get3 .result) (omega arith) (c .before .before .before .before .before .get3 .ensures)
+    (sym (c .before .before .before .before .is-weight .ensures) ∙ not-false (c .before .before .before .before .is-weight .result) (c .before .before .before .if6 .left))
+    (c .before .before .get4 .result) (c .before .get5 .result) (c .get6 .result) (c .before .before .get4 .ensures) (c .before .get5 .ensures) (c .get6 .ensures)))
+
+pub head-spec : {M : Type 1} → statement M
+head-spec =
+    tie.close
+    (tie.spec
+    mul-end
+    returns
+    get-requires
+    returns-2
+    returns-3
+    get-requires-2
+    returns-4
+    returns-5
+    get-requires-3
+    is-weight-requires
+    returns-6
+    get-requires-4
+    add-t8
+    get-requires-5
+    add-t10
+    get-requires-6
+    add-t12
+    returns-7)

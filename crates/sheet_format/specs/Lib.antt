@@ -1,0 +1,4 @@
+pub mod Sheet
+pub mod Exact
+pub mod Headed
+pub mod Example

@@ -1,0 +1,100 @@
+-- The fit sheet as a format, over its edition: what is read and written, in field order. Definitions only. Assumes nothing.
+use Prim.Native.Nat.{ℕ, zero, suc, _+_, _*_}
+use mathlib.Core.Bool.{Bool, true, cond}
+use mathlib.Core.List.{List}
+use lib.Dec.{leb}
+use lib.ListN.{length}
+use Rattle.format.specs.Format.{Format, field, checked, mapped, above, both, literal, none, cons, times, counted, Answer, refused, readOf}
+use Rattle.pattern.specs.Pattern.{small, weighs}
+
+-- what differs between editions: its number, the pixels of a tile, the bits of a tile's number of colours and of a count less one
+pub record Edition : Type 0 where
+  pub number : ℕ
+  pub size : ℕ
+  pub many : ℕ
+  pub each : ℕ
+
+abbrev pub edition1 : Edition
+edition1 = record { number = 1; size = 64; many = 7; each = 6 }
+
+abbrev pub component : Format ℕ
+component = checked 7 small (field 32)
+
+-- a colour of a tile: its count, and three components
+abbrev pub Colour : Type 0
+Colour = ℕ × List ℕ
+
+-- S, C, T and the weight's pattern
+abbrev pub Header : Type 0
+Header = ℕ × (ℕ × (ℕ × ℕ))
+
+-- from the back: the weight; T before it; C before those; S before those
+abbrev pub weight : Format ℕ
+weight = checked 4 weighs (field 32)
+
+abbrev pub tiled : Format (ℕ × ℕ)
+tiled = both (above 10) (λ t. weight)
+
+abbrev pub coloured : Format (ℕ × (ℕ × ℕ))
+coloured = both (above 4) (λ c. tiled)
+
+abbrev pub sized : Format Header
+sized = both (above 4) (λ s. coloured)
+
+pub record Sheet : Type 0 where
+  pub subs : ℕ
+  pub each : ℕ
+  pub tiles : ℕ
+  pub weight : ℕ
+  pub palette : List ℕ
+  pub content : List (List Colour)
+
+abbrev pub Parts : Type 0
+Parts = Header × (List ℕ × List (List Colour))
+
+abbrev pub whole : Parts → Sheet
+whole p = record {
+  subs = p .0 .0;
+  each = p .0 .1 .0;
+  tiles = p .0 .1 .1 .0;
+  weight = p .0 .1 .1 .1;
+  palette = p .1 .0;
+  content = p .1 .1;
+}
+
+abbrev pub parts : Sheet → Parts
+parts x = ((x .subs, (x .each, (x .tiles, x .weight))), (x .palette, x .content))
+
+module _ (E : Edition) where
+  -- the next colour of a tile whose counts before it add up to sum
+  abbrev pub entry : ℕ → Format Colour
+  entry sum = both (checked 6 (λ c. leb (sum + c) (E .size)) (above (E .each))) (λ c. times 3 component)
+
+  abbrev pub colours : ℕ → ℕ → Format (List Colour)
+  colours zero sum = none
+  colours (suc n) sum = cons (entry sum) (λ x. colours n (sum + x .0))
+
+  abbrev pub tile : Format (List Colour)
+  tile = counted (checked 5 (λ n. leb n (E .size)) (field (E .many))) (λ n. colours n 0)
+
+  -- the edition, then the sizes; and the opening before them
+  abbrev pub dated : Format Header
+  dated = literal 4 (E .number) 12 sized
+
+  abbrev pub header : Format Header
+  header = literal 32 0x5446_4954 12 dated
+
+  -- the palette's n components, then t tiles
+  abbrev pub rest : ℕ → ℕ → Format (List ℕ × List (List Colour))
+  rest n t = both (times n component) (λ p. times t tile)
+
+  abbrev pub sheet : Format Sheet
+  sheet = mapped whole parts (λ x. true) (both header λ h. rest (3 * (h .0 * h .1 .0)) (h .1 .1 .0))
+
+  -- the bytes of a sheet, read
+  abbrev pub readSheet : List ℕ → Answer Sheet
+  readSheet s = cond (leb (length s) 65536) (readOf sheet s) (refused 13)
+
+  -- the bits of a sheet of s subpalettes of c colours, and t tiles of n colours in all
+  abbrev pub sizeOf : ℕ → ℕ → ℕ → ℕ → ℕ
+  sizeOf s c t n = 86 + 96 * (s * c) + E .many * t + (E .each + 96) * n
