@@ -3,7 +3,7 @@
 use std::cell::Cell;
 use std::rc::Rc;
 
-use terms::{Colour, Entry, Fit, FitTwo, Grouped, Job, Ran, Reduce, Rust, Stop, Tile};
+use terms::{Colour, Edit, Entry, Fit, FitTwo, Grouped, Job, Ran, Reduce, Rust, Stop, Tile};
 
 use super::super::palette::{Palette, Settings, SubpaletteView};
 use super::super::{Sample, TileData, extract, quantizer, stats};
@@ -141,6 +141,17 @@ impl Rust for crate::Door {
         nudged.nudge(&tile, &sample, alpha);
         *palette = colours_of(&nudged);
         tile.sp_hint.get()
+    }
+
+    fn edit(&self, palette: &mut terms::Palette, edit: Edit) {
+        let mut edited = palette_of(palette);
+        match edit {
+            Edit::DuplicatePalette(from) => edited.duplicate_palette(from),
+            Edit::DuplicateColor { sub, from } => edited.duplicate_color(sub, from),
+            Edit::CopySubpalette { from, to } => edited.copy_subpalette(from, to),
+            Edit::CopyColor { sub, from, to } => edited.copy_color(sub, from, to),
+        }
+        *palette = colours_of(&edited);
     }
 
     fn assign(&self, palette: &terms::Palette, tiles: &[Tile], hints: &mut [usize]) -> Vec<usize> {

@@ -1,7 +1,7 @@
 //! Our functions, through the forwarders of crate `probe`. A slice is a pointer and a length.
 //! Each wrapper's caller meets what the function requires; the cases are made so.
 
-use terms::{Colour, Fit, Palette, Tile};
+use terms::{Colour, Edit, Fit, FitTwo, Palette, Tile};
 
 mod raw {
     unsafe extern "C" {
@@ -50,6 +50,38 @@ mod raw {
             t: usize,
             dist: &mut f32,
         ) -> usize;
+        pub fn probe_nearest_two(
+            sub: *const f32,
+            sub_len: usize,
+            l: f32,
+            a: f32,
+            b: f32,
+            weight: f32,
+            dist: &mut f32,
+            second: &mut f32,
+        ) -> usize;
+        pub fn probe_best_two(
+            pal: *const f32,
+            pal_len: usize,
+            c: usize,
+            have: usize,
+            n: usize,
+            tile: *const f32,
+            tile_len: usize,
+            counts: *const u32,
+            counts_len: usize,
+            weight: f32,
+            hints: *mut u32,
+            hints_len: usize,
+            t: usize,
+            dist: &mut f32,
+            second: &mut f32,
+        ) -> usize;
+        pub fn probe_nudge(pal: *mut f32, len: usize, place: usize, l: f32, a: f32, b: f32, alpha: f32);
+        pub fn probe_copy_color(pal: *mut f32, len: usize, c: usize, i: usize, from: usize, to: usize);
+        pub fn probe_duplicate_color(pal: *mut f32, len: usize, c: usize, have: usize, i: usize, from: usize);
+        pub fn probe_copy_subpalette(pal: *mut f32, len: usize, c: usize, have: usize, from: usize, to: usize);
+        pub fn probe_duplicate_palette(pal: *mut f32, len: usize, c: usize, have: usize, n: usize, from: usize);
     }
 }
 
@@ -130,6 +162,13 @@ pub fn nearest(sub: &[Colour], q: Colour, weight: f32) -> (usize, f32) {
     (index, dist)
 }
 
+pub fn nearest_two(sub: &[Colour], q: Colour, weight: f32) -> (usize, f32, f32) {
+    let (flat, mut dist, mut second) = (sub.as_flattened(), 0.0, 0.0);
+    let index =
+        unsafe { raw::probe_nearest_two(flat.as_ptr(), flat.len(), q[0], q[1], q[2], weight, &mut dist, &mut second) };
+    (index, dist, second)
+}
+
 pub fn tile_distance(sub: &[Colour], tile: &Tile, weight: f32) -> f32 {
     let (sub, colours, counts) = (sub.as_flattened(), tile.colours.as_flattened(), &tile.counts);
     unsafe {
@@ -156,12 +195,39 @@ pub struct Flat {
 
 impl Flat {
     pub fn new(palette: &Palette, room: usize) -> Self {
+        Flat::with_places(palette, room, palette.len())
+    }
+
+    /// With room for `places` subpalettes, those that are not there yet at the end.
+    pub fn with_places(palette: &Palette, room: usize, places: usize) -> Self {
         let (subs, have) = (palette.len(), palette[0].len());
-        let mut numbers = vec![f32::NAN; 3 * subs * room];
+        let mut numbers = vec![f32::NAN; 3 * places * room];
         for (i, sub) in palette.iter().enumerate() {
-            numbers[3 * i * room..3 * (i * room + have)].copy_from_slice(sub.as_flattened());
+            numbers[3 * i * room..3 * (i * room + sub.len())].copy_from_slice(sub.as_flattened());
         }
         Flat { numbers, room, have, subs }
+    }
+
+    pub fn sub(&self, i: usize) -> &[Colour] {
+        &self.numbers.as_chunks().0[i * self.room..][..self.have]
+    }
+
+    pub fn nudge(&mut self, place: usize, target: Colour, alpha: f32) {
+        let (pal, [l, a, b]) = (&mut self.numbers, target);
+        unsafe { raw::probe_nudge(pal.as_mut_ptr(), pal.len(), place, l, a, b, alpha) };
+    }
+
+    pub fn edit(&mut self, edit: Edit) {
+        let (c, have, n) = (self.room, self.have, self.subs);
+        let (pal, len) = (self.numbers.as_mut_ptr(), self.numbers.len());
+        unsafe {
+            match edit {
+                Edit::DuplicatePalette(from) => raw::probe_duplicate_palette(pal, len, c, have, n, from),
+                Edit::DuplicateColor { sub, from } => raw::probe_duplicate_color(pal, len, c, have, sub, from),
+                Edit::CopySubpalette { from, to } => raw::probe_copy_subpalette(pal, len, c, have, from, to),
+                Edit::CopyColor { sub, from, to } => raw::probe_copy_color(pal, len, c, sub, from, to),
+            }
+        }
     }
 }
 
@@ -187,4 +253,30 @@ pub fn best_fit(palette: &Flat, tile: &Tile, weight: f32, hints: &mut [u32], t: 
         )
     };
     Fit { index, dist, hint: hints[t] as usize }
+}
+
+/// A tile that may be empty, by the hint at place t of some.
+pub fn best_two(palette: &Flat, tile: &Tile, weight: f32, hints: &mut [u32], t: usize) -> FitTwo {
+    let (colours, counts) = (tile.colours.as_flattened(), &tile.counts);
+    let [mut dist, mut second] = [0.0; 2];
+    let index = unsafe {
+        raw::probe_best_two(
+            palette.numbers.as_ptr(),
+            palette.numbers.len(),
+            palette.room,
+            palette.have,
+            palette.subs,
+            colours.as_ptr(),
+            colours.len(),
+            counts.as_ptr(),
+            counts.len(),
+            weight,
+            hints.as_mut_ptr(),
+            hints.len(),
+            t,
+            &mut dist,
+            &mut second,
+        )
+    };
+    FitTwo { index, dist, second, hint: hints[t] as usize }
 }

@@ -29,11 +29,20 @@ impl Tally {
 /// Equal bit for bit. The bits of a NaN are not compared: they are the processor's.
 pub trait Same {
     fn same(&self, other: &Self) -> bool;
+
+    /// Equal in every bit: for memory that is only carried about.
+    fn untouched(&self, other: &Self) -> bool {
+        self.same(other)
+    }
 }
 
 impl Same for f32 {
     fn same(&self, other: &f32) -> bool {
         self.to_bits() == other.to_bits() || (self.is_nan() && other.is_nan())
+    }
+
+    fn untouched(&self, other: &f32) -> bool {
+        self.to_bits() == other.to_bits()
     }
 }
 
@@ -50,6 +59,10 @@ same_as_equal!(u8, u32, u64, usize, bool);
 impl<T: Same> Same for [T] {
     fn same(&self, other: &[T]) -> bool {
         self.len() == other.len() && self.iter().zip(other).all(|(a, b)| a.same(b))
+    }
+
+    fn untouched(&self, other: &[T]) -> bool {
+        self.len() == other.len() && self.iter().zip(other).all(|(a, b)| a.untouched(b))
     }
 }
 

@@ -51,6 +51,15 @@ pub struct FitTwo {
     pub hint: usize,
 }
 
+/// An edit of a palette, by indexes of subpalettes and colours.
+#[derive(Clone, Copy, Debug)]
+pub enum Edit {
+    DuplicatePalette(usize),
+    DuplicateColor { sub: usize, from: usize },
+    CopySubpalette { from: usize, to: usize },
+    CopyColor { sub: usize, from: usize, to: usize },
+}
+
 /// What can be seen at a stop: the palette before its reduction, and the hints.
 #[derive(Clone, Debug)]
 pub struct Stop {
@@ -100,6 +109,7 @@ pub trait Rust {
     fn mse(&self, palette: &Palette, tiles: &[Tile], hints: &mut [usize]) -> f32;
     /// Fits the tile, then nudges the nearest colour of the winner. Gives the hint left behind.
     fn nudge(&self, palette: &mut Palette, tile: &Tile, hint: usize, target: Colour, alpha: f32) -> usize;
+    fn edit(&self, palette: &mut Palette, edit: Edit);
     fn assign(&self, palette: &Palette, tiles: &[Tile], hints: &mut [usize]) -> Vec<usize>;
     /// Groups the pixels of one tile; `host::name` has told the Oklab of each reduced colour.
     fn group(&self, pixels: &[[u8; 4]], zero: Option<[u8; 4]>) -> Grouped;

@@ -1,16 +1,24 @@
-//! Distances and fits.
+//! Distances, fits, and edits of a flat palette.
 
 use answers::{probed, rust};
 use terms::jobs::{self, Colours};
 use terms::rng::Rng;
-use terms::{Fit, Palette, Tile};
+use terms::{Edit, Fit, FitTwo, Palette, Tile};
 
 use super::{Kind, kind};
 use crate::ours::{self, Flat};
 use crate::tally::Tally;
 
-pub const KINDS: &[Kind] =
-    &[kind("nearest", 50_000, nearest), kind("tile distance", 20_000, distance), kind("best_fit", 6_000, best_fit)];
+pub const KINDS: &[Kind] = &[
+    kind("nearest", 50_000, nearest),
+    kind("nearest_two", 50_000, nearest_two),
+    kind("tile distance", 20_000, distance),
+    kind("best_fit", 10_000, best_fit),
+    kind("best_two", 10_000, best_two),
+    kind("nudge", 50_000, nudge),
+    kind("one draw", 20_000, draw),
+    kind("edits", 20_000, edits),
+];
 
 /// A palette that a run may hold, a tile, and the weight.
 struct Case {
@@ -51,6 +59,14 @@ fn nearest(rng: &mut Rng, _: u64, tally: &mut Tally) {
     tally.same(ours::nearest(&sub, q, weight), rust(weight).nearest(&sub, q), shown);
 }
 
+fn nearest_two(rng: &mut Rng, _: u64, tally: &mut Tally) {
+    let (weight, colours) = (jobs::weight(rng), Colours::any(rng, 4.0));
+    let n = jobs::sixteen(rng);
+    let (sub, q) = (colours.many(rng, n, 4.0), colours.one(rng, 2.0));
+    let shown = || format!("{q:?} among {sub:?}, weight {weight:?}");
+    tally.same(ours::nearest_two(&sub, q, weight), rust(weight).nearest_two(&sub, q), shown);
+}
+
 fn distance(rng: &mut Rng, _: u64, tally: &mut Tally) {
     let case = Case::any(rng);
     let empty = Tile::default();
@@ -70,4 +86,69 @@ fn best_fit(rng: &mut Rng, _: u64, tally: &mut Tally) {
         let parts = |fit: Fit| (fit.index, fit.dist, fit.hint);
         tally.same((parts(ours), lent[0], lent[2]), (parts(fit), 7, 9), || case.shown(hint));
     }
+}
+
+/// As `best_fit`; the tile is empty now and then.
+fn best_two(rng: &mut Rng, _: u64, tally: &mut Tally) {
+    let mut case = Case::any(rng);
+    if rng.once_in(10) {
+        case.tile = Tile::default();
+    }
+    let hints = case.hints();
+    let fits = rust(case.weight).best_two(&case.palette, &case.tile, &hints);
+    for (&hint, fit) in hints.iter().zip(fits) {
+        let mut lent = [7, hint as u32, 9];
+        let ours = ours::best_two(&case.flat, &case.tile, case.weight, &mut lent, 1);
+        let parts = |fit: FitTwo| (fit.index, fit.dist, fit.second, fit.hint);
+        tally.same((parts(ours), lent[0], lent[2]), (parts(fit), 7, 9), || case.shown(hint));
+    }
+}
+
+/// One colour, by each alpha that training has, and any other.
+fn nudge(rng: &mut Rng, _: u64, tally: &mut Tally) {
+    let colours = Colours::any(rng, 2.0);
+    let (old, target) = (Colours::any(rng, 4.0).one(rng, 4.0), colours.one(rng, 2.0));
+    let any = rng.unit();
+    let alpha = rng.pick(&[0.3, 0.5, 0.1, 0.2, any]);
+    let mut palette = vec![vec![old]];
+    let mut flat = Flat::new(&palette, 1);
+    flat.nudge(0, target, alpha);
+    rust(2.15).nudge(&mut palette, &Tile::default(), 0, target, alpha);
+    tally.same(flat.numbers, palette[0][0].to_vec(), || format!("{old:?} to {target:?} by {alpha:?}"));
+}
+
+/// A fit, the nearest colour of the winner, its nudge: one draw of the Rust's.
+fn draw(rng: &mut Rng, _: u64, tally: &mut Tally) {
+    let mut case = Case::any(rng);
+    let target = rng.pick(&case.tile.colours);
+    let hint = jobs::hints(rng, 1, case.palette.len())[0];
+    let (alpha, room) = (rng.pick(&[0.3, 0.5]), case.flat.room);
+
+    let mut lent = [hint as u32];
+    let fit = ours::best_fit(&case.flat, &case.tile, case.weight, &mut lent, 0);
+    let (place, _) = ours::nearest(case.flat.sub(fit.index), target, case.weight);
+    case.flat.nudge(fit.index * room + place, target, alpha);
+
+    let shown = case.shown(hint);
+    let left = rust(case.weight).nudge(&mut case.palette, &case.tile, hint, target, alpha);
+    let after = Flat::new(&case.palette, room);
+    tally
+        .same((case.flat.numbers, lent[0] as usize), (after.numbers, left), || format!("{target:?} {alpha:?} {shown}"));
+}
+
+fn edits(rng: &mut Rng, _: u64, tally: &mut Tally) {
+    let case = Case::any(rng);
+    let (s, c, room) = (case.palette.len(), case.palette[0].len(), case.flat.room + 1);
+    let edit = match rng.below(4) {
+        0 => Edit::DuplicatePalette(rng.below(s)),
+        1 => Edit::DuplicateColor { sub: rng.below(s), from: rng.below(c) },
+        2 => Edit::CopySubpalette { from: rng.below(s), to: rng.below(s) },
+        _ => Edit::CopyColor { sub: rng.below(s), from: rng.below(c), to: rng.below(c) },
+    };
+    let mut flat = Flat::with_places(&case.palette, room, s + 1);
+    flat.edit(edit);
+    let mut palette = case.palette.clone();
+    rust(2.15).edit(&mut palette, edit);
+    let after = Flat::with_places(&palette, room, s + 1);
+    tally.same(flat.numbers, after.numbers, || format!("{edit:?} of {:?}", case.palette));
 }
