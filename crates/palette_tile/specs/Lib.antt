@@ -1,0 +1,3 @@
+pub mod Tiles
+pub mod Present
+pub mod Hints
