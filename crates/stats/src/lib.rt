@@ -1,5 +1,6 @@
 // Selection helpers: the least, the least two, the greatest and the least by IEEE 754's total order.
-// Each function gives what its definition in specs/Stats.antt says.
+// Each function gives what its definition in specs/Stats.antt says. Where the total order decides, no value may be a NaN:
+// it is placed by its bits, which the language keeps to itself. smallest_two takes any values.
 ghost use mathlib.Core.Path.{_≡_};
 ghost use lib.ListN.{length};
 ghost use Rattle.stats.specs.Stats.{valueAt, stepNear, stepTwo, leastTwo, NoNan, argmaxOf, argminOf};
