@@ -4,3 +4,4 @@ mod choices;
 mod colors;
 mod draws;
 mod palettes;
+mod sheets;

@@ -3,6 +3,7 @@
 mod leaves;
 mod own;
 mod palettes;
+mod sheets;
 
 use terms::rng::Rng;
 
@@ -18,7 +19,7 @@ pub struct Kind {
     pub compare: fn(&mut Rng, u64, &mut Tally),
 }
 
-pub const KINDS: [&[Kind]; 3] = [own::KINDS, leaves::KINDS, palettes::KINDS];
+pub const KINDS: [&[Kind]; 4] = [own::KINDS, leaves::KINDS, palettes::KINDS, sheets::KINDS];
 
 const fn kind(name: &'static str, cases: u64, compare: fn(&mut Rng, u64, &mut Tally)) -> Kind {
     Kind { name, cases, whole: false, compare }

@@ -2,6 +2,8 @@
 
 mod kinds;
 mod ours;
+mod sheet;
+mod table;
 mod tally;
 
 use std::io::{IsTerminal, Write, stderr};

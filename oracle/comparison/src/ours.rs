@@ -77,6 +77,7 @@ mod raw {
             dist: &mut f32,
             second: &mut f32,
         ) -> usize;
+        pub fn probe_sheet_check(bytes: *const u8, len: usize) -> u32;
         pub fn probe_nudge(pal: *mut f32, len: usize, place: usize, l: f32, a: f32, b: f32, alpha: f32);
         pub fn probe_copy_color(pal: *mut f32, len: usize, c: usize, i: usize, from: usize, to: usize);
         pub fn probe_duplicate_color(pal: *mut f32, len: usize, c: usize, have: usize, i: usize, from: usize);
@@ -279,4 +280,9 @@ pub fn best_two(palette: &Flat, tile: &Tile, weight: f32, hints: &mut [u32], t: 
         )
     };
     FitTwo { index, dist, second, hint: hints[t] as usize }
+}
+
+/// The number that a sheet gets.
+pub fn sheet_check(bytes: &[u8]) -> u32 {
+    unsafe { raw::probe_sheet_check(bytes.as_ptr(), bytes.len()) }
 }

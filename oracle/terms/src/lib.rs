@@ -155,4 +155,6 @@ pub trait Probed: Rust {
     /// The seeding of s subpalettes, draws included. Gives the palette and the hints left behind.
     fn seed(&self, job: &Job, hints: &[usize], seed: u64) -> (Palette, Vec<usize>);
     fn start(&self, job: &Job, hints: &[usize], seed: u64) -> Box<dyn Steps>;
+    /// A run from a state between two draws.
+    fn resume(&self, job: &Job, held: &Held) -> Box<dyn Steps>;
 }

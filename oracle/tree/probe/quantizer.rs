@@ -96,6 +96,10 @@ impl Probed for crate::Door {
     fn start(&self, job: &Job, hints: &[usize], seed: u64) -> Box<dyn Steps> {
         Box::new(Stepped::start(job, hints, seed))
     }
+
+    fn resume(&self, job: &Job, held: &Held) -> Box<dyn Steps> {
+        Box::new(Stepped::resume(job, held))
+    }
 }
 
 /// A run between two draws.
@@ -138,6 +142,33 @@ impl Stepped {
         };
         run.enter(0);
         run
+    }
+
+    /// The split of a round of seeding is chosen at its end, so a state between two draws need not hold it.
+    fn resume(job: &Job, held: &Held) -> Self {
+        let samples = samples_data(job);
+        let (n, [state, stage, rounds, left, made, error]) = (samples.len(), held.words);
+        let place = made as usize % n;
+        Stepped {
+            s: job.s,
+            c: job.c,
+            b: base_iterations(n),
+            tiles: Rc::new(tiles_data(&job.tiles, &held.hints)),
+            cycle: SampleCycle {
+                order: held.order.iter().map(|&i| i as usize).collect(),
+                index: if place == 0 && made > 0 { n } else { place },
+                prng: Prng::new(state),
+            },
+            samples,
+            palette: palette_of(&held.palette),
+            least: (stage == 2).then(|| palette_of(&held.least)),
+            least_error: f32::from_bits(error as u32),
+            split_index: 0,
+            stage,
+            rounds: rounds as usize,
+            left: left as usize,
+            made,
+        }
     }
 
     fn rounds_of(&self, stage: u64) -> usize {

@@ -43,7 +43,7 @@ fn copies(rng: &mut Rng, _: u64, tally: &mut Tally) {
     tally.same((copy.result, copy.hints), (whole.result, whole.hints), || "the result".to_string());
 }
 
-/// The run in steps, cut anywhere.
+/// The run in steps, cut anywhere, and now and then resumed from what it held.
 fn steps(rng: &mut Rng, _: u64, tally: &mut Tally) {
     let case = case(rng);
     let whole = case.ran(rust(case.job.weight));
@@ -67,6 +67,7 @@ fn steps(rng: &mut Rng, _: u64, tally: &mut Tally) {
                 tally.same(result, (flat(&whole.result, s, c), whole.hints), || "the result".to_string());
                 return;
             }
+            _ if rng.once_in(3) => run = probed(case.job.weight).resume(&case.job, &held),
             _ => drop(run.advance(1 + rng.below(40) as u64)),
         }
     }
