@@ -1,0 +1,4 @@
+pub mod Group
+pub mod Totals
+pub mod Only
+pub mod Examples

@@ -1,0 +1,27 @@
+-- `group_pixels::same_bytes` meets its contract: byte by byte. Assumes nothing.
+use mathlib.Core.Path.{refl, sym}
+use borrow.Author.Tests.{eq-eqb, ne-eqb}
+use Rattle.lists.specs.Tests.{and-no-l}
+use Rattle.group_pixels.specs.Pixel.{sameBytes}
+use Rattle.group_pixels.proofs.Tests.{on}
+use Rattle.group_pixels.proofs.same_bytes.Statement.{statement}
+use Rattle.group_pixels.proofs.same_bytes.Tie as tie
+
+returns : tie.Need-returns
+unfolding sameBytes
+returns c = sym (and-no-l _ _ (ne-eqb _ _ (c .if1 .taken)))
+
+returns-2 : tie.Need-returns-2
+unfolding sameBytes
+returns-2 c = sym (on (eq-eqb _ _ (c .before .before .before .if1 .left)) (and-no-l _ _ (ne-eqb _ _ (c .if2 .taken))))
+
+returns-3 : tie.Need-returns-3
+unfolding sameBytes
+returns-3 c = sym (on (eq-eqb _ _ (c .before .before .before .before .before .before .if1 .left)) (on (eq-eqb _ _ (c .before .before .before .if2 .left)) (and-no-l _ _ (ne-eqb _ _ (c .if3 .taken)))))
+
+returns-4 : tie.Need-returns-4
+unfolding sameBytes
+returns-4 c = sym (on (eq-eqb _ _ (c .before .before .before .before .before .before .before .before .if1 .left)) (on (eq-eqb _ _ (c .before .before .before .before .before .if2 .left)) (on (eq-eqb _ _ (c .before .before .if3 .left)) refl)))
+
+pub same-bytes-spec : {M : Type 1} → statement M
+same-bytes-spec = tie.close (tie.spec returns returns-2 returns-3 returns-4)
