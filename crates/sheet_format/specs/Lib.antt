@@ -1,4 +1,5 @@
 pub mod Sheet
+pub mod Lists
 pub mod Exact
 pub mod Headed
 pub mod Example

@@ -1,0 +1,149 @@
+-- `fill_tiles` meets its contract. The loop's invariant: what is left to store gives the whole, and has room. Assumes nothing.
+use Prim.Native.Nat.{ℕ, _≤_, _-_, _*_, _+_}
+use mathlib.Core.Path.{_≡_, refl, sym, _∙_, subst}
+use native.Mathlib.Omega.{arith}
+use native.Mathlib.Nat.{sub-zero, zero-add}
+use lib.ListN.{length, length-set}
+use lib.Seq.{sets}
+use Rattle.bits.specs.Bits.{bits, fieldAt}
+use Rattle.format.specs.Format.{times}
+use Rattle.sheet_format.specs.Sheet.{edition1, tile}
+use Rattle.sheet_format.specs.Lists.{allCounts, allFloats, tableOf, total}
+use Rattle.sheet_fill.specs.Fill.{Reads, listAt}
+use Rattle.sheet_fill.specs.Tiles.{Tiling, tiling-turn, tiling-fits, tiling-again, tiling-end}
+use Rattle.sheet_fill.proofs.fill_tiles.Statement.{statement}
+use Rattle.sheet_fill.proofs.fill_tiles.Tie as tie
+
+abbrev Inv-loop : tie.InvT-loop
+Inv-loop s p t table₀ counts₀ parts₀ q₀ k₀ i₀ table counts parts q k i =
+    (i ≤ t) × (length table ≡ length table₀) × (length counts ≡ length counts₀) × (length parts ≡ length parts₀)
+    × Tiling edition1 s (t - i) q k (2 * i) table counts parts (sets table₀ 0 (tableOf 0 (listAt (times t (tile edition1)) s p))) (sets counts₀ 0 (allCounts (listAt (times t (tile edition1)) s p)))
+    (sets parts₀ 0 (allFloats (listAt (times t (tile edition1)) s p))) (total (listAt (times t (tile edition1)) s p))
+
+abbrev μ-loop : tie.MeasureT-loop
+μ-loop s p t table₀ counts₀ parts₀ q₀ k₀ i₀ table counts parts q k i = t - i
+
+loop-holds : tie.Need-loop-holds Inv-loop μ-loop
+loop-holds c = (
+  omega arith,
+  refl,
+  refl,
+  refl,
+  record {
+    reads = subst (λ (j : ℕ). Reads (times j (tile edition1)) (c .before .before .before .before .args .s .now) (c .before .before .before .before .args .p)) (sym (sub-zero (c .before .before .before .before .args .t))) (c .before .before .before .before .pre .5);
+    room = rw sub-zero (zero-add (total (listAt (times (c .before .before .before .before .args .t) (tile edition1)) (c .before .before .before .before .args .s .now) (c .before .before .before .before .args .p))));
+    table = rw sub-zero;
+    counts = rw sub-zero;
+    parts = rw sub-zero;
+  },
+)
+
+get-requires : tie.Need-get-requires Inv-loop μ-loop
+get-requires c κs = omega (arith, tiling-turn edition1 (c .before .before .before .before .before .before .args .t) (c .before .loop .i) (c .before .loop .inv .4) (omega arith) (fieldAt (bits (c .before .before .before .before .before .before .args .s .now)) (c .before .loop .q) 7) refl .room)
+
+cast-n : tie.Need-cast-n Inv-loop μ-loop
+cast-n c = omega (arith, tiling-turn edition1 (c .before .before .before .before .before .before .before .args .t) (c .before .before .loop .i) (c .before .before .loop .inv .4) (omega arith) (c .get .result) (c .get .ensures) .few)
+
+mul-j : tie.Need-mul-j Inv-loop μ-loop
+mul-j c = omega arith
+
+cast-table : tie.Need-cast-table Inv-loop μ-loop
+cast-table c = omega (arith, tiling-fits edition1 (c .before .before .before .before .before .before .before .args .t) (c .before .before .loop .i) (c .before .before .loop .inv .4) (omega arith) (c .get .result) (c .get .ensures))
+
+mul-table : tie.Need-mul-table Inv-loop μ-loop
+mul-table c = omega arith
+
+slice-write-table : tie.Need-slice-write-table Inv-loop μ-loop
+slice-write-table c = omega arith
+
+cast-table-2 : tie.Need-cast-table-2 Inv-loop μ-loop
+cast-table-2 c = omega (arith, tiling-turn edition1 (c .before .before .before .before .before .before .before .args .t) (c .before .before .loop .i) (c .before .before .loop .inv .4) (omega arith) (c .get .result) (c .get .ensures) .few)
+
+add-table : tie.Need-add-table Inv-loop μ-loop
+add-table c = omega arith
+
+mul-table-2 : tie.Need-mul-table-2 Inv-loop μ-loop
+mul-table-2 c = omega arith
+
+slice-write-table-2 : tie.Need-slice-write-table-2 Inv-loop μ-loop
+slice-write-table-2 c = simp length-set (omega arith)
+
+add-fill-colours : tie.Need-add-fill-colours Inv-loop μ-loop
+add-fill-colours c = omega (arith, tiling-turn edition1 (c .before .before .before .before .before .before .before .args .t) (c .before .before .loop .i) (c .before .before .loop .inv .4) (omega arith) (c .get .result) (c .get .ensures) .room)
+
+fill-colours-requires : tie.Need-fill-colours-requires Inv-loop μ-loop
+fill-colours-requires c κs =
+    let fits = tiling-fits edition1 (c .before .before .before .before .before .before .before .before .before .args .t) (c .before .before .before .before .loop .i) (c .before .before .before .before .loop .inv .4) (omega arith) (c .before .before .get .result) (c .before .before .get .ensures) in
+    (c .before .before .before .before .before .before .before .before .before .pre .0, omega arith, omega arith, tiling-turn edition1 (c .before .before .before .before .before .before .before .before .before .args .t) (c .before .before .before .before .loop .i) (c .before .before .before .before .loop .inv .4) (omega arith) (c .before .before .get .result) (c .before .before .get .ensures) .here)
+
+mul-q : tie.Need-mul-q Inv-loop μ-loop
+mul-q c = omega (arith, tiling-turn edition1 (c .before .before .before .before .before .before .before .before .before .before .before .before .before .before .args .t) (c .before .before .before .before .before .before .before .before .before .loop .i) (c .before .before .before .before .before .before .before .before .before .loop .inv .4) (omega arith) (c .before .before .before .before .before .before .before .get .result) (c .before .before .before .before .before .before .before .get .ensures) .few)
+
+add-q : tie.Need-add-q Inv-loop μ-loop
+add-q c = omega (arith, tiling-turn edition1 (c .before .before .before .before .before .before .before .before .before .before .before .before .before .before .args .t) (c .before .before .before .before .before .before .before .before .before .loop .i) (c .before .before .before .before .before .before .before .before .before .loop .inv .4) (omega arith) (c .before .before .before .before .before .before .before .get .result) (c .before .before .before .before .before .before .before .get .ensures) .few)
+
+add-q-2 : tie.Need-add-q-2 Inv-loop μ-loop
+add-q-2 c =
+    let turn = tiling-turn edition1 (c .before .before .before .before .before .before .before .before .before .before .before .before .before .before .args .t) (c .before .before .before .before .before .before .before .before .before .loop .i) (c .before .before .before .before .before .before .before .before .before .loop .inv .4) (omega arith) (c .before .before .before .before .before .before .before .get .result) (c .before .before .before .before .before .before .before .get .ensures) in
+    omega (arith, turn .few, turn .room)
+
+add-k : tie.Need-add-k Inv-loop μ-loop
+add-k c = omega (arith, tiling-fits edition1 (c .before .before .before .before .before .before .before .before .before .before .before .before .before .before .args .t) (c .before .before .before .before .before .before .before .before .before .loop .i) (c .before .before .before .before .before .before .before .before .before .loop .inv .4) (omega arith) (c .before .before .before .before .before .before .before .get .result) (c .before .before .before .before .before .before .before .get .ensures))
+
+add-i : tie.Need-add-i Inv-loop μ-loop
+add-i c = omega arith
+
+loop-less : tie.Need-loop-less Inv-loop μ-loop
+loop-less c = omega arith
+
+loop-again : tie.Need-loop-again Inv-loop μ-loop
+loop-again c = (
+  omega arith,
+  simp length-set (c .before .before .before .before .before .before .before .before .before .loop .inv .1),
+  c .before .before .before .before .fill-colours .kept .1 .1 .1 .0 ∙ c .before .before .before .before .before .before .before .before .before .loop .inv .2,
+  c .before .before .before .before .fill-colours .kept .1 .1 .1 .1 .0 ∙ c .before .before .before .before .before .before .before .before .before .loop .inv .3,
+  tiling-again edition1 (c .before .before .before .before .before .before .before .before .before .before .before .before .before .before .args .t) (c .before .before .before .before .before .before .before .before .before .loop .i) (c .before .before .before .before .before .before .before .before .before .loop .inv .4) (omega arith) (c .before .before .before .before .before .before .before .get .result) (c .before .before .before .before .before .before .before .get .ensures) _ _ (c .before .before .before .before .fill-colours .ensures .0) (c .before .before .before .before .fill-colours .ensures .1),
+)
+
+same-length : tie.Need-same-length Inv-loop μ-loop
+same-length c = omega arith
+
+same-length-2 : tie.Need-same-length-2 Inv-loop μ-loop
+same-length-2 c = omega arith
+
+same-length-3 : tie.Need-same-length-3 Inv-loop μ-loop
+same-length-3 c = omega arith
+
+returns : tie.Need-returns Inv-loop μ-loop
+returns c = tiling-end edition1 (c .before .before .before .before .before .before .args .t) (c .before .loop .i) (c .before .loop .inv .4) (omega arith)
+
+pub fill-tiles-spec : {M : Type 1} → statement M
+fill-tiles-spec =
+    tie.close
+    (tie.spec
+    Inv-loop
+    μ-loop
+    loop-holds
+    get-requires
+    cast-n
+    mul-j
+    cast-table
+    mul-table
+    slice-write-table
+    cast-table-2
+    add-table
+    mul-table-2
+    slice-write-table-2
+    add-fill-colours
+    fill-colours-requires
+    mul-q
+    add-q
+    add-q-2
+    add-k
+    add-i
+    loop-less
+    loop-again
+    same-length
+    same-length-2
+    same-length-3
+    returns)

@@ -1,0 +1,5 @@
+pub mod Fill
+pub mod Components
+pub mod Colours
+pub mod Tiles
+pub mod Ends
