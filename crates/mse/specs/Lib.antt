@@ -1,0 +1,2 @@
+pub mod Mse
+pub mod Fine
