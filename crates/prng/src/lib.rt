@@ -53,12 +53,14 @@ pub struct Step {
 }
 
 impl Prng {
+    // The generator from a seed.
     pub fn new(seed: u64) -> Prng
         ensures { λ r. ⌜ r .state ≡ seed ⌝ }
     {
         Prng { state: seed }
     }
 
+    // The next output.
     pub fn next(self) -> Step
         ensures { λ r. ⌜ (r .value ≡ output (self .state)) × (r .after .state ≡ nextState (self .state)) ⌝ }
     {
