@@ -5,9 +5,9 @@ use mathlib.Core.Bool.{Bool, true, false, cond}
 use mathlib.Core.List.{List}
 use native.Mathlib.Nat.{le-refl, le-trans, le-of-eq, mul-left-comm}
 use native.Mathlib.Omega.{arith}
-use lib.ListN.{getD, length}
+use lib.ListN.{length}
 use lib.Dec.{ltb}
-use lib.Ieee.{Float, binary32, ofBits}
+use lib.Ieee.{Float}
 use Rattle.lists.specs.Copies.{row-room}
 use Rattle.color.specs.Color.{colourAt, Sized, Bounded}
 use Rattle.color.specs.Sizes.{colour-sized, bounded-put}
@@ -21,22 +21,12 @@ use Rattle.palette_edit.specs.Gentle.{Gentle, nudged-bounded, colour-copied-bou
 use Rattle.palette_tile.specs.Tiles.{Shown}
 use Rattle.quantizer.specs.declared.Swap.{Swap}
 use Rattle.quantizer.specs.Course.{Course, sampleTile, samplePlace, sampleColour}
-use Rattle.quantizer.specs.Sums.{zeros}
 use Rattle.quantizer.specs.Seeding.{seedMean, seeded, duplicated}
 use Rattle.quantizer.specs.Growing.{splitOf, grownBy, grown}
 use Rattle.quantizer.specs.Replacing.{Shares, sharesOf, spreadOf, ownerOf, swapIn, colourSwapped, subSwapped, recoloured, coloursReplaced, subReplaced, replaced}
 use Rattle.quantizer.specs.Drawing.{targetOf, moved}
 use Rattle.quantizer.specs.Lengths.{Wide, shares-wide, spread-wide, length-grown-by, length-colour-copied}
 use Rattle.quantizer.specs.Indexes.{split-below, from-below, to-below, shown-subs, row-256, target-in}
-
-pub zeros-bounded : (n k : ℕ) → Bounded (zeros n) k
-unfolding ofBits
-zeros-bounded zero k i l = absurd (none l)
-  where
-    none : i < 0 → ⊥
-    none l = omega arith
-zeros-bounded (suc n) k zero l = omega arith
-zeros-bounded (suc n) k (suc i) l = zeros-bounded n k i (omega arith)
 
 -- ---- seeding
 module _ (size : ℕ) (K : Course) (room : Bool) (D : Sampled size (K .job) (K .n) (K .samples) room) where

@@ -9,7 +9,7 @@ use lib.Ieee.{Float}
 use Rattle.color.specs.Color.{colourAt}
 use Rattle.job.specs.Job.{Job}
 use Rattle.palette.specs.Palette.{Tile, subOf, nearestOf, termOf}
-use Rattle.palette_edit.specs.Edits.{placeOf, colourCopied}
+use Rattle.palette_edit.specs.Edits.{colourCopied}
 use Rattle.palette_tile.specs.Tiles.{tileAt, winner, hintsOf}
 use Rattle.quantizer.specs.Sums.{bump, zeros, sumsAt, greatest}
 

@@ -1,26 +1,25 @@
 -- Every index that a stage chooses is one of those present, and its place is one of the palette's. Assumes nothing.
 use Prim.Native.Nat.{ℕ, _+_, _*_, _/_, _≤_, _<_}
-use mathlib.Core.Path.{_≡_, subst}
+use mathlib.Core.Path.{subst}
 use mathlib.Core.Bool.{Bool, true, false, cond}
 use mathlib.Core.List.{List}
-use native.Mathlib.Nat.{le-trans, le-of-eq, mul-le-mul-right}
+use native.Mathlib.Nat.{le-trans, mul-le-mul-right}
 use native.Mathlib.Omega.{arith}
-use lib.ListN.{length, length-take, length-drop}
+use lib.ListN.{length}
 use lib.Dec.{eqb, ltb}
 use lib.Ieee.{Float}
 use Rattle.lists.specs.Copies.{row-room}
 use Rattle.color.specs.declared.Oklab.{Oklab}
 use Rattle.color.specs.Color.{colourAt}
-use Rattle.stats.specs.Stats.{valueAt}
-use Rattle.stats.specs.Choices.{max-below, min-below}
 use Rattle.choice.specs.Two.{two-below}
 use Rattle.job.specs.Job.{Job, tileOf}
-use Rattle.palette.specs.Palette.{gap, subOf, nearestOf}
+use Rattle.palette.specs.Palette.{gap, subOf}
 use Rattle.palette_two.specs.PaletteTwo.{nearestTwoOf}
 use Rattle.palette_edit.specs.Kept.{place-room}
-use Rattle.palette_tile.specs.Tiles.{presentIn, winner, Shown}
+use Rattle.palette_tile.specs.Tiles.{winner, Shown}
 use Rattle.palette_tile.specs.Present.{shown-present, winner-below, pair-below, part-colours, part-nearest}
-use Rattle.quantizer.specs.Sums.{sumsAt, greatest, smallest}
+use Rattle.quantizer.specs.Sums.{sumsAt, greatest}
+use Rattle.quantizer.specs.Choices.{greatest-below, smallest-below}
 use Rattle.quantizer.specs.Seeding.{worstOf}
 use Rattle.quantizer.specs.Growing.{needsOf, splitOf}
 use Rattle.quantizer.specs.Replacing.{Shares, pairAt, ownerOf, swapIn}
@@ -28,19 +27,6 @@ use Rattle.quantizer.specs.Drawing.{targetOf}
 use Rattle.quantizer.specs.Lengths.{length-distances, length-needs}
 
 -- ---- among sums
-pub length-sums : (d : List Float) (from size : ℕ) → from + size ≤ length d → length (sumsAt d from size) ≡ size
-length-sums d from size h = simp (length-take, length-drop) (omega arith)
-
-module _ (d : List Float) (from size : ℕ) (h : from + size ≤ length d) (some : 1 ≤ size) where
-  below : (i n : ℕ) → n ≡ size → i < n → i < size
-  below i n e l = omega arith
-
-  pub greatest-below : greatest (sumsAt d from size) < size
-  greatest-below = below _ (length (sumsAt d from size)) (length-sums d from size h) (max-below (valueAt (sumsAt d from size)) (length (sumsAt d from size)) (omega (arith, length-sums d from size h)))
-
-  pub smallest-below : smallest (sumsAt d from size) < size
-  smallest-below = below _ (length (sumsAt d from size)) (length-sums d from size h) (min-below (valueAt (sumsAt d from size)) (length (sumsAt d from size)) (omega (arith, length-sums d from size h)))
-
 module _ (A : Shares) (from size : ℕ) (had : from + size ≤ length (A .had)) (lost : from + size ≤ length (A .lost)) (some : 1 ≤ size) where
   pub from-below : swapIn A from size .from < size
   from-below = greatest-below (A .had) from size had some

@@ -1,35 +1,29 @@
 -- Lengths: sums keep the number of their places, palettes and hints theirs. Assumes nothing.
-use Prim.Native.Nat.{ℕ, zero, suc, _+_, _*_}
+use Prim.Native.Nat.{ℕ, zero, suc, _*_}
 use mathlib.Core.Path.{_≡_, refl, _∙_}
 use mathlib.Core.Bool.{Bool, true, false, cond}
 use mathlib.Core.List.{List}
-use lib.ListN.{getD, length, length-set, length-replicate}
+use lib.ListN.{getD, length, length-set}
 use lib.Dec.{eqb, ltb}
-use lib.Ieee.{Float, binary32, ofBits}
-use Rattle.color.specs.Color.{colourAt, overOf}
+use lib.Ieee.{Float}
+use Rattle.color.specs.Color.{colourAt}
 use Rattle.color.specs.Puts.{length-put}
 use Rattle.job.specs.Job.{Job, isEmpty}
 use Rattle.palette.specs.Palette.{Tile, subOf}
 use Rattle.palette_edit.specs.Edits.{placeOf, colourCopied}
-use Rattle.palette_tile.specs.Tiles.{tileAt, winner, fitAt}
+use Rattle.palette_tile.specs.Tiles.{tileAt, winner}
 use Rattle.palette_tile.specs.Hints.{length-hints}
 use Rattle.quantizer.specs.Course.{Course}
-use Rattle.quantizer.specs.Sums.{bump, zeros}
+use Rattle.quantizer.specs.Lists.{length-bump, length-zeros}
 use Rattle.quantizer.specs.Seeding.{seedMean, seeded, distanceStep, distancesOf}
 use Rattle.quantizer.specs.Growing.{tileNeeds, needStep, needsOf, splitOf, grownBy, grown, grownHints}
-use Rattle.quantizer.specs.Replacing.{Shares, pairAt, sharesOf, pairHints, tileShares, spreadStep, spreadOf, replacedHints}
+use Rattle.quantizer.specs.Replacing.{Shares, sharesOf, pairHints, tileShares, spreadStep, spreadOf, replacedHints}
 use Rattle.quantizer.specs.Refining.{Gather, gatherOf, meanStep, meansOf, refined}
 use Rattle.quantizer.specs.Drawing.{targetOf, moved, movedHints}
 
 cond-length {ℓ} : {A : Type ℓ} (b : Bool) (x y : List A) (n : ℕ) → length x ≡ n → length y ≡ n → length (cond b x y) ≡ n
 cond-length true x y n p q = p
 cond-length false x y n p q = q
-
-pub length-bump : (d : List Float) (i : ℕ) (x : Float) → length (bump d i x) ≡ length d
-length-bump d i x = length-set d i _
-
-pub length-zeros : (n : ℕ) → length (zeros n) ≡ n
-length-zeros n = length-replicate n (ofBits binary32 0)
 
 -- ---- sums
 pub length-distances : (J : Job) (pal : List Float) (n t : ℕ) → length (distancesOf J pal n t) ≡ 16

@@ -5,6 +5,9 @@ pub mod Growing
 pub mod Replacing
 pub mod Refining
 pub mod Drawing
+pub mod Lists
+pub mod Goods
+pub mod Choices
 pub mod Lengths
 pub mod Indexes
 pub mod NoNans

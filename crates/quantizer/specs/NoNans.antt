@@ -1,23 +1,18 @@
--- The sums that the stages choose among have no NaN and no sign, so that the choice is by the total order. Assumes nothing.
+-- The sums that the stages choose among have no NaN and no sign, so that a choice among them may be made. Assumes nothing.
 use Prim.Native.Nat.{ℕ, zero, suc, _+_, _*_, _/_, _≤_, _<_}
-use mathlib.Core.Path.{_≡_, subst⁻¹, _∙_}
-use mathlib.Core.Bool.{Bool, true, false, not, cond}
+use mathlib.Core.Path.{_≡_}
+use mathlib.Core.Bool.{Bool, true, false, cond}
 use mathlib.Core.List.{List}
 use native.Mathlib.Nat.{le-refl}
 use native.Mathlib.Omega.{arith}
-use lib.ListN.{getD, length, drop}
-use lib.Seq.{getD-take, getD-drop}
+use lib.ListN.{getD, length}
 use lib.Dec.{T}
 use lib.IntN.{pos}
-use lib.Ieee.{Float, nan, binary32, mul, isNan, ofInt, ofBits}
+use lib.Ieee.{Float, binary32, mul, ofInt}
 use lib.Ieee.Positive.{positive}
-use lib.Ieee.Bits.{ofBits-fits}
 use Rattle.ieee.specs.Keys.{Good}
-use Rattle.ieee.specs.Plus.{plus-real}
-use Rattle.ieee.specs.Goods.{add-good, times-good, count-positive, inf-good}
-use Rattle.lists.specs.Runs.{all-set}
+use Rattle.ieee.specs.Goods.{times-good, count-positive, inf-good}
 use Rattle.color.specs.Color.{colourAt}
-use Rattle.stats.specs.Stats.{valueAt, NoNan}
 use Rattle.stats.specs.Seconds.{two-all}
 use Rattle.choice.specs.Scan.{least-good}
 use Rattle.job.specs.Job.{Job, isEmpty}
@@ -27,33 +22,13 @@ use Rattle.palette.specs.Sums.{gap-good, tile-real, dist-good}
 use Rattle.palette_two.specs.PaletteTwo.{nearestTwoOf}
 use Rattle.palette_tile.specs.Tiles.{tileAt, presentIn, fitAt, winner, twoAt, Shown}
 use Rattle.palette_tile.specs.Present.{shown-present, winner-below, pair-below, part-nearest, tile-counted}
-use Rattle.quantizer.specs.Sums.{bump, zeros, sumsAt}
+use Rattle.quantizer.specs.Sums.{bump}
 use Rattle.quantizer.specs.Seeding.{distanceStep, distancesOf}
 use Rattle.quantizer.specs.Growing.{tileNeeds, needStep, needsOf}
 use Rattle.quantizer.specs.Replacing.{Shares, pairAt, sharesOf, tileShares, spreadStep, spreadOf}
+use Rattle.quantizer.specs.Goods.{AllGood, zeros-good, bump-good}
 use Rattle.quantizer.specs.Lengths.{Wide, tile-wide, length-distances, length-tile-needs, length-needs, shares-wide, spread-wide}
-use Rattle.quantizer.specs.Indexes.{length-sums, shown-subs, place-256, part-nearest-two}
-
--- ---- a list of sums
-abbrev pub AllGood : List Float → Type 0
-AllGood d = (i : ℕ) → i < length d → Good binary32 (getD d i nan)
-
-zeros-good : (n : ℕ) → AllGood (zeros n)
-zeros-good zero i l = absurd (none l)
-  where
-    none : i < 0 → ⊥
-    none l = omega arith
-zeros-good (suc n) zero l = record { fit = ofBits-fits binary32 0; pos = unfold ofBits in tt }
-zeros-good (suc n) (suc i) l = zeros-good n i (omega arith)
-
-bump-good : (d : List Float) (i : ℕ) (x : Float) → i < length d → Good binary32 x → AllGood d → AllGood (bump d i x)
-bump-good d i x l g h = all-set nan (Good binary32) d i _ (add-good binary32 _ _ (h i l) g) h
-
--- a choice among `size` of them from `from` on may be made
-pub sums-no-nan : (d : List Float) (from size : ℕ) → from + size ≤ length d → AllGood d → NoNan (valueAt (sumsAt d from size)) (length (sumsAt d from size))
-sums-no-nan d from size h g i l =
-    let k : i < size = omega (arith, length-sums d from size h) in
-    subst⁻¹ (λ (x : Float). T (not (isNan x))) (getD-take size (drop from d) i nan k ∙ getD-drop from d i nan) (plus-real _ (g (from + i) (omega arith) .pos))
+use Rattle.quantizer.specs.Indexes.{shown-subs, place-256, part-nearest-two}
 
 module _ (J : Job) (pal : List Float) (n have : ℕ) (S : Shown J pal n have) (t : ℕ) (l : t < J .T) where
   -- ---- a tile's distances, the least of them, and the second least

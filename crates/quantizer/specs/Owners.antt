@@ -3,7 +3,6 @@
 use Prim.Native.Nat.{ℕ, zero, suc, _≤_, _<_}
 use mathlib.Core.Path.{_≡_, refl, sym, ap, subst⁻¹, _∙_}
 use mathlib.Core.Bool.{Bool, true, false, cond}
-use mathlib.Core.Logic.{_≢_}
 use mathlib.Core.List.{List}
 use native.Mathlib.Decide.{ℕ-discrete}
 use native.Mathlib.Omega.{arith}
@@ -12,7 +11,7 @@ use lib.Seq.{getD-set-same, getD-set-other}
 use lib.Dec.{ltb}
 use lib.Ieee.{Float}
 use Rattle.job.specs.Job.{Job}
-use Rattle.quantizer.specs.Replacing.{Shares, pairAt, pairHints, ownerOf, spreadStep, spreadOf}
+use Rattle.quantizer.specs.Replacing.{pairAt, pairHints, ownerOf, spreadStep, spreadOf}
 use Rattle.quantizer.specs.Lengths.{length-pair-hints}
 
 -- owners that agree on the tiles give the same sums

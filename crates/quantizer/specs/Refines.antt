@@ -1,7 +1,7 @@
 -- Refinement: each sum is at most 2 for each pixel counted, so the means are within 2, and a palette within 2 or more stays so. Assumes nothing.
-use Prim.Native.Nat.{ℕ, zero, suc, _+_, _*_, _/_, _^_, _≤_, _<_}
+use Prim.Native.Nat.{ℕ, zero, suc, _+_, _*_, _/_, _≤_, _<_}
 use mathlib.Core.Path.{_≡_, subst⁻¹, _∙_}
-use mathlib.Core.Bool.{Bool, true, false, cond}
+use mathlib.Core.Bool.{Bool, cond}
 use mathlib.Core.Logic.{_≢_, _⊎_, inl, inr}
 use mathlib.Core.List.{List}
 use native.Mathlib.Nat.{le-refl, le-trans, eq-zero-or-pos}
@@ -9,7 +9,7 @@ use native.Mathlib.Decide.{ℕ-discrete}
 use native.Mathlib.Omega.{arith}
 use lib.ListN.{getD, length, set, replicate, length-set, length-replicate}
 use lib.Seq.{getD-set-same, getD-set-other}
-use lib.Dec.{eqb, lit≤}
+use lib.Dec.{lit≤}
 use lib.Ieee.{Float}
 use borrow.Author.Tests.{eq-eqb, ne-eqb}
 use Rattle.lists.specs.Every.{sum}
@@ -25,9 +25,8 @@ use Rattle.palette_tile.specs.Tiles.{tileAt, winner, Shown}
 use Rattle.palette_tile.specs.Present.{winner-below, part-nearest, tile-sized}
 use Rattle.quantizer.specs.Sums.{zeros}
 use Rattle.quantizer.specs.Refining.{Gather, nothing, addAt, tileGather, gatherStep, gatherOf, meanStep, meansOf, refined}
-use Rattle.quantizer.specs.Lengths.{length-zeros}
+use Rattle.quantizer.specs.Lists.{length-zeros, zeros-bounded}
 use Rattle.quantizer.specs.Indexes.{shown-few, place-256}
-use Rattle.quantizer.specs.Bounds.{zeros-bounded}
 
 -- the arrays are whole, and each sum is at most 2 for each pixel counted
 pub record Held (A : Gather) : Type 0 where
