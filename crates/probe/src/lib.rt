@@ -1,7 +1,9 @@
 // Forwarders to the proved functions, for the comparison with the Rust: numbers and slices alone, so that C can call.
 // Each carries what its callee requires; the comparison's cases meet it.
+mod calls;
 mod choices;
 mod colors;
 mod draws;
 mod palettes;
 mod sheets;
+mod training;

@@ -1,9 +1,11 @@
 //! The kinds of comparison.
 
+mod groups;
 mod leaves;
 mod own;
 mod palettes;
 mod sheets;
+mod training;
 
 use terms::rng::Rng;
 
@@ -19,7 +21,8 @@ pub struct Kind {
     pub compare: fn(&mut Rng, u64, &mut Tally),
 }
 
-pub const KINDS: [&[Kind]; 4] = [own::KINDS, leaves::KINDS, palettes::KINDS, sheets::KINDS];
+pub const KINDS: [&[Kind]; 6] =
+    [own::KINDS, leaves::KINDS, palettes::KINDS, training::KINDS, groups::KINDS, sheets::KINDS];
 
 const fn kind(name: &'static str, cases: u64, compare: fn(&mut Rng, u64, &mut Tally)) -> Kind {
     Kind { name, cases, whole: false, compare }

@@ -1,6 +1,8 @@
 //! Compares our functions with the Rust, kind by kind, on cases made from a seed. README.md has its use.
 
+mod damage;
 mod kinds;
+mod lent;
 mod ours;
 mod sheet;
 mod table;

@@ -1,0 +1,172 @@
+//! Grouping: refusals by document 01's table, entries and indexes by the Rust's `extract`.
+
+use std::collections::HashMap;
+
+use answers::rust;
+use terms::jobs::Colours;
+use terms::rng::Rng;
+
+use super::{Kind, kind};
+use crate::lent::{self, Lent};
+use crate::ours;
+use crate::tally::Tally;
+use crate::{damage, table};
+
+pub const KINDS: &[Kind] = &[kind("grouping", 20_000, grouping)];
+
+/// A call of grouping as a stranger may make it.
+#[derive(Clone, Debug)]
+struct Call {
+    p: usize,
+    pixels: Vec<u8>,
+    oklab: Vec<f32>,
+    zero: Option<[u8; 3]>,
+    entry_bytes: Vec<u8>,
+    entry_oklab: Vec<f32>,
+    entry_counts: Vec<u32>,
+    index: Vec<u32>,
+}
+
+impl Call {
+    fn good(rng: &mut Rng) -> Self {
+        let p = rng.pick(&[0, 1, 2, 16, 63, 64, 64]);
+        let most = rng.pick(&[1, 2, 255]);
+        let bytes = |rng: &mut Rng| [0; 4].map(|_| rng.below(most + 1) as u8);
+        let colours = Colours::any(rng, 2.0);
+        let mut named: HashMap<[u8; 4], terms::Colour> = HashMap::new();
+        let mut call = Call {
+            p,
+            pixels: Vec::new(),
+            oklab: Vec::new(),
+            zero: rng.once_in(2).then(|| bytes(rng)).map(|[r, g, b, _]| [r, g, b]),
+            entry_bytes: (0..4 * p).map(|_| rng.word() as u8).collect(),
+            entry_oklab: (0..3 * p).map(|_| rng.unit()).collect(),
+            entry_counts: (0..p).map(|_| rng.word()).collect(),
+            index: (0..p).map(|_| rng.word()).collect(),
+        };
+        for _ in 0..p {
+            let pixel = bytes(rng);
+            call.pixels.extend(pixel);
+            call.oklab.extend(named.entry(pixel).or_insert_with(|| colours.one(rng, 2.0)).iter());
+        }
+        call
+    }
+
+    fn damage(&mut self, rng: &mut Rng) {
+        match rng.below(8) {
+            0 => {
+                self.p =
+                    rng.pick(&[0, self.p.wrapping_add(1), self.p.wrapping_sub(1), 65, usize::MAX, 1 << 62, 1 << 63])
+            }
+            1 => match rng.below(6) {
+                0 => damage::length(rng, &mut self.pixels),
+                1 => damage::length(rng, &mut self.oklab),
+                2 => damage::length(rng, &mut self.entry_bytes),
+                3 => damage::length(rng, &mut self.entry_oklab),
+                4 => damage::length(rng, &mut self.entry_counts),
+                _ => damage::length(rng, &mut self.index),
+            },
+            2 | 3 => damage::component(rng, &mut self.oklab, 2.0),
+            4 | 5 => self.change_bit(rng),
+            _ => {}
+        }
+    }
+
+    /// One bit of an Oklab, the sign of a zero among them: its colour then comes with two.
+    fn change_bit(&mut self, rng: &mut Rng) {
+        if !self.oklab.is_empty() {
+            let place = rng.below(self.oklab.len());
+            let bit = if rng.once_in(2) { 31 } else { rng.below(32) };
+            self.oklab[place] = f32::from_bits(self.oklab[place].to_bits() ^ 1 << bit);
+        }
+    }
+
+    fn pixel(&self, k: usize) -> [u8; 4] {
+        self.pixels[4 * k..4 * k + 4].try_into().unwrap()
+    }
+
+    fn kept(&self, k: usize) -> bool {
+        let [r, g, b, a] = self.pixel(k);
+        a != 0 && self.zero != Some([r, g, b])
+    }
+
+    /// Document 01's number.
+    fn number(&self) -> u32 {
+        let p = self.p;
+        if p > 64 {
+            return 2;
+        }
+        let lengths = [
+            (self.pixels.len(), 4 * p),
+            (self.oklab.len(), 3 * p),
+            (self.entry_bytes.len(), 4 * p),
+            (self.entry_oklab.len(), 3 * p),
+            (self.entry_counts.len(), p),
+            (self.index.len(), p),
+        ];
+        if lengths.iter().any(|(lent, implied)| lent != implied) {
+            return 3;
+        }
+        let oklab = |k: usize| &self.oklab[3 * k..3 * k + 3];
+        for k in (0..p).filter(|&k| self.kept(k)) {
+            if !table::within(oklab(k), 2.0) {
+                return 7;
+            }
+            let bits = |k: usize| oklab(k).iter().map(|x| x.to_bits()).collect::<Vec<_>>();
+            let before = (0..k).filter(|&j| self.kept(j) && self.pixel(j) == self.pixel(k));
+            if before.into_iter().any(|j| bits(j) != bits(k)) {
+                return 14;
+            }
+        }
+        0
+    }
+
+    /// The memory that the Rust's `extract` implies for a call that is accepted, and the number of entries.
+    fn grouped(&self) -> (usize, Call) {
+        let pixels: Vec<[u8; 4]> = (0..self.p).map(|k| self.pixel(k)).collect();
+        let oklab = table::colours(&self.oklab);
+        terms::host::name(pixels.iter().copied().zip(oklab).rev().collect());
+        let grouped = rust(2.15).group(&pixels, self.zero.map(|[r, g, b]| [r, g, b, 77]));
+        let mut after = self.clone();
+        for (i, entry) in grouped.entries.iter().enumerate() {
+            after.entry_bytes[4 * i..4 * i + 4].copy_from_slice(&entry.bytes);
+            after.entry_oklab[3 * i..3 * i + 3].copy_from_slice(&entry.oklab);
+            after.entry_counts[i] = entry.count;
+        }
+        for (place, index) in after.index.iter_mut().zip(&grouped.index) {
+            *place = index.map_or(*place, |i| i as u32);
+        }
+        (grouped.entries.len(), after)
+    }
+}
+
+fn grouping(rng: &mut Rng, _: u64, tally: &mut Tally) {
+    let mut call = Call::good(rng);
+    for _ in 0..rng.pick(&[0, 1, 1, 2]) {
+        call.damage(rng);
+    }
+    let number = call.number();
+    let (entries, after) = if number == 0 { call.grouped() } else { (0, call.clone()) };
+
+    let (pixels, oklab) = (lent::bytes(&call.pixels), lent::floats(&call.oklab));
+    let mut room = ours::Entries {
+        bytes: lent::bytes(&call.entry_bytes),
+        oklab: lent::floats(&call.entry_oklab),
+        counts: lent::words(&call.entry_counts),
+        index: lent::words(&call.index),
+    };
+    let answer = ours::group(call.p, &pixels, &oklab, call.zero, &mut room);
+    let left = (
+        (room.bytes.values().to_vec(), room.oklab.values().to_vec()),
+        (room.counts.values().to_vec(), room.index.values().to_vec()),
+        guarded(&pixels, &oklab, &room),
+    );
+    let right = ((after.entry_bytes, after.entry_oklab), (after.entry_counts, after.index), true);
+    tally.same((answer, left), ((number, entries), right), || format!("{call:?}"));
+}
+
+/// What is only read is untouched, and so is all around what is written.
+fn guarded(pixels: &Lent<u8>, oklab: &Lent<f32>, room: &ours::Entries) -> bool {
+    let read = pixels.untouched() && oklab.untouched();
+    read && room.bytes.guarded() && room.oklab.guarded() && room.counts.guarded() && room.index.guarded()
+}

@@ -1,0 +1,57 @@
+//! Memory that is lent to a call, with guards around it: whatever a call must not write is seen afterwards.
+
+use crate::tally::Same;
+
+const GUARDS: usize = 4;
+
+pub struct Lent<T> {
+    all: Vec<T>,
+    found: Vec<T>,
+}
+
+impl<T: Copy + Same> Lent<T> {
+    /// A copy of the values, between guards.
+    pub fn new(values: &[T], guard: T) -> Self {
+        let guards = [guard; GUARDS];
+        let all = [&guards[..], values, &guards[..]].concat();
+        Lent { found: all.clone(), all }
+    }
+
+    pub fn len(&self) -> usize {
+        self.all.len() - 2 * GUARDS
+    }
+
+    pub fn pointer(&self) -> *const T {
+        self.all[GUARDS..].as_ptr()
+    }
+
+    pub fn pointer_mut(&mut self) -> *mut T {
+        self.all[GUARDS..].as_mut_ptr()
+    }
+
+    pub fn values(&self) -> &[T] {
+        &self.all[GUARDS..self.all.len() - GUARDS]
+    }
+
+    /// Values and guards are as they were found.
+    pub fn untouched(&self) -> bool {
+        self.all[..].untouched(&self.found)
+    }
+
+    pub fn guarded(&self) -> bool {
+        let end = self.all.len() - GUARDS;
+        self.all[..GUARDS].untouched(&self.found[..GUARDS]) && self.all[end..].untouched(&self.found[end..])
+    }
+}
+
+pub fn floats(values: &[f32]) -> Lent<f32> {
+    Lent::new(values, f32::from_bits(0xa5a5_a5a5))
+}
+
+pub fn words(values: &[u32]) -> Lent<u32> {
+    Lent::new(values, 0xa5a5_a5a5)
+}
+
+pub fn bytes(values: &[u8]) -> Lent<u8> {
+    Lent::new(values, 0xa5)
+}

@@ -1,0 +1,99 @@
+//! The public calls, which take whatever a stranger lends.
+
+use crate::lent::{self, Lent};
+use crate::table::Given;
+
+unsafe extern "C" {
+    fn probe_group(
+        p: usize,
+        pixels: *const u8,
+        pixels_len: usize,
+        oklab: *const f32,
+        oklab_len: usize,
+        given: bool,
+        r: u8,
+        g: u8,
+        b: u8,
+        entry_bytes: *mut u8,
+        entry_bytes_len: usize,
+        entry_oklab: *mut f32,
+        entry_oklab_len: usize,
+        entry_counts: *mut u32,
+        entry_counts_len: usize,
+        index: *mut u32,
+        index_len: usize,
+        entries: &mut usize,
+    ) -> u32;
+}
+
+/// What every call with a job is lent.
+pub struct Job {
+    pub s: usize,
+    pub c: usize,
+    pub t: usize,
+    pub weight: f32,
+    pub tiles: Lent<u32>,
+    pub colours: Lent<f32>,
+    pub counts: Lent<u32>,
+}
+
+impl Job {
+    pub fn lent(given: &Given) -> Self {
+        Job {
+            s: given.s,
+            c: given.c,
+            t: given.t,
+            weight: given.weight,
+            tiles: lent::words(&given.tiles),
+            colours: lent::floats(&given.colours),
+            counts: lent::words(&given.counts),
+        }
+    }
+
+    pub fn untouched(&self) -> bool {
+        self.tiles.untouched() && self.colours.untouched() && self.counts.untouched()
+    }
+}
+
+/// The room that grouping fills.
+pub struct Entries {
+    pub bytes: Lent<u8>,
+    pub oklab: Lent<f32>,
+    pub counts: Lent<u32>,
+    pub index: Lent<u32>,
+}
+
+/// The number, and how many entries were written.
+pub fn group(
+    p: usize,
+    pixels: &Lent<u8>,
+    oklab: &Lent<f32>,
+    zero: Option<[u8; 3]>,
+    room: &mut Entries,
+) -> (u32, usize) {
+    let [r, g, b] = zero.unwrap_or_default();
+    let mut entries = 0;
+    let number = unsafe {
+        probe_group(
+            p,
+            pixels.pointer(),
+            pixels.len(),
+            oklab.pointer(),
+            oklab.len(),
+            zero.is_some(),
+            r,
+            g,
+            b,
+            room.bytes.pointer_mut(),
+            room.bytes.len(),
+            room.oklab.pointer_mut(),
+            room.oklab.len(),
+            room.counts.pointer_mut(),
+            room.counts.len(),
+            room.index.pointer_mut(),
+            room.index.len(),
+            &mut entries,
+        )
+    };
+    (number, entries)
+}

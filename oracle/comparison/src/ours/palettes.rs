@@ -1,0 +1,189 @@
+//! palette, palette_two, palette_edit.
+
+use terms::{Colour, Edit, Fit, FitTwo, Palette, Tile};
+
+unsafe extern "C" {
+    fn probe_nearest(sub: *const f32, sub_len: usize, l: f32, a: f32, b: f32, weight: f32, dist: &mut f32) -> usize;
+    fn probe_tile_distance(
+        sub: *const f32,
+        sub_len: usize,
+        tile: *const f32,
+        tile_len: usize,
+        counts: *const u32,
+        counts_len: usize,
+        weight: f32,
+    ) -> f32;
+    fn probe_best_fit(
+        pal: *const f32,
+        pal_len: usize,
+        c: usize,
+        have: usize,
+        n: usize,
+        tile: *const f32,
+        tile_len: usize,
+        counts: *const u32,
+        counts_len: usize,
+        weight: f32,
+        hints: *mut u32,
+        hints_len: usize,
+        t: usize,
+        dist: &mut f32,
+    ) -> usize;
+    fn probe_nearest_two(
+        sub: *const f32,
+        sub_len: usize,
+        l: f32,
+        a: f32,
+        b: f32,
+        weight: f32,
+        dist: &mut f32,
+        second: &mut f32,
+    ) -> usize;
+    fn probe_best_two(
+        pal: *const f32,
+        pal_len: usize,
+        c: usize,
+        have: usize,
+        n: usize,
+        tile: *const f32,
+        tile_len: usize,
+        counts: *const u32,
+        counts_len: usize,
+        weight: f32,
+        hints: *mut u32,
+        hints_len: usize,
+        t: usize,
+        dist: &mut f32,
+        second: &mut f32,
+    ) -> usize;
+    fn probe_nudge(pal: *mut f32, len: usize, place: usize, l: f32, a: f32, b: f32, alpha: f32);
+    fn probe_copy_color(pal: *mut f32, len: usize, c: usize, i: usize, from: usize, to: usize);
+    fn probe_duplicate_color(pal: *mut f32, len: usize, c: usize, have: usize, i: usize, from: usize);
+    fn probe_copy_subpalette(pal: *mut f32, len: usize, c: usize, have: usize, from: usize, to: usize);
+    fn probe_duplicate_palette(pal: *mut f32, len: usize, c: usize, have: usize, n: usize, from: usize);
+}
+
+pub fn nearest(sub: &[Colour], q: Colour, weight: f32) -> (usize, f32) {
+    let (flat, mut dist) = (sub.as_flattened(), 0.0);
+    let index = unsafe { probe_nearest(flat.as_ptr(), flat.len(), q[0], q[1], q[2], weight, &mut dist) };
+    (index, dist)
+}
+
+pub fn nearest_two(sub: &[Colour], q: Colour, weight: f32) -> (usize, f32, f32) {
+    let (flat, mut dist, mut second) = (sub.as_flattened(), 0.0, 0.0);
+    let index =
+        unsafe { probe_nearest_two(flat.as_ptr(), flat.len(), q[0], q[1], q[2], weight, &mut dist, &mut second) };
+    (index, dist, second)
+}
+
+pub fn tile_distance(sub: &[Colour], tile: &Tile, weight: f32) -> f32 {
+    let (sub, colours, counts) = (sub.as_flattened(), tile.colours.as_flattened(), &tile.counts);
+    unsafe {
+        probe_tile_distance(
+            sub.as_ptr(),
+            sub.len(),
+            colours.as_ptr(),
+            colours.len(),
+            counts.as_ptr(),
+            counts.len(),
+            weight,
+        )
+    }
+}
+
+/// A palette in one flat slice, with room for `room` colours in each subpalette; where none is present stands a NaN, which
+/// nothing may read.
+pub struct Flat {
+    pub numbers: Vec<f32>,
+    pub room: usize,
+    pub have: usize,
+    pub subs: usize,
+}
+
+impl Flat {
+    pub fn new(palette: &Palette, room: usize) -> Self {
+        Flat::with_places(palette, room, palette.len())
+    }
+
+    /// With room for `places` subpalettes, those that are not there yet at the end.
+    pub fn with_places(palette: &Palette, room: usize, places: usize) -> Self {
+        let (subs, have) = (palette.len(), palette[0].len());
+        let mut numbers = vec![f32::NAN; 3 * places * room];
+        for (i, sub) in palette.iter().enumerate() {
+            numbers[3 * i * room..3 * (i * room + sub.len())].copy_from_slice(sub.as_flattened());
+        }
+        Flat { numbers, room, have, subs }
+    }
+
+    pub fn sub(&self, i: usize) -> &[Colour] {
+        &self.numbers.as_chunks().0[i * self.room..][..self.have]
+    }
+
+    pub fn nudge(&mut self, place: usize, target: Colour, alpha: f32) {
+        let (pal, [l, a, b]) = (&mut self.numbers, target);
+        unsafe { probe_nudge(pal.as_mut_ptr(), pal.len(), place, l, a, b, alpha) };
+    }
+
+    pub fn edit(&mut self, edit: Edit) {
+        let (c, have, n) = (self.room, self.have, self.subs);
+        let (pal, len) = (self.numbers.as_mut_ptr(), self.numbers.len());
+        unsafe {
+            match edit {
+                Edit::DuplicatePalette(from) => probe_duplicate_palette(pal, len, c, have, n, from),
+                Edit::DuplicateColor { sub, from } => probe_duplicate_color(pal, len, c, have, sub, from),
+                Edit::CopySubpalette { from, to } => probe_copy_subpalette(pal, len, c, have, from, to),
+                Edit::CopyColor { sub, from, to } => probe_copy_color(pal, len, c, sub, from, to),
+            }
+        }
+    }
+}
+
+/// A tile that is not empty, by the hint at place t of some.
+pub fn best_fit(palette: &Flat, tile: &Tile, weight: f32, hints: &mut [u32], t: usize) -> Fit {
+    let (colours, counts, mut dist) = (tile.colours.as_flattened(), &tile.counts, 0.0);
+    let index = unsafe {
+        probe_best_fit(
+            palette.numbers.as_ptr(),
+            palette.numbers.len(),
+            palette.room,
+            palette.have,
+            palette.subs,
+            colours.as_ptr(),
+            colours.len(),
+            counts.as_ptr(),
+            counts.len(),
+            weight,
+            hints.as_mut_ptr(),
+            hints.len(),
+            t,
+            &mut dist,
+        )
+    };
+    Fit { index, dist, hint: hints[t] as usize }
+}
+
+/// A tile that may be empty, by the hint at place t of some.
+pub fn best_two(palette: &Flat, tile: &Tile, weight: f32, hints: &mut [u32], t: usize) -> FitTwo {
+    let (colours, counts) = (tile.colours.as_flattened(), &tile.counts);
+    let [mut dist, mut second] = [0.0; 2];
+    let index = unsafe {
+        probe_best_two(
+            palette.numbers.as_ptr(),
+            palette.numbers.len(),
+            palette.room,
+            palette.have,
+            palette.subs,
+            colours.as_ptr(),
+            colours.len(),
+            counts.as_ptr(),
+            counts.len(),
+            weight,
+            hints.as_mut_ptr(),
+            hints.len(),
+            t,
+            &mut dist,
+            &mut second,
+        )
+    };
+    FitTwo { index, dist, second, hint: hints[t] as usize }
+}
