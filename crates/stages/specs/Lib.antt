@@ -1,0 +1,5 @@
+pub mod Whilst
+pub mod State
+pub mod Stages
+pub mod Record
+pub mod Calls

@@ -1,0 +1,52 @@
+-- What a run holds between two draws, and the tests on its stage. Definitions only. Assumes nothing.
+-- Stages: 0 seeding, 1 growing, 2 replacing, 3 stop for reduction, 4 final draws, 5 stop, 6 stop, 7 finished.
+use Prim.Native.Nat.{ℕ}
+use mathlib.Core.Bool.{Bool, cond, _||_}
+use mathlib.Core.List.{List}
+use lib.Dec.{ltb, eqb}
+use lib.Ieee.{Float}
+use Rattle.stages.specs.declared.Record.{Record}
+
+pub record State : Type 0 where
+  pub order : List ℕ
+  pub hints : List ℕ
+  pub palette : List Float
+  pub least : List Float
+  -- the record's words 0 to 5
+  pub generator : ℕ
+  pub stage : ℕ
+  pub rounds : ℕ
+  pub left : ℕ
+  pub made : ℕ
+  pub error : ℕ
+
+-- from lent lists and the record, and back to the record
+abbrev pub stateWith : List ℕ → List ℕ → List Float → List Float → Record → State
+stateWith order hints palette least r =
+    record { order = order; hints = hints; palette = palette; least = least; generator = r .generator; stage = r .stage; rounds = r .rounds; left = r .left; made = r .made; error = r .error }
+
+abbrev pub recordIn : State → Record
+recordIn s = record { generator = s .generator; stage = s .stage; rounds = s .rounds; left = s .left; made = s .made; error = s .error }
+
+-- ---- a state with some of its fields changed
+abbrev pub at : State → ℕ → ℕ → ℕ → State
+at s stage rounds left =
+    record { order = s .order; hints = s .hints; palette = s .palette; least = s .least; generator = s .generator; stage = stage; rounds = rounds; left = left; made = s .made; error = s .error }
+
+abbrev pub painted : State → List ℕ → List Float → State
+painted s hints palette =
+    record { order = s .order; hints = hints; palette = palette; least = s .least; generator = s .generator; stage = s .stage; rounds = s .rounds; left = s .left; made = s .made; error = s .error }
+
+abbrev pub kept : State → List Float → ℕ → State
+kept s least error =
+    record { order = s .order; hints = s .hints; palette = s .palette; least = least; generator = s .generator; stage = s .stage; rounds = s .rounds; left = s .left; made = s .made; error = error }
+
+-- ---- the stages that draw; those that wait for reduced colours; and a value for each that draws and one for the rest
+abbrev pub draws : ℕ → Bool
+draws k = ltb k 3 || eqb k 4
+
+abbrev pub stops : ℕ → Bool
+stops k = eqb k 3 || eqb k 5 || eqb k 6
+
+abbrev pub byStage {ℓ} : {A : Type ℓ} → ℕ → A → A → A → A → A → A
+byStage k a0 a1 a2 a4 e = cond (eqb k 0) a0 (cond (eqb k 1) a1 (cond (eqb k 2) a2 (cond (eqb k 4) a4 e)))

@@ -1,0 +1,13 @@
+// The run, stage by stage, its record and its four calls, as definitions: specs/ holds them. The functions stand in the crates above.
+// Here is only what they share.
+
+// The record's six words by name: generator state, stage, rounds finished in the stage, draws left in the round, draws made,
+// and the bits of the least error.
+pub struct Record {
+    pub generator: u64,
+    pub stage: u64,
+    pub rounds: u64,
+    pub left: u64,
+    pub made: u64,
+    pub error: u64,
+}
