@@ -1,4 +1,4 @@
-// Forwarders to palette, palette_two and palette_edit. Assumes of callers what each callee requires.
+// Forwarders to palette, palette_two, palette_edit and view. Assumes of callers what each callee requires.
 ghost use mathlib.Core.Path.{_≡_};
 ghost use Prim.Native.Nat.{ℕ, _+_, _*_, _≤_, _<_};
 ghost use lib.ListN.{length, getD};
@@ -135,4 +135,34 @@ pub extern "C" fn probe_duplicate_palette(
     requires { ⌜ (have ≤ c) × ((from * (3 * c) + 3 * c ≤ length (now pal)) × (n * (3 * c) + 3 * c ≤ length (now pal))) ⌝ }
 {
     palette_edit::duplicate_palette(pal, c, have, n, from)
+}
+
+#[no_mangle]
+pub extern "C" fn probe_view_nearest(
+    sub: &[f32],
+    l: f32,
+    a: f32,
+    b: f32,
+    weight: f32,
+    dist: &mut f32,
+) -> usize {
+    let near = view::nearest_in(sub, Oklab { l, a, b }, weight);
+    *dist = near.dist;
+    near.index
+}
+
+#[no_mangle]
+pub extern "C" fn probe_view_nearest_two(
+    sub: &[f32],
+    l: f32,
+    a: f32,
+    b: f32,
+    weight: f32,
+    dist: &mut f32,
+    second: &mut f32,
+) -> usize {
+    let two = view::nearest_two_in(sub, Oklab { l, a, b }, weight);
+    *dist = two.dist;
+    *second = two.second;
+    two.index
 }

@@ -3,7 +3,7 @@
 use answers::{probed, rust};
 use terms::jobs::{self, Colours};
 use terms::rng::Rng;
-use terms::{Edit, Fit, FitTwo, Palette, Tile};
+use terms::{Colour, Edit, Fit, FitTwo, Palette, Tile};
 
 use super::{Kind, kind};
 use crate::ours::{self, Flat};
@@ -51,20 +51,29 @@ impl Case {
     }
 }
 
-fn nearest(rng: &mut Rng, _: u64, tally: &mut Tally) {
+/// A subpalette that a run may hold, a job's colour, and the weight.
+fn near(rng: &mut Rng) -> (Vec<Colour>, Colour, f32) {
     let (weight, colours) = (jobs::weight(rng), Colours::any(rng, 4.0));
     let n = jobs::sixteen(rng);
-    let (sub, q) = (colours.many(rng, n, 4.0), colours.one(rng, 2.0));
-    let shown = || format!("{q:?} among {sub:?}, weight {weight:?}");
-    tally.same(ours::nearest(&sub, q, weight), rust(weight).nearest(&sub, q), shown);
+    (colours.many(rng, n, 4.0), colours.one(rng, 2.0), weight)
 }
 
-fn nearest_two(rng: &mut Rng, _: u64, tally: &mut Tally) {
-    let (weight, colours) = (jobs::weight(rng), Colours::any(rng, 4.0));
-    let n = jobs::sixteen(rng);
-    let (sub, q) = (colours.many(rng, n, 4.0), colours.one(rng, 2.0));
+/// By the function and by the view.
+fn nearest(rng: &mut Rng, _: u64, tally: &mut Tally) {
+    let (sub, q, weight) = near(rng);
+    let right = rust(weight).nearest(&sub, q);
     let shown = || format!("{q:?} among {sub:?}, weight {weight:?}");
-    tally.same(ours::nearest_two(&sub, q, weight), rust(weight).nearest_two(&sub, q), shown);
+    tally.same(ours::nearest(&sub, q, weight), right, shown);
+    tally.same(ours::view_nearest(&sub, q, weight), right, shown);
+}
+
+/// By the function and by the view.
+fn nearest_two(rng: &mut Rng, _: u64, tally: &mut Tally) {
+    let (sub, q, weight) = near(rng);
+    let right = rust(weight).nearest_two(&sub, q);
+    let shown = || format!("{q:?} among {sub:?}, weight {weight:?}");
+    tally.same(ours::nearest_two(&sub, q, weight), right, shown);
+    tally.same(ours::view_nearest_two(&sub, q, weight), right, shown);
 }
 
 fn distance(rng: &mut Rng, _: u64, tally: &mut Tally) {

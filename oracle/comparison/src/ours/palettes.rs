@@ -1,9 +1,18 @@
-//! palette, palette_two, palette_edit.
+//! palette, palette_two, palette_edit, view.
 
 use terms::{Colour, Edit, Fit, FitTwo, Palette, Tile};
 
 unsafe extern "C" {
     fn probe_nearest(sub: *const f32, sub_len: usize, l: f32, a: f32, b: f32, weight: f32, dist: &mut f32) -> usize;
+    fn probe_view_nearest(
+        sub: *const f32,
+        sub_len: usize,
+        l: f32,
+        a: f32,
+        b: f32,
+        weight: f32,
+        dist: &mut f32,
+    ) -> usize;
     fn probe_tile_distance(
         sub: *const f32,
         sub_len: usize,
@@ -30,6 +39,16 @@ unsafe extern "C" {
         dist: &mut f32,
     ) -> usize;
     fn probe_nearest_two(
+        sub: *const f32,
+        sub_len: usize,
+        l: f32,
+        a: f32,
+        b: f32,
+        weight: f32,
+        dist: &mut f32,
+        second: &mut f32,
+    ) -> usize;
+    fn probe_view_nearest_two(
         sub: *const f32,
         sub_len: usize,
         l: f32,
@@ -69,10 +88,25 @@ pub fn nearest(sub: &[Colour], q: Colour, weight: f32) -> (usize, f32) {
     (index, dist)
 }
 
+/// By the view.
+pub fn view_nearest(sub: &[Colour], q: Colour, weight: f32) -> (usize, f32) {
+    let (flat, mut dist) = (sub.as_flattened(), 0.0);
+    let index = unsafe { probe_view_nearest(flat.as_ptr(), flat.len(), q[0], q[1], q[2], weight, &mut dist) };
+    (index, dist)
+}
+
 pub fn nearest_two(sub: &[Colour], q: Colour, weight: f32) -> (usize, f32, f32) {
     let (flat, mut dist, mut second) = (sub.as_flattened(), 0.0, 0.0);
     let index =
         unsafe { probe_nearest_two(flat.as_ptr(), flat.len(), q[0], q[1], q[2], weight, &mut dist, &mut second) };
+    (index, dist, second)
+}
+
+/// By the view.
+pub fn view_nearest_two(sub: &[Colour], q: Colour, weight: f32) -> (usize, f32, f32) {
+    let (flat, mut dist, mut second) = (sub.as_flattened(), 0.0, 0.0);
+    let index =
+        unsafe { probe_view_nearest_two(flat.as_ptr(), flat.len(), q[0], q[1], q[2], weight, &mut dist, &mut second) };
     (index, dist, second)
 }
 
