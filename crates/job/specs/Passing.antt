@@ -5,7 +5,7 @@ use mathlib.Core.Bool.{Bool, true, false, not, cond}
 use mathlib.Core.List.{List, [], _∷_, _++_}
 use native.Mathlib.Omega.{arith}
 use lib.Dec.{eqb, ltb}
-use borrow.Author.Tests.{eq-eqb, ne-eqb, ltb-true, not-true, not-false}
+use borrow.Author.Tests.{eqb-true, eqb-false, eq-eqb, ne-eqb, ltb-true, not-true, not-false}
 use Rattle.job.specs.Rules.{Rule, rule, answer, numbered, Passed}
 use Rattle.lists.specs.Tests.{and-l, and-r}
 
@@ -29,6 +29,14 @@ stops rs ss a h e n = rw (answer-then rs ss h, ← e, ne-eqb a 0 n)
 -- the first list passes, and the second answers
 pub goes : (rs ss : List Rule) (a b : ℕ) → numbered rs ≡ true → a ≡ answer rs → a ≡ 0 → b ≡ answer ss → b ≡ answer (rs ++ ss)
 goes rs ss a b h e z w = rw (answer-then rs ss h, ← e, eq-eqb a 0 z, ← w)
+
+-- 0 of both where the whole is 0
+pub both-pass : (rs ss : List Rule) → numbered rs ≡ true → answer (rs ++ ss) ≡ 0 → (answer rs ≡ 0) × (answer ss ≡ 0)
+both-pass rs ss h e = by (eqb (answer rs) 0) refl (sym (answer-then rs ss h) ∙ e)
+  where
+    by : (b : Bool) → eqb (answer rs) 0 ≡ b → cond (eqb (answer rs) 0) (answer ss) (answer rs) ≡ 0 → (answer rs ≡ 0) × (answer ss ≡ 0)
+    by true k f = (eqb-true (answer rs) 0 k, rw k at f)
+    by false k f = absurd (eqb-false (answer rs) 0 k (rw k at f))
 
 -- a rule that passes leaves it to the rest, one that fails answers its number
 pub skips : (n a : ℕ) (p : Bool) (rs : List Rule) → p ≡ true → a ≡ answer rs → a ≡ answer (rule n p ∷ rs)

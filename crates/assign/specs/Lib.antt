@@ -1,0 +1,3 @@
+pub mod Assign
+pub mod Reading
+pub mod Only

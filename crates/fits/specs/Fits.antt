@@ -1,0 +1,64 @@
+-- The single fit and `best_two` of a job of one tile, of at most `size` pixels: the number that a call gets, its answer, and the hints that it leaves.
+-- Definitions only. Assumes nothing.
+use Prim.Native.Nat.{ℕ}
+use mathlib.Core.Bool.{not, cond}
+use mathlib.Core.List.{List, [], _∷_, _++_}
+use lib.Dec.{eqb}
+use lib.Ieee.{Float}
+use lib.ListN.{length, set}
+use Rattle.job.specs.Rules.{Rule, rule, answer}
+use Rattle.job.specs.Job.{Job, isEmpty}
+use Rattle.job.specs.Checks.{plainRules}
+use Rattle.palette_tile.specs.Tiles.{fitAt, twoAt}
+use Rattle.fits.specs.declared.Single.{Single}
+use Rattle.fits.specs.declared.Single.the-variants.{Best as Fit, Refused as NoFit}
+use Rattle.fits.specs.declared.Pair.{Pair}
+use Rattle.fits.specs.declared.Pair.the-variants.{Best as Both, Refused as NoBoth}
+
+-- ---- the answers' cases: a number k other than 0 with no values, or 0 with the values
+abbrev pub numberOfSingle : Single → ℕ
+numberOfSingle (Fit b) = 0
+numberOfSingle (NoFit k) = k
+
+abbrev pub numberOfPair : Pair → ℕ
+numberOfPair (Both b) = 0
+numberOfPair (NoBoth k) = k
+
+-- an answer, and the hints after it
+pub record SingleOutcome : Type 0 where
+  pub answer : Single
+  pub hints : List ℕ
+
+abbrev pub singleOutcome : Single → List ℕ → SingleOutcome
+singleOutcome r h = record { answer = r; hints = h }
+
+pub record PairOutcome : Type 0 where
+  pub answer : Pair
+  pub hints : List ℕ
+
+abbrev pub pairOutcome : Pair → List ℕ → PairOutcome
+pairOutcome r h = record { answer = r; hints = h }
+
+-- ---- the rules: one tile, a hint for it, then those of every call without samples
+abbrev pub oneRules : ℕ → Job → List Float → ℕ → List Rule
+oneRules size J palette hints = rule 2 (eqb (J .T) 1) ∷ plainRules size J palette (eqb hints (J .T))
+
+unfoldable pub oneAnswer : ℕ → Job → List Float → ℕ → ℕ
+oneAnswer size J palette hints = answer (oneRules size J palette hints)
+
+-- the single fit wants a colour, after all else
+unfoldable pub singleAnswer : ℕ → Job → List Float → ℕ → ℕ
+singleAnswer size J palette hints = answer (oneRules size J palette hints ++ (rule 15 (not (isEmpty J 0)) ∷ []))
+
+-- ---- the calls. Neither reads a hint; both leave the winner there; a refusal writes nothing
+unfoldable pub singleDef : ℕ → Job → List Float → List ℕ → SingleOutcome
+singleDef size J palette hints =
+    let number = singleAnswer size J palette (length hints) in
+    let best = fitAt J palette (J .S) (J .C) 0 in
+    cond (eqb number 0) (singleOutcome (Fit best) (set hints 0 (best .index))) (singleOutcome (NoFit number) hints)
+
+unfoldable pub pairDef : ℕ → Job → List Float → List ℕ → PairOutcome
+pairDef size J palette hints =
+    let number = oneAnswer size J palette (length hints) in
+    let best = twoAt J palette (J .S) (J .C) 0 in
+    cond (eqb number 0) (pairOutcome (Both best) (set hints 0 (best .index))) (pairOutcome (NoBoth number) hints)
