@@ -1,8 +1,10 @@
-//! Links the library of forwarders, which `rt staticlib probe` leaves in the repository's target/.
+//! Links the libraries of forwarders, which `rt staticlib` leaves in the repository's target/.
 
 fn main() {
     let folder = std::env::var("CARGO_MANIFEST_DIR").unwrap() + "/../../target/staticlib";
-    println!("cargo::rerun-if-changed={folder}/libprobe.a");
     println!("cargo::rustc-link-search=native={folder}");
-    println!("cargo::rustc-link-lib=static=probe");
+    for name in ["probe", "probe_palette", "probe_calls"] {
+        println!("cargo::rerun-if-changed={folder}/lib{name}.a");
+        println!("cargo::rustc-link-lib=static={name}");
+    }
 }

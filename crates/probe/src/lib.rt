@@ -1,9 +1,5 @@
-// Forwarders to the proved functions, for the comparison with the Rust: numbers and slices alone, so that C can call.
+// Forwarders to the leaves, for the comparison with the Rust: numbers and slices alone, so that C can call.
 // Each carries what its callee requires; the comparison's cases meet it.
-mod calls;
 mod choices;
 mod colors;
 mod draws;
-mod palettes;
-mod sheets;
-mod training;
