@@ -6,7 +6,7 @@ use mathlib.Core.Bool.{Bool, cond, _&&_}
 use mathlib.Core.List.{List}
 use lib.Dec.{eqb}
 use lib.Ieee.{Float}
-use lib.ListN.{length, set}
+use lib.ListN.{length, getD, set}
 use Rattle.job.specs.Job.{Job, isEmpty}
 use Rattle.job.specs.Checks.{plainAnswer}
 use Rattle.palette_tile.specs.Tiles.{winner, hintStep, hintsOf, Shown}
@@ -36,6 +36,10 @@ unfoldable pub subpalettes : Job → List Float → List ℕ → ℕ → List �
 unfolding subpaletteOf
 subpalettes J palette found zero = found
 subpalettes J palette found (suc t) = set (subpalettes J palette found t) t (subpaletteOf J palette t)
+
+-- the hint that is left to tile t: its winner, what was found where it is empty
+abbrev pub hintOf : Job → List Float → List ℕ → ℕ → ℕ
+hintOf J palette found t = cond (isEmpty J t) (getD found t 0) (winner J palette (J .S) (J .C) t)
 
 -- one tile more
 abbrev pub assignStep : Job → List Float → ℕ → Held → Held

@@ -13,7 +13,7 @@ use borrow.Author.Tests.{ltb-true, ltb-false}
 use Rattle.job.specs.Job.{Job, isEmpty}
 use Rattle.palette_tile.specs.Tiles.{winner, hintStep, hintsOf}
 use Rattle.palette_tile.specs.Hints.{length-hints}
-use Rattle.assign.specs.Assign.{subpaletteOf, subpalettes}
+use Rattle.assign.specs.Assign.{subpaletteOf, subpalettes, hintOf}
 
 module _ (J : Job) (palette : List Float) where
   pub length-subpalettes : (found : List ℕ) (n : ℕ) → length (subpalettes J palette found n) ≡ length found
@@ -37,10 +37,7 @@ module _ (J : Job) (palette : List Float) where
       by false e lower = here (omega (arith, ltb-false t n e))
 
   -- ---- hints: an empty tile's is what was found
-  abbrev pub hintOf : List ℕ → ℕ → ℕ
-  hintOf found t = cond (isEmpty J t) (getD found t 0) (winner J palette (J .S) (J .C) t)
-
-  hint-here : (h : List ℕ) (n : ℕ) → n < length h → getD (hintStep J palette (J .S) (J .C) n h) n 0 ≡ hintOf h n
+  hint-here : (h : List ℕ) (n : ℕ) → n < length h → getD (hintStep J palette (J .S) (J .C) n h) n 0 ≡ hintOf J palette h n
   unfolding hintStep
   hint-here h n l = by (isEmpty J n)
     where
@@ -64,23 +61,23 @@ module _ (J : Job) (palette : List Float) where
       apart : (t n : ℕ) → suc n ≤ t → t ≡ n → ⊥
       apart t n l e = omega arith
 
-  pub hint-at : (found : List ℕ) (n t : ℕ) → n ≤ length found → t < n → getD (hintsOf J palette (J .S) (J .C) found n) t 0 ≡ hintOf found t
+  pub hint-at : (found : List ℕ) (n t : ℕ) → n ≤ length found → t < n → getD (hintsOf J palette (J .S) (J .C) found n) t 0 ≡ hintOf J palette found t
   unfolding hintsOf
   hint-at found zero t l h = absurd (omega arith)
   hint-at found (suc n) t l h = by (ltb t n) refl (λ k. hint-at found n t (omega arith) k)
     where
-      last : getD (hintStep J palette (J .S) (J .C) n (hintsOf J palette (J .S) (J .C) found n)) n 0 ≡ hintOf found n
+      last : getD (hintStep J palette (J .S) (J .C) n (hintsOf J palette (J .S) (J .C) found n)) n 0 ≡ hintOf J palette found n
       last =
           hint-here (hintsOf J palette (J .S) (J .C) found n) n (omega (arith, length-hints J palette (J .S) (J .C) found n))
           ∙ ap (λ (k : ℕ). cond (isEmpty J n) k (winner J palette (J .S) (J .C) n)) (hint-ahead found n n (omega arith))
 
-      here : t ≡ n → getD (hintStep J palette (J .S) (J .C) n (hintsOf J palette (J .S) (J .C) found n)) t 0 ≡ hintOf found t
+      here : t ≡ n → getD (hintStep J palette (J .S) (J .C) n (hintsOf J palette (J .S) (J .C) found n)) t 0 ≡ hintOf J palette found t
       here e = rw e last
 
       apart : t < n → t ≡ n → ⊥
       apart k e = omega arith
 
-      by : (b : Bool) → ltb t n ≡ b → (t < n → getD (hintsOf J palette (J .S) (J .C) found n) t 0 ≡ hintOf found t)
-          → getD (hintStep J palette (J .S) (J .C) n (hintsOf J palette (J .S) (J .C) found n)) t 0 ≡ hintOf found t
+      by : (b : Bool) → ltb t n ≡ b → (t < n → getD (hintsOf J palette (J .S) (J .C) found n) t 0 ≡ hintOf J palette found t)
+          → getD (hintStep J palette (J .S) (J .C) n (hintsOf J palette (J .S) (J .C) found n)) t 0 ≡ hintOf J palette found t
       by true e lower = hint-elsewhere (hintsOf J palette (J .S) (J .C) found n) n t (apart (ltb-true t n e)) ∙ lower (ltb-true t n e)
       by false e lower = here (omega (arith, ltb-false t n e))

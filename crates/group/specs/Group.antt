@@ -6,6 +6,7 @@ use Prim.Native.Nat.{ℕ, zero, suc, _+_}
 use lib.Dec.{eqb}
 use lib.ListN.{length, drop, set}
 use lib.Ieee.{Float}
+use Rattle.lists.specs.Every.{sum}
 use Rattle.color.specs.declared.Oklab.{Oklab}
 use Rattle.color.specs.Color.{colourAt}
 use Rattle.group_pixels.specs.declared.Rgba.{Rgba}
@@ -73,6 +74,14 @@ entries q (suc k) = cond (keeps q k) (join (entries q k) (bytesAt q k) (colourAt
 unfoldable pub indexes : Pixels → ℕ → List ℕ → List ℕ
 indexes q zero found = found
 indexes q (suc k) found = cond (keeps q k) (set (indexes q k found) k (place (entries q k) (bytesAt q k))) (indexes q k found)
+
+-- ---- how many: the pixels that entries count, and the kept pixels among the first k (`counts-add-up` in Totals)
+unfoldable pub total : List Entry → ℕ
+total [] = 0
+total (e ∷ es) = e .count + total es
+
+abbrev pub keptPixels : Pixels → ℕ → ℕ
+keptPixels q k = sum (λ i. cond (keeps q i) 1 0) k
 
 -- ---- entries in lent memory
 unfoldable pub bytesOf : List Entry → List ℕ

@@ -11,18 +11,8 @@ use Rattle.color.specs.Color.{colourAt}
 use Rattle.group_pixels.specs.declared.Rgba.{Rgba}
 use Rattle.group_pixels.specs.Pixel.{sameBytes}
 use Rattle.group_refusal.specs.Refusal.{Pixels}
-use Rattle.group.specs.Group.{Entry, seenAgain, join, entries, bytesAt, keeps}
+use Rattle.group.specs.Group.{Entry, seenAgain, join, entries, bytesAt, keeps, total, keptPixels}
 
--- ---- definitions
-unfoldable pub total : List Entry → ℕ
-total [] = 0
-total (e ∷ es) = e .count + total es
-
--- the kept pixels among the first k
-abbrev pub keptPixels : Pixels → ℕ → ℕ
-keptPixels q k = sum (λ i. cond (keeps q i) 1 0) k
-
--- ---- laws
 pub by-cases : (P : Bool → Type 0) → P true → P false → (b : Bool) → P b
 by-cases P t f true = t
 by-cases P t f false = f

@@ -1,12 +1,11 @@
 -- The rules that a job is held to, in their order, for tiles of at most `size` pixels. Definitions only. Assumes nothing.
-use Prim.Native.Nat.{ℕ, _+_, _*_}
-use mathlib.Core.Bool.{Bool, _&&_}
+use Prim.Native.Nat.{ℕ, zero, suc, _+_, _*_}
+use mathlib.Core.Bool.{Bool, cond, _&&_}
 use mathlib.Core.List.{List, [], _∷_, _++_}
 use lib.Dec.{eqb, ltb, leb}
 use lib.ListN.{length, getD}
 use lib.Ieee.{Float, nan, lt, le, neg}
 use Rattle.lists.specs.Every.{every, sum}
-use Rattle.job.specs.First.{firstNot}
 use Rattle.job.specs.Rules.{Rule, rule, answer}
 use Rattle.job.specs.Job.{Job, firstOf, sizeOf, countsPart, mostSubpalettes, mostColours, mostTiles, mostTileColours, mostSamples, nought, two, sixteen}
 
@@ -51,6 +50,11 @@ unfoldable pub countsFit : ℕ → List ℕ → List ℕ → ℕ → Bool
 countsFit size tiles counts t = every (tileCountsFit size tiles counts) t
 
 -- ---- components of magnitude m at most: the first that is not, and whether there is none
+-- the first index below n at which f is false; n where there is none
+unfoldable pub firstNot : (ℕ → Bool) → ℕ → ℕ
+firstNot f zero = 0
+firstNot f (suc n) = cond (every f n) (cond (f n) (suc n) n) (firstNot f n)
+
 unfoldable pub componentFits : Float → List Float → ℕ → Bool
 componentFits m xs i = within m (getD xs i nan)
 

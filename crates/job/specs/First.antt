@@ -1,4 +1,4 @@
--- The first index at which a test fails: the definition, and the laws that a search uses. Assumes nothing.
+-- The first index at which a test fails, as a search meets it. Assumes nothing.
 use Prim.Native.Nat.{ℕ, zero, suc, _≤_, _<_}
 use mathlib.Core.Path.{_≡_, refl, sym, subst, _∙_}
 use mathlib.Core.Bool.{Bool, true, false, not, cond, _&&_, true≢false}
@@ -7,11 +7,7 @@ use lib.Dec.{ltb}
 use borrow.Author.Tests.{not-true, ltb-true, ltb-false}
 use Rattle.lists.specs.Every.{every}
 use Rattle.lists.specs.Loops.{every-fails}
-
--- the first index below n at which f is false; n where there is none
-unfoldable pub firstNot : (ℕ → Bool) → ℕ → ℕ
-firstNot f zero = 0
-firstNot f (suc n) = cond (every f n) (cond (f n) (suc n) n) (firstNot f n)
+unfoldable pub use Rattle.job.specs.Checks.{firstNot}
 
 module _ (f : ℕ → Bool) where
   pub first-bound : (n : ℕ) → firstNot f n ≤ n

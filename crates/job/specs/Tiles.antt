@@ -10,7 +10,7 @@ use Rattle.ieee.specs.Within.{Within}
 use Rattle.color.specs.Color.{Finite, Bounded}
 use Rattle.color.specs.Sizes.{bounded-finite}
 use Rattle.job.specs.Job.{Job, firstOf, sizeOf, tileOf, countsOf, Placed}
-use Rattle.job.specs.Ready.{Ready}
+use Rattle.job.specs.Gives.{Ready}
 
 -- ---- a part of a list: what holds of each element of the whole holds of each of the part
 module _ {A : Type 0} (s : List A) (a m : ℕ) (h : a + m ≤ length s) where
