@@ -3,3 +3,4 @@ pub mod State
 pub mod Stages
 pub mod Record
 pub mod Calls
+pub mod History
