@@ -1,4 +1,5 @@
 // Forwarders to the public calls and the sheet's reader, for the comparison with the Rust, as those of probe.
 // Assumes nothing, as they do.
-mod calls;
+mod fitting;
+mod grouping;
 mod sheets;

@@ -105,13 +105,11 @@ fn count(rng: &mut Rng, given: &mut Given) {
         3 => 1 << 31,
         _ => {
             // the tile's sum becomes 64 or 65
-            let tile = given
-                .tiles
-                .chunks(2)
-                .find(|e| e.len() == 2 && (e[0]..e[0].saturating_add(e[1])).contains(&(place as u32)));
-            let part = tile.map_or(place..place + 1, |e| e[0] as usize..(e[0] + e[1]) as usize);
-            let others: u64 =
-                part.filter(|&k| k != place).filter_map(|k| given.counts.get(k)).map(|&n| u64::from(n)).sum();
+            let (end, place) = (given.counts.len(), place as u32);
+            let tile =
+                given.tiles.as_chunks().0.iter().find(|[first, n]| (*first..first.saturating_add(*n)).contains(&place));
+            let part = tile.map_or(0..0, |&[first, n]| first as usize..end.min(first as usize + n as usize));
+            let others = part.filter(|&k| k != place as usize).map(|k| u64::from(given.counts[k])).sum();
             (64 + rng.below(2) as u64).saturating_sub(others) as u32
         }
     };

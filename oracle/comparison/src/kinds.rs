@@ -1,5 +1,6 @@
 //! The kinds of comparison.
 
+mod calls;
 mod groups;
 mod leaves;
 mod own;
@@ -21,8 +22,8 @@ pub struct Kind {
     pub compare: fn(&mut Rng, u64, &mut Tally),
 }
 
-pub const KINDS: [&[Kind]; 6] =
-    [own::KINDS, leaves::KINDS, palettes::KINDS, training::KINDS, groups::KINDS, sheets::KINDS];
+pub const KINDS: [&[Kind]; 7] =
+    [own::KINDS, leaves::KINDS, palettes::KINDS, training::KINDS, groups::KINDS, calls::KINDS, sheets::KINDS];
 
 const fn kind(name: &'static str, cases: u64, compare: fn(&mut Rng, u64, &mut Tally)) -> Kind {
     Kind { name, cases, whole: false, compare }

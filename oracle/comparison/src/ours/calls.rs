@@ -4,6 +4,61 @@ use crate::lent::{self, Lent};
 use crate::table::Given;
 
 unsafe extern "C" {
+    fn probe_single_fit(
+        s: usize,
+        c: usize,
+        t: usize,
+        weight: f32,
+        tiles: *const u32,
+        tiles_len: usize,
+        colours: *const f32,
+        colours_len: usize,
+        counts: *const u32,
+        counts_len: usize,
+        palette: *const f32,
+        palette_len: usize,
+        hints: *mut u32,
+        hints_len: usize,
+        index: &mut usize,
+        dist: &mut f32,
+    ) -> u32;
+    fn probe_public_best_two(
+        s: usize,
+        c: usize,
+        t: usize,
+        weight: f32,
+        tiles: *const u32,
+        tiles_len: usize,
+        colours: *const f32,
+        colours_len: usize,
+        counts: *const u32,
+        counts_len: usize,
+        palette: *const f32,
+        palette_len: usize,
+        hints: *mut u32,
+        hints_len: usize,
+        index: &mut usize,
+        dist: &mut f32,
+        second: &mut f32,
+    ) -> u32;
+    fn probe_assign(
+        s: usize,
+        c: usize,
+        t: usize,
+        weight: f32,
+        tiles: *const u32,
+        tiles_len: usize,
+        colours: *const f32,
+        colours_len: usize,
+        counts: *const u32,
+        counts_len: usize,
+        palette: *const f32,
+        palette_len: usize,
+        hints: *mut u32,
+        hints_len: usize,
+        out: *mut u32,
+        out_len: usize,
+    ) -> u32;
     fn probe_group(
         p: usize,
         pixels: *const u8,
@@ -96,4 +151,80 @@ pub fn group(
         )
     };
     (number, entries)
+}
+
+/// The number, the winner and its distance; both stay 0 on a refusal.
+pub fn single_fit(job: &Job, palette: &Lent<f32>, hints: &mut Lent<u32>) -> (u32, usize, f32) {
+    let (mut index, mut dist) = (0, 0.0);
+    let number = unsafe {
+        probe_single_fit(
+            job.s,
+            job.c,
+            job.t,
+            job.weight,
+            job.tiles.pointer(),
+            job.tiles.len(),
+            job.colours.pointer(),
+            job.colours.len(),
+            job.counts.pointer(),
+            job.counts.len(),
+            palette.pointer(),
+            palette.len(),
+            hints.pointer_mut(),
+            hints.len(),
+            &mut index,
+            &mut dist,
+        )
+    };
+    (number, index, dist)
+}
+
+/// The number, the winner, its distance and the second; all stay 0 on a refusal.
+pub fn public_best_two(job: &Job, palette: &Lent<f32>, hints: &mut Lent<u32>) -> (u32, usize, f32, f32) {
+    let (mut index, mut dist, mut second) = (0, 0.0, 0.0);
+    let number = unsafe {
+        probe_public_best_two(
+            job.s,
+            job.c,
+            job.t,
+            job.weight,
+            job.tiles.pointer(),
+            job.tiles.len(),
+            job.colours.pointer(),
+            job.colours.len(),
+            job.counts.pointer(),
+            job.counts.len(),
+            palette.pointer(),
+            palette.len(),
+            hints.pointer_mut(),
+            hints.len(),
+            &mut index,
+            &mut dist,
+            &mut second,
+        )
+    };
+    (number, index, dist, second)
+}
+
+pub fn assign(job: &Job, palette: &Lent<f32>, hints: &mut Lent<u32>, out: &mut Lent<u32>) -> u32 {
+    unsafe {
+        probe_assign(
+            job.s,
+            job.c,
+            job.t,
+            job.weight,
+            job.tiles.pointer(),
+            job.tiles.len(),
+            job.colours.pointer(),
+            job.colours.len(),
+            job.counts.pointer(),
+            job.counts.len(),
+            palette.pointer(),
+            palette.len(),
+            hints.pointer_mut(),
+            hints.len(),
+            out.pointer_mut(),
+            out.len(),
+        )
+    }
 }

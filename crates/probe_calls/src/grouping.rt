@@ -1,4 +1,4 @@
-// Forwarders to the public calls. Assumes nothing, as they do.
+// A forwarder to grouping. Assumes nothing.
 use group::Grouped;
 use group_pixels::Zero;
 

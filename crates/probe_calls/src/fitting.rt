@@ -1,0 +1,70 @@
+// Forwarders to the single fit, `best_two` and assign. Assumes nothing.
+// Each gives the number; what else there is to give goes through the references, which stay on a refusal.
+use fits::Pair;
+use fits::Single;
+
+#[no_mangle]
+pub extern "C" fn probe_single_fit(
+    s: usize,
+    c: usize,
+    t: usize,
+    weight: f32,
+    tiles: &[u32],
+    colours: &[f32],
+    counts: &[u32],
+    palette: &[f32],
+    hints: &mut [u32],
+    index: &mut usize,
+    dist: &mut f32,
+) -> u32 {
+    match fits::single_fit(s, c, t, weight, tiles, colours, counts, palette, hints) {
+        Single::Best(near) => {
+            *index = near.index;
+            *dist = near.dist;
+            0
+        }
+        Single::Refused(number) => number,
+    }
+}
+
+#[no_mangle]
+pub extern "C" fn probe_public_best_two(
+    s: usize,
+    c: usize,
+    t: usize,
+    weight: f32,
+    tiles: &[u32],
+    colours: &[f32],
+    counts: &[u32],
+    palette: &[f32],
+    hints: &mut [u32],
+    index: &mut usize,
+    dist: &mut f32,
+    second: &mut f32,
+) -> u32 {
+    match fits::best_two(s, c, t, weight, tiles, colours, counts, palette, hints) {
+        Pair::Best(two) => {
+            *index = two.index;
+            *dist = two.dist;
+            *second = two.second;
+            0
+        }
+        Pair::Refused(number) => number,
+    }
+}
+
+#[no_mangle]
+pub extern "C" fn probe_assign(
+    s: usize,
+    c: usize,
+    t: usize,
+    weight: f32,
+    tiles: &[u32],
+    colours: &[f32],
+    counts: &[u32],
+    palette: &[f32],
+    hints: &mut [u32],
+    out: &mut [u32],
+) -> u32 {
+    assign::assign(s, c, t, weight, tiles, colours, counts, palette, hints, out)
+}

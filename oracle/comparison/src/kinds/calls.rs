@@ -1,0 +1,160 @@
+//! The public calls without samples: single fit, `best_two`, assign. Refusals by document 01's table on damaged copies of good
+//! jobs, answers by the Rust, and all lent memory before and after.
+
+use answers::rust;
+use terms::jobs::{self, Colours};
+use terms::rng::Rng;
+use terms::{Palette, Tile};
+
+use super::{Kind, kind};
+use crate::damage;
+use crate::lent;
+use crate::ours;
+use crate::table::{self, Given};
+use crate::tally::Tally;
+
+pub const KINDS: &[Kind] = &[
+    kind("single fit", 20_000, single_fit),
+    kind("public best_two", 20_000, best_two),
+    kind("assign", 20_000, assign),
+    kind("largest jobs", 12, largest),
+];
+
+/// A call as a stranger may make it. `out` is assign's.
+#[derive(Clone, Debug)]
+struct Call {
+    given: Given,
+    palette: Vec<f32>,
+    hints: Vec<u32>,
+    out: Vec<u32>,
+}
+
+impl Call {
+    fn new(rng: &mut Rng, palette: &Palette, tiles: &[Tile], weight: f32) -> Self {
+        let (s, t) = (palette.len(), tiles.len());
+        Call {
+            given: Given::new(palette, tiles, weight),
+            palette: palette.iter().flatten().flatten().copied().collect(),
+            hints: jobs::hints(rng, t, s).into_iter().map(|hint| hint as u32).collect(),
+            out: (0..t).map(|_| rng.word()).collect(),
+        }
+    }
+
+    fn good(rng: &mut Rng, t: usize) -> Self {
+        let colours = Colours::any(rng, 2.0);
+        let (s, c) = (jobs::sixteen(rng), jobs::sixteen(rng));
+        let palette = jobs::palette(rng, s, c, &colours, 2.0);
+        let tiles = jobs::tiles(rng, t, &colours);
+        let weight = jobs::weight(rng);
+        Call::new(rng, &palette, &tiles, weight)
+    }
+
+    fn damaged(mut self, rng: &mut Rng) -> Self {
+        for _ in 0..rng.pick(&[0, 1, 1, 2, 3]) {
+            match rng.below(10) {
+                0 => damage::length(rng, &mut self.hints),
+                1 => damage::length(rng, &mut self.out),
+                _ => damage::damage(rng, &mut self.given, &mut self.palette),
+            }
+        }
+        self
+    }
+
+    /// Document 01's number, for a call whose own tests of number 2 and 3 are given.
+    fn number(&self, own_sizes: bool, own_lengths: bool) -> u32 {
+        let given = &self.given;
+        table::first(&[
+            (2, &|| table::sizes(given) && own_sizes),
+            (3, &|| table::lengths(given) && self.palette.len() == 3 * given.s * given.c),
+            (3, &|| self.hints.len() == given.t && own_lengths),
+            (4, &|| table::weight(given.weight)),
+            (5, &|| table::table(given)),
+            (6, &|| table::counts(given)),
+            (7, &|| table::within(&self.palette, 2.0) && table::within(&given.colours, 2.0)),
+        ])
+    }
+
+    fn subs(&self) -> Palette {
+        table::colours(&self.palette).chunks(self.given.c).map(<[_]>::to_vec).collect()
+    }
+
+    fn lent(&self) -> ours::Job {
+        ours::Job::lent(&self.given)
+    }
+}
+
+fn one_tile(rng: &mut Rng) -> Call {
+    let t = if rng.once_in(20) { 2 } else { 1 };
+    Call::good(rng, t).damaged(rng)
+}
+
+fn single_fit(rng: &mut Rng, _: u64, tally: &mut Tally) {
+    let call = one_tile(rng);
+    let mut number = call.number(call.given.t == 1, true);
+    if number == 0 && call.given.counts.is_empty() {
+        number = 15;
+    }
+    let mut right = (number, (0, 0.0), call.hints.clone(), true);
+    if number == 0 {
+        let fit = rust(call.given.weight).best_fit(&call.subs(), &call.given.tiles()[0], &[call.hints[0] as usize])[0];
+        right = (0, (fit.index, fit.dist), vec![fit.hint as u32], true);
+    }
+    let (job, palette, mut hints) = (call.lent(), lent::floats(&call.palette), lent::words(&call.hints));
+    let (answer, index, dist) = ours::single_fit(&job, &palette, &mut hints);
+    let kept = job.untouched() && palette.untouched() && hints.guarded();
+    tally.same((answer, (index, dist), hints.values().to_vec(), kept), right, || format!("{call:?}"));
+}
+
+fn best_two(rng: &mut Rng, _: u64, tally: &mut Tally) {
+    let call = one_tile(rng);
+    let number = call.number(call.given.t == 1, true);
+    let mut right = (number, (0, 0.0, 0.0), call.hints.clone(), true);
+    if number == 0 {
+        let fit = rust(call.given.weight).best_two(&call.subs(), &call.given.tiles()[0], &[call.hints[0] as usize])[0];
+        right = (0, (fit.index, fit.dist, fit.second), vec![fit.hint as u32], true);
+    }
+    let (job, palette, mut hints) = (call.lent(), lent::floats(&call.palette), lent::words(&call.hints));
+    let (answer, index, dist, second) = ours::public_best_two(&job, &palette, &mut hints);
+    let kept = job.untouched() && palette.untouched() && hints.guarded();
+    tally.same((answer, (index, dist, second), hints.values().to_vec(), kept), right, || format!("{call:?}"));
+}
+
+fn assign(rng: &mut Rng, _: u64, tally: &mut Tally) {
+    let t = rng.among(1, 8);
+    let call = Call::good(rng, t).damaged(rng);
+    assigned(&call, tally);
+}
+
+/// At the limits of the sizes: 1,024 and 1,025 tiles, 16,384 and 16,385 tile colours.
+fn largest(rng: &mut Rng, case: u64, tally: &mut Tally) {
+    let (t, colours) = [(1024, 16), (1025, 0), (256, 64), (257, 64), (1024, 1), (1024, 0)][case as usize % 6];
+    let kind = Colours::any(rng, 2.0);
+    let mut tiles: Vec<Tile> = (0..t)
+        .map(|i| {
+            // the last tile of the second largest job has one colour: 16,385 in all
+            let n = if t == 257 && i == 256 { 1 } else { colours };
+            Tile { colours: kind.many(rng, n, 2.0), counts: vec![1; n] }
+        })
+        .collect();
+    if rng.once_in(2) {
+        tiles.reverse();
+    }
+    let palette = jobs::palette(rng, 16, 2, &kind, 2.0);
+    assigned(&Call::new(rng, &palette, &tiles, 2.15), tally);
+}
+
+fn assigned(call: &Call, tally: &mut Tally) {
+    let number = call.number(true, call.out.len() == call.given.t);
+    let mut right = (number, call.hints.clone(), call.out.clone(), true);
+    if number == 0 {
+        let mut hints: Vec<usize> = call.hints.iter().map(|&hint| hint as usize).collect();
+        let subs = rust(call.given.weight).assign(&call.subs(), &call.given.tiles(), &mut hints);
+        let narrow = |all: Vec<usize>| all.into_iter().map(|x| x as u32).collect();
+        right = (0, narrow(hints), narrow(subs), true);
+    }
+    let (job, palette) = (call.lent(), lent::floats(&call.palette));
+    let (mut hints, mut out) = (lent::words(&call.hints), lent::words(&call.out));
+    let answer = ours::assign(&job, &palette, &mut hints, &mut out);
+    let kept = job.untouched() && palette.untouched() && hints.guarded() && out.guarded();
+    tally.same((answer, hints.values().to_vec(), out.values().to_vec(), kept), right, || format!("{call:?}"));
+}
