@@ -1,0 +1,118 @@
+-- `pack_colours` meets its contract. The loop's invariant: what is left to write gives the whole. Assumes nothing.
+use Prim.Native.Nat.{_≤_, _+_, _-_, _*_}
+use mathlib.Core.Path.{_≡_, refl, ap, _∙_}
+use mathlib.Core.List.{List}
+use native.Mathlib.Omega.{arith}
+use lib.ListN.{length, drop}
+use lib.Seq.{sets}
+use lib.Ieee.{Float}
+use Rattle.bits.specs.Bits.{bits}
+use Rattle.sheet_format.specs.Sheet.{edition1}
+use Rattle.sheet_format.specs.Lists.{patterns}
+use Rattle.sheet_pack.specs.Packed.{coloursOf, words, coloursBits}
+use Rattle.sheet_pack.proofs.Writes.{three-part, three-long, three-bounded, colours-again, colours-end}
+use Rattle.sheet_pack.proofs.pack_colours.Statement.{statement}
+use Rattle.sheet_pack.proofs.pack_colours.Tie as tie
+
+abbrev Inv-loop : tie.InvT-loop
+Inv-loop dst₀ p counts colours q₀ i₀ dst q i =
+    (i ≤ length counts) × (length dst ≡ length dst₀) × (q ≡ p + 102 * i)
+    × (sets (bits dst) q (coloursBits edition1 (coloursOf (drop i counts) (drop (3 * i) colours))) ≡ sets (bits dst₀) p (coloursBits edition1 (coloursOf counts colours)))
+
+abbrev μ-loop : tie.MeasureT-loop
+μ-loop dst₀ p counts colours q₀ i₀ dst q i = length counts - i
+
+loop-holds : tie.Need-loop-holds Inv-loop μ-loop
+loop-holds c = (omega arith, refl, omega arith, refl)
+
+mul-at : tie.Need-mul-at Inv-loop μ-loop
+mul-at c = omega arith
+
+mul-put : tie.Need-mul-put Inv-loop μ-loop
+mul-put c = omega arith
+
+shared-slice-read-put : tie.Need-shared-slice-read-put Inv-loop μ-loop
+shared-slice-read-put c = omega arith
+
+sub-put : tie.Need-sub-put Inv-loop μ-loop
+sub-put c = c .before .before .before .before .before .before .before .pre .3 (c .before .before .before .loop .i) (omega arith)
+
+put-requires : tie.Need-put-requires Inv-loop μ-loop
+put-requires c κs = omega arith
+
+add-pack-components : tie.Need-add-pack-components Inv-loop μ-loop
+add-pack-components c = omega arith
+
+add-pack-components-2 : tie.Need-add-pack-components-2 Inv-loop μ-loop
+add-pack-components-2 c = omega arith
+
+mul-pack-components : tie.Need-mul-pack-components Inv-loop μ-loop
+mul-pack-components c = omega arith
+
+sub-pack-components : tie.Need-sub-pack-components Inv-loop μ-loop
+sub-pack-components c = omega arith
+
+part-pack-components-start : tie.Need-part-pack-components-start Inv-loop μ-loop
+part-pack-components-start c = omega arith
+
+part-pack-components-end : tie.Need-part-pack-components-end Inv-loop μ-loop
+part-pack-components-end c = omega arith
+
+pack-components-requires : tie.Need-pack-components-requires Inv-loop μ-loop
+pack-components-requires c κs =
+    let room : 3 * c .before .before .before .before .before .before .before .before .loop .i + 3 ≤ length (c .before .before .before .before .before .before .before .before .before .before .before .before .args .colours .now) = omega arith in
+    let long = three-long (c .before .before .before .before .before .before .before .before .before .before .before .before .args .colours .now) (3 * c .before .before .before .before .before .before .before .before .loop .i) room in
+    (omega arith, omega arith, three-bounded (c .before .before .before .before .before .before .before .before .before .before .before .before .args .colours .now) (3 * c .before .before .before .before .before .before .before .before .loop .i) room 2 (c .before .before .before .before .before .before .before .before .before .before .before .before .pre .4))
+
+add-q : tie.Need-add-q Inv-loop μ-loop
+add-q c = omega arith
+
+add-i : tie.Need-add-i Inv-loop μ-loop
+add-i c = omega arith
+
+loop-less : tie.Need-loop-less Inv-loop μ-loop
+loop-less c = omega arith
+
+loop-again : tie.Need-loop-again Inv-loop μ-loop
+loop-again c = (
+  omega arith,
+  c .before .before .pack-components .kept .0 ∙ c .before .before .before .before .before .before .before .put .kept .0 ∙ c .before .before .before .before .before .before .before .before .before .before .before .loop .inv .1,
+  omega arith,
+  colours-again (c .before .before .before .before .before .before .before .before .before .before .before .before .before .before .before .args .counts .now) (c .before .before .before .before .before .before .before .before .before .before .before .before .before .before .before .args .colours .now) (c .before .before .before .before .before .before .before .before .before .before .before .loop .dst) (c .before .before .before .before .before .before .before .put .last .0) (c .before .before .pack-components .last .0) (c .before .before .before .before .before .before .before .before .before .before .before .loop .q) (c .before .before .before .before .before .before .before .before .before .before .before .loop .i) _ (omega arith) (omega arith) (omega arith)
+      (c .before .before .before .before .before .before .before .put .ensures)
+      (c .before .before .pack-components .ensures
+      ∙ ap (λ (x : List Float). sets (bits (c .before .before .before .before .before .before .before .put .last .0)) (c .before .before .before .before .before .before .before .before .before .before .before .loop .q + 6) (words (patterns x))) (three-part (c .before .before .before .before .before .before .before .before .before .before .before .before .before .before .before .args .colours .now) (3 * c .before .before .before .before .before .before .before .before .before .before .before .loop .i) (omega arith)))
+      (c .before .before .before .before .before .before .before .before .before .before .before .loop .inv .3),
+)
+
+same-length : tie.Need-same-length Inv-loop μ-loop
+same-length c = omega arith
+
+returns : tie.Need-returns Inv-loop μ-loop
+returns c = colours-end (c .before .before .before .before .before .args .counts .now) (c .before .before .before .before .before .args .colours .now) (c .before .loop .dst) (c .before .loop .q) (c .before .loop .i) _ (omega arith) (c .before .loop .inv .3)
+
+pub pack-colours-spec : {M : Type 1} → statement M
+pack-colours-spec =
+    tie.close
+    (tie.spec
+    Inv-loop
+    μ-loop
+    loop-holds
+    mul-at
+    mul-put
+    shared-slice-read-put
+    sub-put
+    put-requires
+    add-pack-components
+    add-pack-components-2
+    mul-pack-components
+    sub-pack-components
+    part-pack-components-start
+    part-pack-components-end
+    pack-components-requires
+    add-q
+    add-i
+    loop-less
+    loop-again
+    same-length
+    returns)

@@ -1,0 +1,117 @@
+// The sheet writer's fields, in the format's order, then zero bits to the byte's end: of a job that passed its checks, into bytes
+// that have room. Assumes nothing.
+ghost use mathlib.Core.Path.{_≡_};
+ghost use Prim.Native.Nat.{_+_, _-_, _*_, _≤_, _<_};
+ghost use mathlib.Core.Bool.{false};
+ghost use mathlib.Core.List.{_++_};
+ghost use lib.ListN.{length, replicate};
+ghost use lib.Seq.{sets};
+ghost use Rattle.bits.specs.Bits.{bits};
+ghost use Rattle.format.specs.Format.{bytesFor};
+ghost use Rattle.color.specs.Color.{Bounded};
+ghost use Rattle.job.specs.Job.{job, tileSize};
+ghost use Rattle.job.specs.Ready.{Ready, Lent};
+ghost use Rattle.sheet_format.specs.Sheet.{edition1, sizeOf};
+ghost use Rattle.sheet_format.specs.Lists.{patterns};
+ghost use Rattle.sheet_pack.specs.Packed.{words, coloursBits, tileBits, tilesBits, headBits, sheetBits, coloursOf, tilesFrom, sheetOf, Counted, Tabled};
+
+const OPENING: u32 = 0x5446_4954;
+
+// Components as fields from bit p.
+pub fn pack_components(dst: &mut [u8], p: usize, src: &[f32])
+    requires { ⌜ (p + 32 * length (now src) ≤ 8 * length (now dst)) × (p + 32 * length (now src) ≤ 524288) × Bounded (now src) 2 ⌝ }
+    ensures { λ r. ⌜ bits (now (dst .exit)) ≡ sets (bits (now (dst .entry))) p (words (patterns (now (src .entry)))) ⌝ }
+{
+    let mut q = p;
+    let mut i = 0;
+    while i < src.len() {
+        let v = f32::to_bits(src[i]);
+        bits::put(dst, q, 32, v);
+        q += 32;
+        i += 1;
+    }
+}
+
+// A tile's colours, each with its count, as fields from bit p.
+pub fn pack_colours(dst: &mut [u8], p: usize, counts: &[u32], colours: &[f32])
+    requires { ⌜ (p + 102 * length (now counts) ≤ 8 * length (now dst)) × (p + 102 * length (now counts) ≤ 524288) × (length (now colours) ≡ 3 * length (now counts)) × Counted (now counts) × Bounded (now colours) 2 ⌝ }
+    ensures { λ r. ⌜ bits (now (dst .exit)) ≡ sets (bits (now (dst .entry))) p (coloursBits edition1 (coloursOf (now (counts .entry)) (now (colours .entry)))) ⌝ }
+{
+    let mut q = p;
+    let mut i = 0;
+    while i < counts.len() {
+        let at = 3 * i;
+        bits::put(dst, q, 6, counts[i] - 1);
+        pack_components(dst, q + 6, &colours[at..at + 3]);
+        q += 102;
+        i += 1;
+    }
+}
+
+// A tile from bit p: its number of colours, then those.
+pub fn pack_tile(dst: &mut [u8], p: usize, counts: &[u32], colours: &[f32])
+    requires { ⌜ (p + (7 + 102 * length (now counts)) ≤ 8 * length (now dst)) × (p + (7 + 102 * length (now counts)) ≤ 524288) × (length (now colours) ≡ 3 * length (now counts)) × Counted (now counts) × Bounded (now colours) 2 ⌝ }
+    ensures { λ r. ⌜ bits (now (dst .exit)) ≡ sets (bits (now (dst .entry))) p (tileBits edition1 (coloursOf (now (counts .entry)) (now (colours .entry)))) ⌝ }
+{
+    bits::put(dst, p, 7, counts.len() as u32);
+    pack_colours(dst, p + 7, counts, colours);
+}
+
+// The t tiles of a job from bit p.
+pub fn pack_tiles(
+    dst: &mut [u8],
+    p: usize,
+    t: usize,
+    tiles: &[u32],
+    colours: &[f32],
+    counts: &[u32],
+)
+    requires { ⌜ (p + (7 * t + 102 * length (now counts)) ≤ 8 * length (now dst)) × (p + (7 * t + 102 * length (now counts)) ≤ 524288) × Tabled t (now tiles) (now colours) (now counts) ⌝ }
+    ensures { λ r. ⌜ bits (now (dst .exit)) ≡ sets (bits (now (dst .entry))) p (tilesBits edition1 (tilesFrom (now (tiles .entry)) (now (colours .entry)) (now (counts .entry)) 0 t)) ⌝ }
+{
+    let mut q = p;
+    let mut i = 0;
+    while i < t {
+        let part = job::counts_part(tiles, counts, i);
+        pack_tile(dst, q, part, job::tile_part(tiles, colours, i));
+        q += 7 + 102 * part.len();
+        i += 1;
+    }
+}
+
+// Opening, edition, sizes and weight.
+pub fn pack_head(dst: &mut [u8], s: usize, c: usize, t: usize, w: u32)
+    requires { ⌜ (86 ≤ 8 * length (now dst)) × (0 < s) × (s ≤ 16) × (0 < c) × (c ≤ 16) × (0 < t) × (t ≤ 1024) ⌝ }
+    ensures { λ r. ⌜ bits (now (dst .exit)) ≡ sets (bits (now (dst .entry))) 0 (headBits edition1 s c t w) ⌝ }
+{
+    bits::put(dst, 0, 32, OPENING);
+    bits::put(dst, 32, 4, 1);
+    bits::put(dst, 36, 4, (s - 1) as u32);
+    bits::put(dst, 40, 4, (c - 1) as u32);
+    bits::put(dst, 44, 10, (t - 1) as u32);
+    bits::put(dst, 54, 32, w);
+}
+
+// All fields of a sheet of `size` bits, and zero bits to the byte's end.
+pub fn pack_sheet(
+    s: usize,
+    c: usize,
+    t: usize,
+    weight: f32,
+    tiles: &[u32],
+    colours: &[f32],
+    counts: &[u32],
+    palette: &[f32],
+    dst: &mut [u8],
+    size: usize,
+)
+    requires { ⌜ Ready tileSize (job s c t weight (now tiles) (now colours) (now counts)) × Lent s c (now palette) × (size ≡ sizeOf edition1 s c t (length (now counts))) × (bytesFor size ≤ length (now dst)) × (bytesFor size ≤ 65536) ⌝ }
+    ensures { λ r. ⌜ bits (now (dst .exit)) ≡ sets (bits (now (dst .entry))) 0 (sheetBits edition1 (sheetOf (job s c t weight (now (tiles .entry)) (now (colours .entry)) (now (counts .entry))) (now (palette .entry))) ++ replicate (8 * bytesFor size - size) false) ⌝ }
+{
+    let p = 86 + 32 * palette.len();
+    let spare = 8 * format::bytes_for(size) - size;
+    pack_head(dst, s, c, t, f32::to_bits(weight));
+    pack_components(dst, 86, palette);
+    pack_tiles(dst, p, t, tiles, colours, counts);
+    bits::put(dst, size, spare, 0);
+}
