@@ -1,15 +1,18 @@
-//! The oracle held to itself: its copies of the Rust to the unchanged files, its run in steps to the whole run.
+//! The oracle held to itself: its copies of the Rust to the unchanged files, its run in steps to the whole run, its reading of the
+//! sheet to document 01's example.
 
 use answers::requests::flat;
 use answers::{probed, rust};
 use terms::jobs;
 use terms::rng::Rng;
-use terms::{Colour, Job, Ran};
+use terms::{Colour, Job, Ran, Tile};
 
-use super::{Kind, kind};
+use super::{Kind, kind, whole};
+use crate::sheet::{self, Sheet};
 use crate::tally::Tally;
 
-pub const KINDS: &[Kind] = &[kind("oracle copies", 150, copies), kind("oracle steps", 150, steps)];
+pub const KINDS: &[Kind] =
+    &[kind("oracle copies", 150, copies), kind("oracle steps", 150, steps), whole("oracle sheet", 1, example)];
 
 struct Case {
     job: Job,
@@ -71,4 +74,29 @@ fn steps(rng: &mut Rng, _: u64, tally: &mut Tally) {
             _ => drop(run.advance(1 + rng.below(40) as u64)),
         }
     }
+}
+
+/// Document 01's example of a sheet, and what `fit` prints of it.
+fn example(_: &mut Rng, _: u64, tally: &mut Tally) {
+    let tile = |l: f32, count: u32| Tile { colours: vec![[l, 0.0, 0.0]], counts: vec![count] };
+    let sheet = Sheet {
+        weight: 1.0,
+        palette: vec![vec![[0.0; 3]], vec![[1.0, 0.0, 0.0]]],
+        tiles: vec![tile(0.25, 4), Tile::default(), tile(0.5, 2), tile(1.0, 1)],
+    };
+    let bytes = sheet::written(&sheet);
+    let begin = [0x54, 0x46, 0x49, 0x54, 0x11, 0x00, 0x0c, 0xfe];
+    tally.same((bytes.len(), bytes[..8].to_vec()), (77, begin.to_vec()), || "the example's bytes".to_string());
+    let lines = [
+        "tiles 4 subpalettes 2",
+        "tile 0 sub 0 dist 3e800000",
+        "tile 1 sub 0 dist 00000000",
+        "tile 2 sub 0 dist 3f000000",
+        "tile 3 sub 1 dist 00000000",
+        "load 0 3",
+        "load 1 1",
+        "",
+    ];
+    let fitted = sheet::fitted(&bytes).into_bytes();
+    tally.same(fitted, lines.join("\n").into_bytes(), || "the example's lines".to_string());
 }
