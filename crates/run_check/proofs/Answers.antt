@@ -1,0 +1,107 @@
+-- What the refusals answer that ask others: the first list of rules with a number decides. Assumes nothing.
+use Prim.Native.Nat.{ℕ, _+_, _≤_, _<_}
+use mathlib.Core.Path.{_≡_, refl, sym, ap, _∙_}
+use mathlib.Core.Bool.{Bool, true, false}
+use mathlib.Core.List.{List, [], _∷_, _++_}
+use lib.Dec.{eqb}
+use lib.Ieee.{Float}
+use lib.ListN.{length, getD}
+use borrow.Author.Tests.{eqb-true, eqb-false, ne-eqb, lt-ltb, le-ltb}
+use Rattle.lists.specs.Every.{every}
+use Rattle.lists.specs.Loops.{every-fails, every-more}
+use Rattle.job.specs.Rules.{Rule, rule, answer, numbered}
+use Rattle.job.specs.Passing.{stops, goes, fails, all-pass}
+use Rattle.job.specs.Job.{Job}
+use Rattle.job.specs.Checks.{firstBad, componentsFit, sizeRules, sampledAnswer}
+use Rattle.job.specs.Ready.{sizes-of, sampled-ready}
+use Rattle.quantizer.specs.Course.{Course, course}
+use Rattle.stages.specs.declared.Record.{Record}
+use Rattle.stages.specs.State.{stateWith}
+use Rattle.stages.specs.Record.{four, entryFits, orderFits, leastFits, placeFits, roundsOf, drawsIn, before, madeBy, recordRules, stateRules}
+use Rattle.stages.specs.Calls.{Memory, recordOf, stateOf, jobRules}
+use Rattle.run_record.specs.Sized.{sized, Sized}
+use Rattle.run_check.specs.Room.{Roomy}
+
+-- ---- an order, entry by entry
+module _ (n : ℕ) (order : List ℕ) (i w : ℕ) (e : w ≡ getD order i 0) where
+  pub order-fails : n ≤ w → i < length order → false ≡ orderFits n order
+  unfolding orderFits entryFits
+  order-fails h l = every-fails (entryFits n order) (length order) i false (sym (le-ltb (getD order i 0) n (rw e at h))) refl l
+
+  pub order-more : w < n → every (entryFits n order) i ≡ true → every (entryFits n order) (i + 1) ≡ true
+  unfolding entryFits
+  order-more h a = every-more (entryFits n order) i true a (sym (lt-ltb (getD order i 0) n (rw e at h))) refl
+
+-- a component is past its limit
+pub near-fails : (k : ℕ) (m : Float) (xs : List Float) (rs : List Rule) (i : ℕ) → i ≡ firstBad m xs → (i ≡ length xs → ⊥) → k ≡ answer (rule k (componentsFit m xs) ∷ rs)
+near-fails k m xs rs i e h = fails k (componentsFit m xs) rs (rw (← e) (ne-eqb i (length xs) h))
+
+-- ---- the record, then the working colours and the order
+module _ (K : Course) (order : List ℕ) (palette least : List Float) (r : Record) (a : ℕ) (e : a ≡ answer (recordRules K (stateWith [] [] [] [] r))) where
+  pub record-stops : (a ≡ 0 → ⊥) → a ≡ answer (stateRules K (stateWith order [] palette least r))
+  unfolding numbered
+  record-stops h = stops (recordRules K (stateWith [] [] [] [] r)) _ a refl e h
+
+  pub record-goes : a ≡ 0 → (b : ℕ) → b ≡ answer (rule 7 (componentsFit four palette) ∷ rule 7 (leastFits (r .stage) least) ∷ rule 9 (orderFits (K .n) order) ∷ [])
+      → b ≡ answer (stateRules K (stateWith order [] palette least r))
+  unfolding numbered
+  record-goes z b h = goes (recordRules K (stateWith [] [] [] [] r)) _ a b refl e z h
+
+-- the rules read only the sizes of a course, and the lent memory
+pub held-rules : (J : Job) (n : ℕ) (samples : List ℕ) (m : Memory) (r : Record) → r ≡ recordOf (m .words) → (b : ℕ)
+    → b ≡ answer (stateRules (sized (J .S) (J .C) n) (stateWith (m .order) [] (m .palette) (m .least) r)) → b ≡ answer (stateRules (course J n samples) (stateOf m))
+unfolding stateOf placeFits roundsOf drawsIn before madeBy
+held-rules J n samples m r q b h = rw q at h
+
+module _ (size : ℕ) (J : Job) (n : ℕ) (samples : List ℕ) where
+  abbrev sizesOf : List Rule
+  sizesOf = sizeRules (J .S) (J .C) (J .T)
+
+  abbrev ruled : Bool → List Rule
+  ruled r = jobRules size (course J n samples) r
+
+  -- lengths matter only where the sizes are in their ranges
+  pub room-free : (r p : Bool) (rest : List Rule) → Roomy (J .S) (J .C) r p → answer (ruled r ++ rest) ≡ answer (ruled p ++ rest)
+  unfolding numbered
+  room-free r p rest h = by (eqb (answer sizesOf) 0) refl
+    where
+      by : (z : Bool) → eqb (answer sizesOf) 0 ≡ z → answer (ruled r ++ rest) ≡ answer (ruled p ++ rest)
+      by true e = let Z = sizes-of (J .S) (J .C) (J .T) (answer sizesOf) refl (eqb-true (answer sizesOf) 0 e) in
+          ap (λ (x : Bool). answer (ruled x ++ rest)) (h (Z .few) (Z .cap))
+      by false e = sym (stops sizesOf _ (answer sizesOf) refl refl (eqb-false (answer sizesOf) 0 e)) ∙ stops sizesOf _ (answer sizesOf) refl refl (eqb-false (answer sizesOf) 0 e)
+
+  -- ---- the job
+  module _ (r : Bool) (a : ℕ) (e : a ≡ sampledAnswer size J n samples r) where
+    pub job-stops : (a ≡ 0 → ⊥) → (rest : List Rule) → a ≡ answer (ruled r ++ rest)
+    unfolding sampledAnswer numbered
+    job-stops h rest = stops (ruled r) rest a refl e h
+
+    pub job-goes : a ≡ 0 → (b : ℕ) (rest : List Rule) → b ≡ answer rest → b ≡ answer (ruled r ++ rest)
+    unfolding sampledAnswer numbered
+    job-goes z b rest h = goes (ruled r) rest a b refl e z h
+
+    pub job-room : a ≡ 0 → r ≡ true
+    job-room z = sampled-ready size J n samples r (sym e ∙ z) .roomy
+
+    pub job-sized : a ≡ 0 → Sized (J .S) (J .C) n
+    job-sized z = let R = sampled-ready size J n samples r (sym e ∙ z) in
+        record { subs = R .ready .sizes .subs; few = R .ready .sizes .few; some = R .ready .sizes .some; cap = R .ready .sizes .cap; short = R .few }
+
+    pub job-whole : (p : Bool) → Roomy (J .S) (J .C) r p → a ≡ answer (ruled p)
+    unfolding sampledAnswer
+    job-whole p h = e ∙ room-free r p [] h
+
+  -- ---- the job and what a run holds, then the call's own rules
+  module _ (m : Memory) (r : Bool) (a : ℕ) (e : a ≡ answer (ruled r ++ stateRules (course J n samples) (stateOf m))) where
+    pub run-room : a ≡ 0 → r ≡ true
+    unfolding numbered
+    run-room z = all-pass (ruled r ++ stateRules (course J n samples) (stateOf m)) refl (sym e ∙ z) .1 .1 .1 .1 .1 .1 .1 .0
+
+    module _ (p : Bool) (h : Roomy (J .S) (J .C) r p) (own : List Rule) where
+      pub run-stops : (a ≡ 0 → ⊥) → a ≡ answer (ruled p ++ (stateRules (course J n samples) (stateOf m) ++ own))
+      unfolding numbered
+      run-stops k = stops (ruled r ++ stateRules (course J n samples) (stateOf m)) own a refl e k ∙ room-free r p (stateRules (course J n samples) (stateOf m) ++ own) h
+
+      pub run-goes : a ≡ 0 → (b : ℕ) → b ≡ answer own → b ≡ answer (ruled p ++ (stateRules (course J n samples) (stateOf m) ++ own))
+      unfolding numbered
+      run-goes z b f = goes (ruled r ++ stateRules (course J n samples) (stateOf m)) own a b refl e z f ∙ room-free r p (stateRules (course J n samples) (stateOf m) ++ own) h

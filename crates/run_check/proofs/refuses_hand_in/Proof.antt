@@ -1,0 +1,55 @@
+-- `run_check::refuses_hand_in` meets its contract, return by return. Assumes nothing.
+use mathlib.Core.Path.{sym, _∙_}
+use native.Mathlib.Omega.{arith}
+use borrow.Author.Tests.{eq-eqb}
+use Rattle.stages.specs.Calls.{stateOf, memoryRoom, coloursRoom, handInAnswer}
+use Rattle.job.specs.Passing.{refuses, passes, skips, none}
+use Rattle.run_check.proofs.Answers.{near-fails, run-room, run-stops, run-goes}
+use borrow.Author.Needs.{needs}
+use Rattle.run_check.proofs.refuses_hand_in.Statement.{statement}
+use Rattle.run_check.proofs.refuses_hand_in.Tie as tie
+
+wider-room-requires : tie.Need-wider-room-requires
+wider-room-requires c κs = search needs
+
+check-run-requires : tie.Need-check-run-requires
+check-run-requires c κs = c .wider-room .ensures .six
+
+returns : tie.Need-returns
+unfolding handInAnswer memoryRoom coloursRoom
+returns c = run-stops _ _ _ _ _ _ _ (c .before .check-run .ensures) _ (c .before .before .wider-room .ensures .same) _ (c .if1 .taken)
+
+shared-slice-read-is-stop : tie.Need-shared-slice-read-is-stop
+shared-slice-read-is-stop c = let six = c .before .before .before .wider-room .ensures .six (run-room _ _ _ _ _ _ _ (c .before .before .check-run .ensures) (c .before .if1 .left)) in omega arith
+
+is-stop-requires : tie.Need-is-stop-requires
+is-stop-requires c κs = search needs
+
+returns-2 : tie.Need-returns-2
+unfolding handInAnswer memoryRoom coloursRoom stateOf
+returns-2 c = run-goes _ _ _ _ _ _ _ (c .before .before .before .before .check-run .ensures) _ (c .before .before .before .before .before .wider-room .ensures .same) _ (c .before .before .before .if1 .left) _ (refuses _ _ _ _ (c .before .is-stop .ensures) (c .if2 .taken))
+
+first-bad-requires : tie.Need-first-bad-requires
+first-bad-requires c κs = search needs
+
+returns-3 : tie.Need-returns-3
+unfolding handInAnswer memoryRoom coloursRoom stateOf
+returns-3 c = run-goes _ _ _ _ _ _ _ (c .before .before .before .before .before .before .check-run .ensures) _ (c .before .before .before .before .before .before .before .wider-room .ensures .same) _ (c .before .before .before .before .before .if1 .left) _ (passes _ _ _ _ _ (c .before .before .before .is-stop .ensures) (c .before .before .if2 .left) (near-fails _ _ _ _ _ (c .before .first-bad .ensures) (c .if3 .taken)))
+
+returns-4 : tie.Need-returns-4
+unfolding handInAnswer memoryRoom coloursRoom stateOf
+returns-4 c = run-goes _ _ _ _ _ _ _ (c .before .before .before .before .before .before .check-run .ensures) _ (c .before .before .before .before .before .before .before .wider-room .ensures .same) _ (c .before .before .before .before .before .if1 .left) _ (passes _ _ _ _ _ (c .before .before .before .is-stop .ensures) (c .before .before .if2 .left) (skips _ _ _ _ (eq-eqb _ _ (sym (c .before .first-bad .ensures) ∙ c .if3 .left)) none))
+
+pub refuses-hand-in-spec : {M : Type 1} → statement M
+refuses-hand-in-spec =
+    tie.close
+    (tie.spec
+    wider-room-requires
+    check-run-requires
+    returns
+    shared-slice-read-is-stop
+    is-stop-requires
+    returns-2
+    first-bad-requires
+    returns-3
+    returns-4)

@@ -1,0 +1,41 @@
+-- `run_check::refuses_result` meets its contract, return by return. Assumes nothing.
+use native.Mathlib.Omega.{arith}
+use borrow.Author.Tests.{eq-eqb, ne-eqb}
+use Rattle.stages.specs.Calls.{stateOf, memoryRoom, coloursRoom, resultAnswer}
+use Rattle.job.specs.Passing.{fails, skips, none}
+use Rattle.run_check.proofs.Answers.{run-room, run-stops, run-goes}
+use borrow.Author.Needs.{needs}
+use Rattle.run_check.proofs.refuses_result.Statement.{statement}
+use Rattle.run_check.proofs.refuses_result.Tie as tie
+
+wider-room-requires : tie.Need-wider-room-requires
+wider-room-requires c κs = search needs
+
+check-run-requires : tie.Need-check-run-requires
+check-run-requires c κs = c .wider-room .ensures .six
+
+returns : tie.Need-returns
+unfolding resultAnswer memoryRoom coloursRoom
+returns c = run-stops _ _ _ _ _ _ _ (c .before .check-run .ensures) _ (c .before .before .wider-room .ensures .same) _ (c .if1 .taken)
+
+shared-slice-read-if2 : tie.Need-shared-slice-read-if2
+shared-slice-read-if2 c = let six = c .before .before .before .wider-room .ensures .six (run-room _ _ _ _ _ _ _ (c .before .before .check-run .ensures) (c .before .if1 .left)) in omega arith
+
+returns-2 : tie.Need-returns-2
+unfolding resultAnswer memoryRoom coloursRoom stateOf
+returns-2 c = run-goes _ _ _ _ _ _ _ (c .before .before .before .check-run .ensures) _ (c .before .before .before .before .wider-room .ensures .same) _ (c .before .before .if1 .left) _ (fails _ _ _ (ne-eqb _ _ (c .if2 .taken)))
+
+returns-3 : tie.Need-returns-3
+unfolding resultAnswer memoryRoom coloursRoom stateOf
+returns-3 c = run-goes _ _ _ _ _ _ _ (c .before .before .before .check-run .ensures) _ (c .before .before .before .before .wider-room .ensures .same) _ (c .before .before .if1 .left) _ (skips _ _ _ _ (eq-eqb _ _ (c .if2 .left)) none)
+
+pub refuses-result-spec : {M : Type 1} → statement M
+refuses-result-spec =
+    tie.close
+    (tie.spec
+    wider-room-requires
+    check-run-requires
+    returns
+    shared-slice-read-if2
+    returns-2
+    returns-3)

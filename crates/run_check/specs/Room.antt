@@ -1,0 +1,22 @@
+-- Lengths tested before the sizes are known to be in their ranges: the answers are the rules' where they are. Definitions only. Assumes nothing.
+use Prim.Native.Nat.{ℕ, _≤_}
+use mathlib.Core.Path.{_≡_}
+use mathlib.Core.Bool.{Bool, true}
+use mathlib.Core.List.{List, []}
+use lib.Ieee.{nan}
+use lib.ListN.{length}
+use Rattle.job.specs.Job.{job, mostSubpalettes, mostColours}
+use Rattle.quantizer.specs.Course.{Course, course}
+
+-- the sizes that lengths are held to, as a course of empty tables
+abbrev pub plain : ℕ → ℕ → ℕ → ℕ → Course
+plain s c t n = course (job s c t nan [] [] []) n []
+
+-- r is the test p, for sizes in their ranges
+abbrev pub Roomy : ℕ → ℕ → Bool → Bool → Type 0
+Roomy s c r p = s ≤ mostSubpalettes → c ≤ mostColours → r ≡ p
+
+-- so is the answer on all that is lent; where it is true the record has its six words
+pub record Lends (s c : ℕ) (r p : Bool) (words : List ℕ) : Type 0 where
+  pub same : Roomy s c r p
+  pub six : r ≡ true → length words ≡ 6

@@ -1,0 +1,282 @@
+// Which number a call of a run gets: the job's, the record's, the working colours', the order's, the moment's, the reduced colours'.
+// Every check takes what a stranger wrote: no sum or product in it can wrap.
+use stages::Record;
+ghost use mathlib.Core.Path.{_≡_};
+ghost use mathlib.Core.Bool.{Bool, true, _&&_};
+ghost use mathlib.Core.List.{List, [], _++_};
+ghost use Prim.Native.Nat.{ℕ, _*_, _≤_};
+ghost use lib.Dec.{eqb};
+ghost use lib.Ieee.{nan};
+ghost use lib.ListN.{length};
+ghost use Rattle.job.specs.Rules.{answer};
+ghost use Rattle.job.specs.Job.{job, tileSize};
+ghost use Rattle.quantizer.specs.Course.{course};
+ghost use Rattle.stages.specs.State.{stateWith};
+ghost use Rattle.stages.specs.Record.{orderFits, leastFits, stateRules};
+ghost use Rattle.stages.specs.Calls.{memory, stateOf, memoryRoom, coloursRoom, jobRules, startAnswer, advanceAnswer, handInAnswer, resultAnswer};
+ghost use Rattle.run_record.specs.Sized.{sized, Sized};
+ghost use Rattle.run_check.specs.Room.{plain, Roomy, Lends};
+
+const MOST_SUBPALETTES: usize = 16;
+
+const MOST_COLOURS: usize = 16;
+
+// The magnitude of a working component, at most.
+const MOST_WORKING: f32 = 4.0;
+
+// ---- lengths
+
+// Whether `numbers` are three for each of s·c colours, where s and c are in their ranges.
+fn colours_room(s: usize, c: usize, numbers: usize) -> bool
+    ensures { λ r. ⌜ Roomy s c r (eqb numbers (3 * (s * c))) ⌝ }
+{
+    if s > MOST_SUBPALETTES {
+        return false;
+    }
+    if c > MOST_COLOURS {
+        return false;
+    }
+    numbers == 3 * (s * c)
+}
+
+// Whether the memory lent has its lengths.
+fn memory_room(
+    s: usize,
+    c: usize,
+    t: usize,
+    n: usize,
+    order: &[u32],
+    hints: &[u32],
+    palette: &[f32],
+    least: &[f32],
+    words: &[u64],
+) -> bool
+    ensures { λ r. ⌜ Lends s c r (memoryRoom tileSize (plain s c t n) (memory (now (order .entry)) (now (hints .entry)) (now (palette .entry)) (now (least .entry)) (now (words .entry)))) (now (words .entry)) ⌝ }
+{
+    if order.len() != n {
+        return false;
+    }
+    if hints.len() != t {
+        return false;
+    }
+    if !colours_room(s, c, palette.len()) {
+        return false;
+    }
+    if !colours_room(s, c, least.len()) {
+        return false;
+    }
+    words.len() == 6
+}
+
+// The same, with one slice of s·c colours more.
+fn wider_room(
+    s: usize,
+    c: usize,
+    t: usize,
+    n: usize,
+    order: &[u32],
+    hints: &[u32],
+    palette: &[f32],
+    least: &[f32],
+    words: &[u64],
+    more: &[f32],
+) -> bool
+    ensures { λ r. ⌜ Lends s c r (memoryRoom tileSize (plain s c t n) (memory (now (order .entry)) (now (hints .entry)) (now (palette .entry)) (now (least .entry)) (now (words .entry))) && coloursRoom tileSize (plain s c t n) (now (more .entry))) (now (words .entry)) ⌝ }
+{
+    if !memory_room(s, c, t, n, order, hints, palette, least, words) {
+        return false;
+    }
+    colours_room(s, c, more.len())
+}
+
+// ---- what a run holds
+
+// Each entry is below n.
+fn order_fits(n: usize, order: &[u32]) -> bool
+    ensures { λ r. ⌜ r ≡ orderFits n (now (order .entry)) ⌝ }
+{
+    let mut i = 0usize;
+    while i < order.len() {
+        if job::wide(order[i]) >= n {
+            return false;
+        }
+        i += 1;
+    }
+    true
+}
+
+// The second palette, which only stage 2 looks at.
+fn least_fits(stage: u64, least: &[f32]) -> bool
+    ensures { λ r. ⌜ r ≡ leastFits stage (now (least .entry)) ⌝ }
+{
+    if stage != 2 {
+        return true;
+    }
+    job::first_bad(least, MOST_WORKING) == least.len()
+}
+
+// Numbers 10, 7 and 9 of what a run holds.
+fn check_state(s: usize, c: usize, n: usize, order: &[u32], palette: &[f32], least: &[f32], r: Record) -> u32
+    requires { ⌜ Sized s c n ⌝ }
+    ensures { λ x. ⌜ x ≡ answer (stateRules (sized s c n) (stateWith (now (order .entry)) [] (now (palette .entry)) (now (least .entry)) r)) ⌝ }
+{
+    let a = run_record::check_record(s, c, n, r);
+    if a != 0 {
+        return a;
+    }
+    if job::first_bad(palette, MOST_WORKING) != palette.len() {
+        return 7;
+    }
+    if !least_fits(r.stage, least) {
+        return 7;
+    }
+    if !order_fits(n, order) {
+        return 9;
+    }
+    0
+}
+
+// The job's numbers, then those of what a run holds. `room` says whether the slices lent have their lengths.
+fn check_run(
+    s: usize,
+    c: usize,
+    t: usize,
+    n: usize,
+    weight: f32,
+    tiles: &[u32],
+    colours: &[f32],
+    counts: &[u32],
+    samples: &[u32],
+    order: &[u32],
+    hints: &[u32],
+    palette: &[f32],
+    least: &[f32],
+    words: &[u64],
+    room: bool,
+) -> u32
+    requires { ⌜ (room ≡ true → length (now words) ≡ 6) ⌝ }
+    ensures { λ r. ⌜ r ≡ answer (jobRules tileSize (course (job s c t weight (now (tiles .entry)) (now (colours .entry)) (now (counts .entry))) n (now (samples .entry))) room ++ stateRules (course (job s c t weight (now (tiles .entry)) (now (colours .entry)) (now (counts .entry))) n (now (samples .entry))) (stateOf (memory (now (order .entry)) (now (hints .entry)) (now (palette .entry)) (now (least .entry)) (now (words .entry))))) ⌝ }
+{
+    let a = job_check::check_sampled(job::TILE_SIZE, s, c, t, n, weight, tiles, colours, counts, samples, room);
+    if a != 0 {
+        return a;
+    }
+    let r = run_record::record_of(words);
+    check_state(s, c, n, order, palette, least, r)
+}
+
+// ---- the calls
+
+pub fn refuses_start(
+    s: usize,
+    c: usize,
+    t: usize,
+    n: usize,
+    weight: f32,
+    tiles: &[u32],
+    colours: &[f32],
+    counts: &[u32],
+    samples: &[u32],
+    order: &[u32],
+    hints: &[u32],
+    palette: &[f32],
+    least: &[f32],
+    words: &[u64],
+) -> u32
+    ensures { λ r. ⌜ r ≡ startAnswer tileSize (course (job s c t weight (now (tiles .entry)) (now (colours .entry)) (now (counts .entry))) n (now (samples .entry))) (memory (now (order .entry)) (now (hints .entry)) (now (palette .entry)) (now (least .entry)) (now (words .entry))) ⌝ }
+{
+    let room = memory_room(s, c, t, n, order, hints, palette, least, words);
+    job_check::check_sampled(job::TILE_SIZE, s, c, t, n, weight, tiles, colours, counts, samples, room)
+}
+
+pub fn refuses_advance(
+    s: usize,
+    c: usize,
+    t: usize,
+    n: usize,
+    weight: f32,
+    tiles: &[u32],
+    colours: &[f32],
+    counts: &[u32],
+    samples: &[u32],
+    order: &[u32],
+    hints: &[u32],
+    palette: &[f32],
+    least: &[f32],
+    words: &[u64],
+) -> u32
+    ensures { λ r. ⌜ r ≡ advanceAnswer tileSize (course (job s c t weight (now (tiles .entry)) (now (colours .entry)) (now (counts .entry))) n (now (samples .entry))) (memory (now (order .entry)) (now (hints .entry)) (now (palette .entry)) (now (least .entry)) (now (words .entry))) ⌝ }
+{
+    let room = memory_room(s, c, t, n, order, hints, palette, least, words);
+    let a = check_run(s, c, t, n, weight, tiles, colours, counts, samples, order, hints, palette, least, words, room);
+    if a != 0 {
+        return a;
+    }
+    if !run_record::makes_draws(words[1]) {
+        return 11;
+    }
+    0
+}
+
+pub fn refuses_hand_in(
+    s: usize,
+    c: usize,
+    t: usize,
+    n: usize,
+    weight: f32,
+    tiles: &[u32],
+    colours: &[f32],
+    counts: &[u32],
+    samples: &[u32],
+    order: &[u32],
+    hints: &[u32],
+    palette: &[f32],
+    least: &[f32],
+    words: &[u64],
+    reduced: &[f32],
+) -> u32
+    ensures { λ r. ⌜ r ≡ handInAnswer tileSize (course (job s c t weight (now (tiles .entry)) (now (colours .entry)) (now (counts .entry))) n (now (samples .entry))) (memory (now (order .entry)) (now (hints .entry)) (now (palette .entry)) (now (least .entry)) (now (words .entry))) (now (reduced .entry)) ⌝ }
+{
+    let room = wider_room(s, c, t, n, order, hints, palette, least, words, reduced);
+    let a = check_run(s, c, t, n, weight, tiles, colours, counts, samples, order, hints, palette, least, words, room);
+    if a != 0 {
+        return a;
+    }
+    if !run_record::is_stop(words[1]) {
+        return 11;
+    }
+    if job::first_bad(reduced, job::MOST_COMPONENT) != reduced.len() {
+        return 7;
+    }
+    0
+}
+
+pub fn refuses_result(
+    s: usize,
+    c: usize,
+    t: usize,
+    n: usize,
+    weight: f32,
+    tiles: &[u32],
+    colours: &[f32],
+    counts: &[u32],
+    samples: &[u32],
+    order: &[u32],
+    hints: &[u32],
+    palette: &[f32],
+    least: &[f32],
+    words: &[u64],
+    out: &[f32],
+) -> u32
+    ensures { λ r. ⌜ r ≡ resultAnswer tileSize (course (job s c t weight (now (tiles .entry)) (now (colours .entry)) (now (counts .entry))) n (now (samples .entry))) (memory (now (order .entry)) (now (hints .entry)) (now (palette .entry)) (now (least .entry)) (now (words .entry))) (now (out .entry)) ⌝ }
+{
+    let room = wider_room(s, c, t, n, order, hints, palette, least, words, out);
+    let a = check_run(s, c, t, n, weight, tiles, colours, counts, samples, order, hints, palette, least, words, room);
+    if a != 0 {
+        return a;
+    }
+    if words[1] != 7 {
+        return 11;
+    }
+    0
+}
