@@ -20,7 +20,7 @@ use Rattle.stages.specs.State.{stateWith}
 use Rattle.stages.specs.Record.{four, entryFits, orderFits, leastFits, placeFits, roundsOf, drawsIn, before, madeBy, recordRules, stateRules}
 use Rattle.stages.specs.Calls.{Memory, recordOf, stateOf, jobRules}
 use Rattle.run_record.specs.Sized.{sized, Sized}
-use Rattle.run_check.specs.Room.{Roomy}
+use Rattle.run_check.specs.Room.{Roomy, runAnswer}
 
 -- ---- an order, entry by entry
 module _ (n : ℕ) (order : List ℕ) (i w : ℕ) (e : w ≡ getD order i 0) where
@@ -48,7 +48,7 @@ module _ (K : Course) (order : List ℕ) (palette least : List Float) (r : Recor
   record-goes z b h = goes (recordRules K (stateWith [] [] [] [] r)) _ a b refl e z h
 
 -- the rules read only the sizes of a course, and the lent memory
-pub held-rules : (J : Job) (n : ℕ) (samples : List ℕ) (m : Memory) (r : Record) → r ≡ recordOf (m .words) → (b : ℕ)
+held-rules : (J : Job) (n : ℕ) (samples : List ℕ) (m : Memory) (r : Record) → r ≡ recordOf (m .words) → (b : ℕ)
     → b ≡ answer (stateRules (sized (J .S) (J .C) n) (stateWith (m .order) [] (m .palette) (m .least) r)) → b ≡ answer (stateRules (course J n samples) (stateOf m))
 unfolding stateOf placeFits roundsOf drawsIn before madeBy
 held-rules J n samples m r q b h = rw q at h
@@ -72,11 +72,11 @@ module _ (size : ℕ) (J : Job) (n : ℕ) (samples : List ℕ) where
 
   -- ---- the job
   module _ (r : Bool) (a : ℕ) (e : a ≡ sampledAnswer size J n samples r) where
-    pub job-stops : (a ≡ 0 → ⊥) → (rest : List Rule) → a ≡ answer (ruled r ++ rest)
+    job-stops : (a ≡ 0 → ⊥) → (rest : List Rule) → a ≡ answer (ruled r ++ rest)
     unfolding sampledAnswer numbered
     job-stops h rest = stops (ruled r) rest a refl e h
 
-    pub job-goes : a ≡ 0 → (b : ℕ) (rest : List Rule) → b ≡ answer rest → b ≡ answer (ruled r ++ rest)
+    job-goes : a ≡ 0 → (b : ℕ) (rest : List Rule) → b ≡ answer rest → b ≡ answer (ruled r ++ rest)
     unfolding sampledAnswer numbered
     job-goes z b rest h = goes (ruled r) rest a b refl e z h
 
@@ -91,17 +91,28 @@ module _ (size : ℕ) (J : Job) (n : ℕ) (samples : List ℕ) where
     unfolding sampledAnswer
     job-whole p h = e ∙ room-free r p [] h
 
-  -- ---- the job and what a run holds, then the call's own rules
-  module _ (m : Memory) (r : Bool) (a : ℕ) (e : a ≡ answer (ruled r ++ stateRules (course J n samples) (stateOf m))) where
+  -- ---- the job, then what a run holds
+  module _ (m : Memory) (r : Bool) (a : ℕ) (e : a ≡ sampledAnswer size J n samples r) where
+    pub held-stops : (a ≡ 0 → ⊥) → a ≡ runAnswer size (course J n samples) m r
+    unfolding runAnswer
+    held-stops h = job-stops r a e h (stateRules (course J n samples) (stateOf m))
+
+    pub held-goes : a ≡ 0 → (w : Record) → w ≡ recordOf (m .words) → (b : ℕ) → b ≡ answer (stateRules (sized (J .S) (J .C) n) (stateWith (m .order) [] (m .palette) (m .least) w))
+        → b ≡ runAnswer size (course J n samples) m r
+    unfolding runAnswer
+    held-goes z w q b h = job-goes r a e z b (stateRules (course J n samples) (stateOf m)) (held-rules J n samples m w q b h)
+
+  -- ---- then the call's own rules
+  module _ (m : Memory) (r : Bool) (a : ℕ) (e : a ≡ runAnswer size (course J n samples) m r) where
     pub run-room : a ≡ 0 → r ≡ true
-    unfolding numbered
+    unfolding runAnswer numbered
     run-room z = all-pass (ruled r ++ stateRules (course J n samples) (stateOf m)) refl (sym e ∙ z) .1 .1 .1 .1 .1 .1 .1 .0
 
     module _ (p : Bool) (h : Roomy (J .S) (J .C) r p) (own : List Rule) where
       pub run-stops : (a ≡ 0 → ⊥) → a ≡ answer (ruled p ++ (stateRules (course J n samples) (stateOf m) ++ own))
-      unfolding numbered
+      unfolding runAnswer numbered
       run-stops k = stops (ruled r ++ stateRules (course J n samples) (stateOf m)) own a refl e k ∙ room-free r p (stateRules (course J n samples) (stateOf m) ++ own) h
 
       pub run-goes : a ≡ 0 → (b : ℕ) → b ≡ answer own → b ≡ answer (ruled p ++ (stateRules (course J n samples) (stateOf m) ++ own))
-      unfolding numbered
+      unfolding runAnswer numbered
       run-goes z b f = goes (ruled r ++ stateRules (course J n samples) (stateOf m)) own a b refl e z f ∙ room-free r p (stateRules (course J n samples) (stateOf m) ++ own) h

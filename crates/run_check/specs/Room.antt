@@ -1,12 +1,16 @@
--- Lengths tested before the sizes are known to be in their ranges: the answers are the rules' where they are. Definitions only. Assumes nothing.
+-- Lengths tested before the sizes are known to be in their ranges, where the answers are the rules'; and the rules that all but start share.
+-- Definitions only. Assumes nothing.
 use Prim.Native.Nat.{ℕ, _≤_}
 use mathlib.Core.Path.{_≡_}
 use mathlib.Core.Bool.{Bool, true}
-use mathlib.Core.List.{List, []}
+use mathlib.Core.List.{List, [], _++_}
 use lib.Ieee.{nan}
 use lib.ListN.{length}
 use Rattle.job.specs.Job.{job, mostSubpalettes, mostColours}
+use Rattle.job.specs.Rules.{answer}
 use Rattle.quantizer.specs.Course.{Course, course}
+use Rattle.stages.specs.Record.{stateRules}
+use Rattle.stages.specs.Calls.{Memory, stateOf, jobRules}
 
 -- the sizes that lengths are held to, as a course of empty tables
 abbrev pub plain : ℕ → ℕ → ℕ → ℕ → Course
@@ -20,3 +24,7 @@ Roomy s c r p = s ≤ mostSubpalettes → c ≤ mostColours → r ≡ p
 pub record Lends (s c : ℕ) (r p : Bool) (words : List ℕ) : Type 0 where
   pub same : Roomy s c r p
   pub six : r ≡ true → length words ≡ 6
+
+-- the number that a call of a run gets before its own rules
+unfoldable pub runAnswer : ℕ → Course → Memory → Bool → ℕ
+runAnswer size K m room = answer (jobRules size K room ++ stateRules K (stateOf m))

@@ -3,19 +3,18 @@
 use stages::Record;
 ghost use mathlib.Core.Path.{_≡_};
 ghost use mathlib.Core.Bool.{Bool, true, _&&_};
-ghost use mathlib.Core.List.{List, [], _++_};
+ghost use mathlib.Core.List.{List, []};
 ghost use Prim.Native.Nat.{ℕ, _*_, _≤_};
 ghost use lib.Dec.{eqb};
-ghost use lib.Ieee.{nan};
 ghost use lib.ListN.{length};
 ghost use Rattle.job.specs.Rules.{answer};
 ghost use Rattle.job.specs.Job.{job, tileSize};
 ghost use Rattle.quantizer.specs.Course.{course};
 ghost use Rattle.stages.specs.State.{stateWith};
 ghost use Rattle.stages.specs.Record.{orderFits, leastFits, stateRules};
-ghost use Rattle.stages.specs.Calls.{memory, stateOf, memoryRoom, coloursRoom, jobRules, startAnswer, advanceAnswer, handInAnswer, resultAnswer};
+ghost use Rattle.stages.specs.Calls.{memory, memoryRoom, coloursRoom, startAnswer, advanceAnswer, handInAnswer, resultAnswer};
 ghost use Rattle.run_record.specs.Sized.{sized, Sized};
-ghost use Rattle.run_check.specs.Room.{plain, Roomy, Lends};
+ghost use Rattle.run_check.specs.Room.{plain, Roomy, Lends, runAnswer};
 
 const MOST_SUBPALETTES: usize = 16;
 
@@ -116,7 +115,15 @@ fn least_fits(stage: u64, least: &[f32]) -> bool
 }
 
 // Numbers 10, 7 and 9 of what a run holds.
-fn check_state(s: usize, c: usize, n: usize, order: &[u32], palette: &[f32], least: &[f32], r: Record) -> u32
+fn check_state(
+    s: usize,
+    c: usize,
+    n: usize,
+    order: &[u32],
+    palette: &[f32],
+    least: &[f32],
+    r: Record,
+) -> u32
     requires { ⌜ Sized s c n ⌝ }
     ensures { λ x. ⌜ x ≡ answer (stateRules (sized s c n) (stateWith (now (order .entry)) [] (now (palette .entry)) (now (least .entry)) r)) ⌝ }
 {
@@ -155,9 +162,21 @@ fn check_run(
     room: bool,
 ) -> u32
     requires { ⌜ (room ≡ true → length (now words) ≡ 6) ⌝ }
-    ensures { λ r. ⌜ r ≡ answer (jobRules tileSize (course (job s c t weight (now (tiles .entry)) (now (colours .entry)) (now (counts .entry))) n (now (samples .entry))) room ++ stateRules (course (job s c t weight (now (tiles .entry)) (now (colours .entry)) (now (counts .entry))) n (now (samples .entry))) (stateOf (memory (now (order .entry)) (now (hints .entry)) (now (palette .entry)) (now (least .entry)) (now (words .entry))))) ⌝ }
+    ensures { λ r. ⌜ r ≡ runAnswer tileSize (course (job s c t weight (now (tiles .entry)) (now (colours .entry)) (now (counts .entry))) n (now (samples .entry))) (memory (now (order .entry)) (now (hints .entry)) (now (palette .entry)) (now (least .entry)) (now (words .entry))) room ⌝ }
 {
-    let a = job_check::check_sampled(job::TILE_SIZE, s, c, t, n, weight, tiles, colours, counts, samples, room);
+    let a = job_check::check_sampled(
+        job::TILE_SIZE,
+        s,
+        c,
+        t,
+        n,
+        weight,
+        tiles,
+        colours,
+        counts,
+        samples,
+        room,
+    );
     if a != 0 {
         return a;
     }
@@ -186,7 +205,19 @@ pub fn refuses_start(
     ensures { λ r. ⌜ r ≡ startAnswer tileSize (course (job s c t weight (now (tiles .entry)) (now (colours .entry)) (now (counts .entry))) n (now (samples .entry))) (memory (now (order .entry)) (now (hints .entry)) (now (palette .entry)) (now (least .entry)) (now (words .entry))) ⌝ }
 {
     let room = memory_room(s, c, t, n, order, hints, palette, least, words);
-    job_check::check_sampled(job::TILE_SIZE, s, c, t, n, weight, tiles, colours, counts, samples, room)
+    job_check::check_sampled(
+        job::TILE_SIZE,
+        s,
+        c,
+        t,
+        n,
+        weight,
+        tiles,
+        colours,
+        counts,
+        samples,
+        room,
+    )
 }
 
 pub fn refuses_advance(
@@ -208,7 +239,23 @@ pub fn refuses_advance(
     ensures { λ r. ⌜ r ≡ advanceAnswer tileSize (course (job s c t weight (now (tiles .entry)) (now (colours .entry)) (now (counts .entry))) n (now (samples .entry))) (memory (now (order .entry)) (now (hints .entry)) (now (palette .entry)) (now (least .entry)) (now (words .entry))) ⌝ }
 {
     let room = memory_room(s, c, t, n, order, hints, palette, least, words);
-    let a = check_run(s, c, t, n, weight, tiles, colours, counts, samples, order, hints, palette, least, words, room);
+    let a = check_run(
+        s,
+        c,
+        t,
+        n,
+        weight,
+        tiles,
+        colours,
+        counts,
+        samples,
+        order,
+        hints,
+        palette,
+        least,
+        words,
+        room,
+    );
     if a != 0 {
         return a;
     }
@@ -238,7 +285,23 @@ pub fn refuses_hand_in(
     ensures { λ r. ⌜ r ≡ handInAnswer tileSize (course (job s c t weight (now (tiles .entry)) (now (colours .entry)) (now (counts .entry))) n (now (samples .entry))) (memory (now (order .entry)) (now (hints .entry)) (now (palette .entry)) (now (least .entry)) (now (words .entry))) (now (reduced .entry)) ⌝ }
 {
     let room = wider_room(s, c, t, n, order, hints, palette, least, words, reduced);
-    let a = check_run(s, c, t, n, weight, tiles, colours, counts, samples, order, hints, palette, least, words, room);
+    let a = check_run(
+        s,
+        c,
+        t,
+        n,
+        weight,
+        tiles,
+        colours,
+        counts,
+        samples,
+        order,
+        hints,
+        palette,
+        least,
+        words,
+        room,
+    );
     if a != 0 {
         return a;
     }
@@ -271,7 +334,23 @@ pub fn refuses_result(
     ensures { λ r. ⌜ r ≡ resultAnswer tileSize (course (job s c t weight (now (tiles .entry)) (now (colours .entry)) (now (counts .entry))) n (now (samples .entry))) (memory (now (order .entry)) (now (hints .entry)) (now (palette .entry)) (now (least .entry)) (now (words .entry))) (now (out .entry)) ⌝ }
 {
     let room = wider_room(s, c, t, n, order, hints, palette, least, words, out);
-    let a = check_run(s, c, t, n, weight, tiles, colours, counts, samples, order, hints, palette, least, words, room);
+    let a = check_run(
+        s,
+        c,
+        t,
+        n,
+        weight,
+        tiles,
+        colours,
+        counts,
+        samples,
+        order,
+        hints,
+        palette,
+        least,
+        words,
+        room,
+    );
     if a != 0 {
         return a;
     }

@@ -98,7 +98,7 @@ module _ (K : Course) (k r l : ℕ) where
     pub left-within : l ≤ drawsIn K k
     left-within = leb-true l (drawsIn K k) (and-r (leb 1 l) _ (and-r (ltb r (roundsOf K k)) _ drawing))
 
--- ---- word 4, and bounds
+  -- ---- word 4, and bounds
   pub made-quiet : (d : Bool) → d ≡ draws k → d ≡ false → (x : ℕ) → x ≡ before K k → x ≡ madeBy K k r l
   unfolding madeBy
   made-quiet d e y x h = rw (← e, y) h
