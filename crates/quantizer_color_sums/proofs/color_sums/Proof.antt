@@ -1,0 +1,55 @@
+-- `quantizer_color_sums::color_sums` meets its contract. The loop's invariant: the sums are those after the first i tiles. Assumes nothing.
+use Prim.Native.Nat.{_-_}
+use mathlib.Core.Path.{sym, ap, _∙_}
+use native.Mathlib.Omega.{arith}
+use lib.ListN.{length}
+use Rattle.job.specs.Job.{job}
+use Rattle.quantizer.specs.Replacing.{shares}
+use Rattle.quantizer_color_sums.proofs.Spreads.{Spreading, spreading-start, spreading-wide, spreading-turn, spreading-more, spreading-end}
+use Rattle.quantizer_color_sums.proofs.color_sums.Statement.{statement}
+use Rattle.quantizer_color_sums.proofs.color_sums.Tie as tie
+
+abbrev Inv-loop : tie.InvT-loop
+Inv-loop s c t weight tiles colours counts pal hints total₀ second₀ i₀ total second i = Spreading (job s c t weight tiles colours counts) pal (shares total second) i
+
+abbrev μ-loop : tie.MeasureT-loop
+μ-loop s c t weight tiles colours counts pal hints total₀ second₀ i₀ total second i = t - i
+
+loop-holds : tie.Need-loop-holds Inv-loop μ-loop
+loop-holds c = spreading-start _ _ _ (c .before .before .before .before .before .before .before .pre .0) _ _ (c .before .before .before .before .before .before .before .pre .1 .0) (c .before .before .before .before .before .before .before .pre .1 .1)
+
+color-step-requires : tie.Need-color-step-requires Inv-loop μ-loop
+color-step-requires c κs = spreading-turn _ _ _ (c .before .before .before .before .before .before .before .before .before .before .before .pre .0) _ _ (c .before .before .before .loop .inv) (c .before .before .loop-test .taken)
+
+add-i : tie.Need-add-i Inv-loop μ-loop
+add-i c = omega arith
+
+loop-less : tie.Need-loop-less Inv-loop μ-loop
+loop-less c = omega arith
+
+loop-again : tie.Need-loop-again Inv-loop μ-loop
+loop-again c = spreading-more _ _ _ (c .before .before .before .before .before .before .before .before .before .before .before .before .before .before .before .before .pre .0) _ _ (c .before .before .before .before .before .before .before .before .loop .inv) (c .before .before .before .before .before .before .before .loop-test .taken) _ (c .before .before .before .before .color-step .ensures)
+
+same-length : tie.Need-same-length Inv-loop μ-loop
+same-length c = spreading-wide _ _ _ (c .before .before .before .before .before .before .before .before .before .pre .0) _ _ (c .before .loop .inv) .had ∙ sym (ap length (c .before .before .before .before .before .before .before .before .before .pre .1 .0))
+
+same-length-2 : tie.Need-same-length-2 Inv-loop μ-loop
+same-length-2 c = spreading-wide _ _ _ (c .before .before .before .before .before .before .before .before .before .pre .0) _ _ (c .before .loop .inv) .lost ∙ sym (ap length (c .before .before .before .before .before .before .before .before .before .pre .1 .1))
+
+returns : tie.Need-returns Inv-loop μ-loop
+returns c = spreading-end _ _ _ (c .before .before .before .before .before .before .before .before .before .pre .0) _ _ (c .before .loop .inv) (c .loop-test .left)
+
+pub color-sums-spec : {M : Type 1} → statement M
+color-sums-spec =
+    tie.close
+    (tie.spec
+    Inv-loop
+    μ-loop
+    loop-holds
+    color-step-requires
+    add-i
+    loop-less
+    loop-again
+    same-length
+    same-length-2
+    returns)

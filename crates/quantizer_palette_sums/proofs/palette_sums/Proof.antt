@@ -1,0 +1,59 @@
+-- `quantizer_palette_sums::palette_sums` meets its contract. The loop's invariant: the sums and the hints are those after the first i tiles. Assumes nothing.
+use Prim.Native.Nat.{_-_}
+use mathlib.Core.Path.{sym, ap, _∙_}
+use native.Mathlib.Omega.{arith}
+use lib.ListN.{length}
+use Rattle.job.specs.Job.{job}
+use Rattle.quantizer.specs.Replacing.{shares}
+use Rattle.quantizer_palette_sums.proofs.Pairs.{Pairing, pairing-start, pairing-length, pairing-wide, pairing-turn, pairing-more, pairing-end}
+use Rattle.quantizer_palette_sums.proofs.palette_sums.Statement.{statement}
+use Rattle.quantizer_palette_sums.proofs.palette_sums.Tie as tie
+
+abbrev Inv-loop : tie.InvT-loop
+Inv-loop s c t weight tiles colours counts pal hints₀ total₀ removed₀ i₀ hints total removed i = Pairing (job s c t weight tiles colours counts) pal hints₀ hints (shares total removed) i
+
+abbrev μ-loop : tie.MeasureT-loop
+μ-loop s c t weight tiles colours counts pal hints₀ total₀ removed₀ i₀ hints total removed i = t - i
+
+loop-holds : tie.Need-loop-holds Inv-loop μ-loop
+loop-holds c = pairing-start _ _ (c .before .before .before .before .before .before .before .pre .0) _ (c .before .before .before .before .before .before .before .pre .1 .0) _ _ (c .before .before .before .before .before .before .before .pre .1 .1 .0) (c .before .before .before .before .before .before .before .pre .1 .1 .1)
+
+palette-step-requires : tie.Need-palette-step-requires Inv-loop μ-loop
+palette-step-requires c κs = pairing-turn _ _ (c .before .before .before .before .before .before .before .before .before .before .before .before .pre .0) _ (c .before .before .before .before .before .before .before .before .before .before .before .before .pre .1 .0) _ _ _ (c .before .before .before .before .loop .inv) (c .before .before .before .loop-test .taken)
+
+add-i : tie.Need-add-i Inv-loop μ-loop
+add-i c = omega arith
+
+loop-less : tie.Need-loop-less Inv-loop μ-loop
+loop-less c = omega arith
+
+loop-again : tie.Need-loop-again Inv-loop μ-loop
+loop-again c = pairing-more _ _ (c .before .before .before .before .before .before .before .before .before .before .before .before .before .before .before .before .before .before .before .pre .0) _ (c .before .before .before .before .before .before .before .before .before .before .before .before .before .before .before .before .before .before .before .pre .1 .0) _ _ _ (c .before .before .before .before .before .before .before .before .before .before .before .loop .inv) (c .before .before .before .before .before .before .before .before .before .before .loop-test .taken) _ _ (c .before .before .before .before .before .before .palette-step .ensures .0) (c .before .before .before .before .before .before .palette-step .ensures .1)
+
+same-length : tie.Need-same-length Inv-loop μ-loop
+same-length c = pairing-length _ _ (c .before .before .before .before .before .before .before .before .before .pre .0) _ (c .before .before .before .before .before .before .before .before .before .pre .1 .0) _ _ _ (c .before .loop .inv)
+
+same-length-2 : tie.Need-same-length-2 Inv-loop μ-loop
+same-length-2 c = pairing-wide _ _ (c .before .before .before .before .before .before .before .before .before .pre .0) _ (c .before .before .before .before .before .before .before .before .before .pre .1 .0) _ _ _ (c .before .loop .inv) .had ∙ sym (ap length (c .before .before .before .before .before .before .before .before .before .pre .1 .1 .0))
+
+same-length-3 : tie.Need-same-length-3 Inv-loop μ-loop
+same-length-3 c = pairing-wide _ _ (c .before .before .before .before .before .before .before .before .before .pre .0) _ (c .before .before .before .before .before .before .before .before .before .pre .1 .0) _ _ _ (c .before .loop .inv) .lost ∙ sym (ap length (c .before .before .before .before .before .before .before .before .before .pre .1 .1 .1))
+
+returns : tie.Need-returns Inv-loop μ-loop
+returns c = pairing-end _ _ (c .before .before .before .before .before .before .before .before .before .pre .0) _ (c .before .before .before .before .before .before .before .before .before .pre .1 .0) _ _ _ (c .before .loop .inv) (c .loop-test .left)
+
+pub palette-sums-spec : {M : Type 1} → statement M
+palette-sums-spec =
+    tie.close
+    (tie.spec
+    Inv-loop
+    μ-loop
+    loop-holds
+    palette-step-requires
+    add-i
+    loop-less
+    loop-again
+    same-length
+    same-length-2
+    same-length-3
+    returns)

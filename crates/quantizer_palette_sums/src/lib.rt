@@ -1,0 +1,80 @@
+// The sums by subpalette that replacing the weakest is decided by, over all tiles of a job, the empty ones too: what each has, and what would be added
+// without it, from the best two of each tile. They are what specs/Replacing.antt of quantizer says; the hints then name each tile's best.
+ghost use mathlib.Core.Path.{_≡_};
+ghost use Prim.Native.Nat.{_<_};
+ghost use lib.ListN.{length, set};
+ghost use Rattle.job.specs.Job.{job};
+ghost use Rattle.palette_tile.specs.Tiles.{Shown};
+ghost use Rattle.quantizer.specs.Sums.{zeros};
+ghost use Rattle.quantizer.specs.Replacing.{shares, shareWith, pairAt, sharesOf, pairHints};
+ghost use Rattle.quantizer_palette_sums.specs.Asked.{PairTurn};
+use stats::Two;
+
+// A tile's best two, to the sums of the best.
+fn add_two(total: &mut [f32], removed: &mut [f32], r: Two)
+    requires { ⌜ (r .index < length (now total)) × (r .index < length (now removed)) ⌝ }
+    ensures { λ u. ⌜ shares (now (total .exit)) (now (removed .exit)) ≡ shareWith r (shares (now (total .entry)) (now (removed .entry))) ⌝ }
+{
+    let i = r.index;
+    total[i] = total[i] + r.dist;
+    removed[i] = removed[i] + r.second;
+}
+
+// Tile i's part in the sums by subpalette. An empty tile goes through best_two too, so that its hint becomes 0.
+fn palette_step(
+    s: usize,
+    c: usize,
+    t: usize,
+    weight: f32,
+    tiles: &[u32],
+    colours: &[f32],
+    counts: &[u32],
+    pal: &[f32],
+    hints: &mut [u32],
+    i: usize,
+    total: &mut [f32],
+    removed: &mut [f32],
+)
+    requires { ⌜ PairTurn (job s c t weight (now tiles) (now colours) (now counts)) (now pal) (now hints) i (shares (now total) (now removed)) ⌝ }
+    ensures { λ r. ⌜ (shares (now (total .exit)) (now (removed .exit)) ≡ shareWith (pairAt (job s c t weight (now (tiles .entry)) (now (colours .entry)) (now (counts .entry))) (now (pal .entry)) i) (shares (now (total .entry)) (now (removed .entry)))) × (now (hints .exit) ≡ set (now (hints .entry)) i (pairAt (job s c t weight (now (tiles .entry)) (now (colours .entry)) (now (counts .entry))) (now (pal .entry)) i .index)) ⌝ }
+{
+    let r = palette_tile::tile_two(s, c, t, weight, tiles, colours, counts, pal, s, c, hints, i);
+    add_two(total, removed, r)
+}
+
+// What each subpalette has, and what would be added without it; the hints then name each tile's best.
+pub fn palette_sums(
+    s: usize,
+    c: usize,
+    t: usize,
+    weight: f32,
+    tiles: &[u32],
+    colours: &[f32],
+    counts: &[u32],
+    pal: &[f32],
+    hints: &mut [u32],
+    total: &mut [f32],
+    removed: &mut [f32],
+)
+    requires { ⌜ Shown (job s c t weight (now tiles) (now colours) (now counts)) (now pal) s c × ((length (now hints) ≡ t) × ((now total ≡ zeros 16) × (now removed ≡ zeros 16))) ⌝ }
+    ensures { λ r. ⌜ (shares (now (total .exit)) (now (removed .exit)) ≡ sharesOf (job s c t weight (now (tiles .entry)) (now (colours .entry)) (now (counts .entry))) (now (pal .entry)) t) × (now (hints .exit) ≡ pairHints (job s c t weight (now (tiles .entry)) (now (colours .entry)) (now (counts .entry))) (now (pal .entry)) (now (hints .entry)) t) ⌝ }
+{
+    let mut i = 0;
+    while i < t {
+        palette_step(
+            s,
+            c,
+            t,
+            weight,
+            tiles,
+            colours,
+            counts,
+            pal,
+            hints,
+            i,
+            total,
+            removed,
+        );
+        i += 1;
+    }
+}
