@@ -1,0 +1,159 @@
+-- A sheet's bits stored in bytes are its file stored in them; and what each return of the writer answers. Assumes nothing.
+use mathlib.Core.Path.{_≡_, refl, sym, ap, ap₂, _∙_, subst}
+use Prim.Native.Nat.{ℕ, zero, suc, _+_, _-_, _*_, _/_, _^_, _≤_, _<_}
+use native.Mathlib.Omega.{arith}
+use mathlib.Core.Bool.{Bool, true, false, cond, _&&_}
+use mathlib.Core.List.{List, [], _∷_, _++_}
+use lib.Dec.{T, leb, ltb, eqb, lt→ltb}
+use lib.Pow.{areBytes}
+use lib.ListN.{length, getD, take, drop, set, replicate, length-append, length-drop, length-replicate, length-set}
+use lib.Seq.{sets, length-sets, length-take-le}
+use lib.Ieee.{Float}
+use borrow.Author.Tests.{le-leb, lt-leb, eq-eqb, ne-eqb}
+use Rattle.bits.specs.Bits.{bitsOf, num, bits}
+use Rattle.bits.specs.Numbers.{length-bitsOf, num-lt}
+use Rattle.bits.specs.Bytes.{bits-set}
+use Rattle.bits.specs.Fields.{sets-append}
+use Rattle.format.specs.Format.{bytesOf, bytesFor, encode}
+use Rattle.format.specs.Tests.{and-in}
+use Rattle.format.specs.Files.{bits-bytesOf, bytesOf-bits}
+use Rattle.job.specs.Job.{Job}
+use Rattle.job.specs.Checks.{plainAnswer}
+use Rattle.job.specs.Ready.{Ready, Lent, Plain, plain-ready}
+use Rattle.sheet_format.specs.Sheet.{edition1, sheet, sizeOf}
+use Rattle.sheet_pack.specs.Packed.{sheetOf, sheetBits}
+use Rattle.sheet_pack.specs.Prints.{sheet-size, sheet-print}
+use Rattle.sheet.specs.declared.Writing.the-variants.{Refused, Bytes}
+use Rattle.sheet.specs.Sheets.{WriteOutcome, writeOutcome, storedIn, writeDef}
+
+-- each element is a byte, as a slice of bytes has it
+abbrev Bytewise : List ℕ → Type 0
+Bytewise s = (i : ℕ) → getD s i 0 < 256
+
+are-bytes : (s : List ℕ) → Bytewise s → T (areBytes s)
+are-bytes [] b = tt
+are-bytes (x ∷ s) b = and-in (ltb x 256) (areBytes s) (lt→ltb x 256 (b 0)) (are-bytes s (λ i. b (suc i)))
+
+-- bytes are known by their bits
+same-bytes : (a b : List ℕ) → length a ≡ length b → Bytewise a → Bytewise b → bits a ≡ bits b → a ≡ b
+same-bytes a b l ha hb e =
+    sym (bytesOf-bits (length b) a (are-bytes a ha) l) ∙ ap (bytesOf (length b)) e ∙ bytesOf-bits (length b) b (are-bytes b hb) refl
+
+-- ---- bytes stored are their bits stored
+bits-sets : (vs s : List ℕ) (j : ℕ) → j + length vs ≤ length s → bits (sets s j vs) ≡ sets (bits s) (8 * j) (bits vs)
+bits-sets [] s j h = refl
+bits-sets (v ∷ vs) s j h =
+    let next : 8 * suc j ≡ 8 * j + 8 = omega arith in
+    bits-sets vs (set s j v) (suc j) (rw length-set (omega arith))
+    ∙ ap₂ (λ (x : List Bool) (i : ℕ). sets x i (bits vs)) (bits-set s j v (omega arith)) next
+    ∙ sym (sets-append (bitsOf 8 v) (bits vs) (bits s) (8 * j))
+
+bytewise-set : (s : List ℕ) (j v : ℕ) → v < 256 → Bytewise s → Bytewise (set s j v)
+bytewise-set [] j v h b i = b i
+bytewise-set (x ∷ s) zero v h b zero = h
+bytewise-set (x ∷ s) zero v h b (suc i) = b (suc i)
+bytewise-set (x ∷ s) (suc j) v h b zero = b 0
+bytewise-set (x ∷ s) (suc j) v h b (suc i) = bytewise-set s j v h (λ k. b (suc k)) i
+
+bytewise-sets : (vs s : List ℕ) (j : ℕ) → Bytewise vs → Bytewise s → Bytewise (sets s j vs)
+bytewise-sets [] s j v b = b
+bytewise-sets (x ∷ vs) s j v b = bytewise-sets vs (set s j x) (suc j) (λ i. v (suc i)) (bytewise-set s j x (v 0) b)
+
+bytewise-of : (n : ℕ) (l : List Bool) → length l ≡ 8 * n → Bytewise (bytesOf n l)
+bytewise-of zero l e i = omega arith
+bytewise-of (suc n) l e zero = num-lt 8 (take 8 l) (length-take-le 8 l (omega arith))
+bytewise-of (suc n) l e (suc i) = bytewise-of n (drop 8 l) (length-drop 8 l ∙ omega arith) i
+
+length-bytesOf : (n : ℕ) (l : List Bool) → length (bytesOf n l) ≡ n
+length-bytesOf zero l = refl
+length-bytesOf (suc n) l = ap suc (length-bytesOf n (drop 8 l))
+
+-- whole bytes of bits, stored at the front
+stored-front : (old new : List ℕ) (n : ℕ) (q : List Bool) → Bytewise old → Bytewise new → length new ≡ length old → length q ≡ 8 * n → n ≤ length old
+    → bits new ≡ sets (bits old) 0 q → new ≡ sets old 0 (bytesOf n q)
+stored-front old new n q ho hn ln lq room e =
+    same-bytes new (sets old 0 (bytesOf n q)) (ln ∙ sym (length-sets old 0 (bytesOf n q))) hn (bytewise-sets (bytesOf n q) old 0 (bytewise-of n q lq) ho)
+    (e ∙ ap (sets (bits old) 0) (sym (bits-bytesOf n q lq)) ∙ sym (bits-sets (bytesOf n q) old 0 (omega (arith, length-bytesOf n q))))
+
+-- ---- the file of a job's sheet
+module _ (size : ℕ) (J : Job) (R : Ready size J) (palette : List Float) (L : Lent (J .S) (J .C) palette) where
+  abbrev wide : ℕ
+  wide = sizeOf edition1 (J .S) (J .C) (J .T) (length (J .counts))
+
+  printed-long : length (sheet edition1 .print (sheetOf J palette)) ≡ wide
+  printed-long = ap length (sheet-print size J R palette L edition1) ∙ sheet-size size J R palette L
+
+  pub file-long : length (encode (sheet edition1) (sheetOf J palette)) ≡ bytesFor wide
+  file-long = go (sheet edition1 .print (sheetOf J palette)) printed-long
+    where
+      go : (p : List Bool) → length p ≡ wide → length (bytesOf (bytesFor (length p)) (p ++ replicate (8 * bytesFor (length p) - length p) false)) ≡ bytesFor wide
+      go p e = length-bytesOf (bytesFor (length p)) (p ++ replicate (8 * bytesFor (length p) - length p) false) ∙ ap bytesFor e
+
+  pub file-stored : (old new : List ℕ) (n : ℕ) → n ≡ wide → Bytewise old → Bytewise new → length new ≡ length old → bytesFor n ≤ length old
+      → bits new ≡ sets (bits old) 0 (sheetBits edition1 (sheetOf J palette) ++ replicate (8 * bytesFor n - n) false)
+      → new ≡ sets old 0 (encode (sheet edition1) (sheetOf J palette))
+  file-stored old new n en ho hn ln room e =
+      go (sheet edition1 .print (sheetOf J palette)) (printed-long ∙ sym en) (sym (sheet-print size J R palette L edition1))
+    where
+      go : (p : List Bool) → length p ≡ n → sheetBits edition1 (sheetOf J palette) ≡ p
+          → new ≡ sets old 0 (bytesOf (bytesFor (length p)) (p ++ replicate (8 * bytesFor (length p) - length p) false))
+      go p lp ep =
+          let q : List Bool = p ++ replicate (8 * bytesFor n - n) false in
+          let lq : length q ≡ 8 * bytesFor n = length-append p (replicate (8 * bytesFor n - n) false) ∙ omega (arith, length-replicate (8 * bytesFor n - n) false) in
+          stored-front old new (bytesFor n) q ho hn ln lq room (e ∙ ap (λ (x : List Bool). sets (bits old) 0 (x ++ replicate (8 * bytesFor n - n) false)) ep)
+          ∙ ap (λ (i : ℕ). sets old 0 (bytesOf (bytesFor i) (p ++ replicate (8 * bytesFor i - i) false))) (sym lp)
+
+-- ---- the answer
+module _ (file old : List ℕ) where
+  large : 65536 < length file → writeOutcome (Refused 13) old ≡ storedIn file old
+  unfolding storedIn
+  large h =
+      sym (ap (λ (b : Bool). cond b (cond (leb (length file) (length old)) (writeOutcome (Bytes (length file)) (sets old 0 file)) (writeOutcome (Refused 3) old)) (writeOutcome (Refused 13) old)) (lt-leb (length file) 65536 h))
+
+  within : length file ≤ 65536 → storedIn file old ≡ cond (leb (length file) (length old)) (writeOutcome (Bytes (length file)) (sets old 0 file)) (writeOutcome (Refused 3) old)
+  unfolding storedIn
+  within h =
+      ap (λ (b : Bool). cond b (cond (leb (length file) (length old)) (writeOutcome (Bytes (length file)) (sets old 0 file)) (writeOutcome (Refused 3) old)) (writeOutcome (Refused 13) old)) (le-leb (length file) 65536 h)
+
+  roomless : length file ≤ 65536 → length old < length file → writeOutcome (Refused 3) old ≡ storedIn file old
+  roomless h l = sym (within h ∙ ap (λ (b : Bool). cond b (writeOutcome (Bytes (length file)) (sets old 0 file)) (writeOutcome (Refused 3) old)) (lt-leb (length file) (length old) l))
+
+  stored : (n : ℕ) (new : List ℕ) → length file ≤ 65536 → length file ≤ length old → n ≡ length file → new ≡ sets old 0 file → writeOutcome (Bytes n) new ≡ storedIn file old
+  stored n new h l en e =
+      ap₂ {C = WriteOutcome} (λ i v. writeOutcome (Bytes i) v) en e
+      ∙ sym (within h ∙ ap (λ (b : Bool). cond b (writeOutcome (Bytes (length file)) (sets old 0 file)) (writeOutcome (Refused 3) old)) (le-leb (length file) (length old) l))
+
+module _ (size : ℕ) (J : Job) (palette : List Float) (old : List ℕ) (a : ℕ) (e : a ≡ plainAnswer size J palette true) where
+  pub job-refused : (a ≡ 0 → ⊥) → writeOutcome (Refused a) old ≡ writeDef size J palette old
+  unfolding writeDef
+  job-refused z =
+      ap (λ (i : ℕ). writeOutcome (Refused i) old) e
+      ∙ sym (ap (λ (b : Bool). cond b (storedIn (encode (sheet edition1) (sheetOf J palette)) old) (writeOutcome (Refused (plainAnswer size J palette true)) old)) (ne-eqb (plainAnswer size J palette true) 0 (λ k. z (e ∙ k))))
+
+  module _ (z : a ≡ 0) where
+    pub passed : Plain size J palette true
+    passed = plain-ready size J palette true (sym e ∙ z)
+
+    by-file : storedIn (encode (sheet edition1) (sheetOf J palette)) old ≡ writeDef size J palette old
+    unfolding writeDef
+    by-file =
+        sym (ap (λ (b : Bool). cond b (storedIn (encode (sheet edition1) (sheetOf J palette)) old) (writeOutcome (Refused (plainAnswer size J palette true)) old)) (eq-eqb (plainAnswer size J palette true) 0 (sym e ∙ z)))
+
+    module _ (n k : ℕ) (en : n ≡ sizeOf edition1 (J .S) (J .C) (J .T) (length (J .counts))) (ek : k ≡ bytesFor n) where
+      file-is : k ≡ length (encode (sheet edition1) (sheetOf J palette))
+      file-is = ek ∙ ap bytesFor en ∙ sym (file-long size J (passed .ready) palette (passed .lent))
+
+      pub too-large : 65536 < k → writeOutcome (Refused 13) old ≡ writeDef size J palette old
+      too-large h = large (encode (sheet edition1) (sheetOf J palette)) old (subst (λ (i : ℕ). 65536 < i) file-is h) ∙ by-file
+
+      pub no-place : k ≤ 65536 → length old < k → writeOutcome (Refused 3) old ≡ writeDef size J palette old
+      no-place h l =
+          roomless (encode (sheet edition1) (sheetOf J palette)) old (subst (λ (i : ℕ). i ≤ 65536) file-is h) (subst (λ (i : ℕ). length old < i) file-is l) ∙ by-file
+
+      pub file-written : (new : List ℕ) → k ≤ 65536 → k ≤ length old → Bytewise old → Bytewise new → length new ≡ length old
+          → bits new ≡ sets (bits old) 0 (sheetBits edition1 (sheetOf J palette) ++ replicate (8 * bytesFor n - n) false)
+          → writeOutcome (Bytes k) new ≡ writeDef size J palette old
+      file-written new h l ho hn ln f =
+          stored (encode (sheet edition1) (sheetOf J palette)) old k new (subst (λ (i : ℕ). i ≤ 65536) file-is h) (subst (λ (i : ℕ). i ≤ length old) file-is l) file-is
+          (file-stored size J (passed .ready) palette (passed .lent) old new n en ho hn ln (omega arith) f)
+          ∙ by-file

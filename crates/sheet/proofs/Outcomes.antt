@@ -1,0 +1,78 @@
+-- What each return of the reader answers. Assumes nothing.
+use mathlib.Core.Path.{_≡_, refl, sym, ap, ap₂, _∙_}
+use Prim.Native.Nat.{ℕ, _+_, _*_, _≤_}
+use native.Mathlib.Omega.{arith}
+use mathlib.Core.Bool.{Bool, true, false, cond, not, _&&_}
+use mathlib.Core.List.{List}
+use lib.Dec.{leb}
+use lib.ListN.{length}
+use lib.Seq.{sets}
+use lib.Ieee.{Float, binary32, ofBits}
+use borrow.Author.Tests.{leb-true, not-true, not-false}
+use Rattle.lists.specs.Tests.{and-l, and-r}
+use Rattle.format.specs.Format.{times, Answer, refused, accepted}
+use Rattle.sheet_format.specs.Sheet.{edition1, component, Colour, Sheet, tile, readSheet}
+use Rattle.sheet_format.specs.Lists.{floats, allCounts, allFloats, tableOf}
+use Rattle.sheet_check.specs.declared.Checked.{Checked}
+use Rattle.sheet_check.specs.declared.Checked.the-variants.{Refused, Sound}
+use Rattle.sheet_check.specs.Steps.{checkedOf}
+use Rattle.sheet_fill.specs.Fill.{listAt}
+use Rattle.sheet.specs.declared.Reading.the-variants as reading
+use Rattle.sheet.specs.Sheets.{Room, room, ReadOutcome, readOutcome, roomy, readInto, readDef}
+use Rattle.sheet.proofs.Accepted.{Accepted, accepted-says}
+
+-- what room there is
+pub record Roomy (t f c p : ℕ) : Type 0 where
+  pub tiles : 2048 ≤ t
+  pub colours : 15420 ≤ f
+  pub counts : 5140 ≤ c
+  pub palette : 768 ≤ p
+
+pub roomy-says : (tiles colours counts palette : ℕ) (r : Bool) → r ≡ roomy tiles colours counts palette → not r ≡ false → Roomy tiles colours counts palette
+unfolding roomy
+roomy-says tiles colours counts palette r e h =
+    let a : roomy tiles colours counts palette ≡ true = sym e ∙ not-false r h in
+    let b = and-r (leb 768 palette) (leb 2048 tiles && (leb 5140 counts && leb 15420 colours)) a in
+    let c = and-r (leb 2048 tiles) (leb 5140 counts && leb 15420 colours) b in
+    record {
+      tiles = leb-true 2048 tiles (and-l (leb 2048 tiles) (leb 5140 counts && leb 15420 colours) b);
+      colours = leb-true 15420 colours (and-r (leb 5140 counts) (leb 15420 colours) c);
+      counts = leb-true 5140 counts (and-l (leb 5140 counts) (leb 15420 colours) c);
+      palette = leb-true 768 palette (and-l (leb 768 palette) (leb 2048 tiles && (leb 5140 counts && leb 15420 colours)) a);
+    }
+
+module _ (s : List ℕ) (h : Room) (r : Bool) (e : r ≡ roomy (length (h .tiles)) (length (h .colours)) (length (h .counts)) (length (h .palette))) where
+  pub no-room : not r ≡ true → readOutcome (reading.Refused 3) h ≡ readDef s h
+  unfolding readDef
+  no-room g = sym (ap (λ (b : Bool). readInto (cond b (readSheet edition1 s) (refused 3)) h) (sym e ∙ not-true r g))
+
+  module _ (g : not r ≡ false) where
+    by-sheet : (x : Answer Sheet) → readSheet edition1 s ≡ x → readInto x h ≡ readDef s h
+    unfolding readDef
+    by-sheet x f =
+        sym (ap (λ (b : Bool). readInto (cond b (readSheet edition1 s) (refused 3)) h) (sym e ∙ not-false r g) ∙ ap (λ (y : Answer Sheet). readInto y h) f)
+
+    pub refused-out : (n : ℕ) → Refused n ≡ checkedOf (readSheet edition1 s) → readOutcome (reading.Refused n) h ≡ readDef s h
+    refused-out n f = go (readSheet edition1 s) refl f
+      where
+        same : (n m : ℕ) → _≡_ {A = Checked} (Refused n) (Refused m) → n ≡ m
+        same n m e = cc
+
+        never : (n a b t w : ℕ) → _≡_ {A = Checked} (Refused n) (Sound a b t w) → ⊥
+        never n a b t w e = let z : _≡_ {A = ℕ} 0 1 = cc in omega arith
+
+        go : (x : Answer Sheet) → readSheet edition1 s ≡ x → Refused n ≡ checkedOf x → readOutcome (reading.Refused n) h ≡ readDef s h
+        go (refused m) k f = ap (λ (i : ℕ). readOutcome (reading.Refused i) h) (same n m f) ∙ by-sheet (refused m) k
+        go (accepted x) k f = absurd (never n (x .subs) (x .each) (x .tiles) (x .weight) f)
+
+    pub accepted-out : (a b t w : ℕ) (weight : Float) (tb : List ℕ) (cs : List ℕ) (f : List Float) (p : List Float) → Accepted s a b t w → weight ≡ ofBits binary32 w
+        → p ≡ sets (h .palette) 0 (floats (listAt (times (3 * (a * b)) component) s 86))
+        → tb ≡ sets (h .tiles) 0 (tableOf 0 (listAt (times t (tile edition1)) s (86 + 3 * (a * b) * 32)))
+        → cs ≡ sets (h .counts) 0 (allCounts (listAt (times t (tile edition1)) s (86 + 3 * (a * b) * 32)))
+        → f ≡ sets (h .colours) 0 (allFloats (listAt (times t (tile edition1)) s (86 + 3 * (a * b) * 32)))
+        → readOutcome (reading.Sheet a b t weight) (room tb f cs p) ≡ readDef s h
+    accepted-out a b t w weight tb cs f p A ew ep et ec ef =
+        let L : List (List Colour) = listAt (times t (tile edition1)) s (86 + 3 * (a * b) * 32) in
+        ap₂ {C = ReadOutcome} (λ i j. readOutcome (reading.Sheet a b t i) j) ew
+        (ap₂ {C = Room} (λ i j. room i j cs p) et ef ∙ ap₂ {C = Room} (λ i j. room (sets (h .tiles) 0 (tableOf 0 L)) (sets (h .colours) 0 (allFloats L)) i j) ec ep)
+        ∙ by-sheet _ (A .is)

@@ -1,0 +1,13 @@
+-- Only one outcome meets the reader's contract, and only one the writer's. Assumes nothing.
+use Prim.Native.Nat.{ℕ}
+use mathlib.Core.Path.{_≡_, sym, _∙_}
+use mathlib.Core.List.{List}
+use lib.Ieee.{Float}
+use Rattle.job.specs.Job.{Job}
+use Rattle.sheet.specs.Sheets.{Room, ReadOutcome, readDef, WriteOutcome, writeDef}
+
+pub only-reading : (bytes : List ℕ) (h : Room) (x y : ReadOutcome) → x ≡ readDef bytes h → y ≡ readDef bytes h → x ≡ y
+only-reading bytes h x y e f = e ∙ sym f
+
+pub only-writing : (size : ℕ) (J : Job) (palette : List Float) (found : List ℕ) (x y : WriteOutcome) → x ≡ writeDef size J palette found → y ≡ writeDef size J palette found → x ≡ y
+only-writing size J palette found x y e f = e ∙ sym f

@@ -1,0 +1,78 @@
+-- The public reader and writer: what each answers, and what the lent memory holds then. Definitions only. Assumes nothing.
+use Prim.Native.Nat.{ℕ}
+use mathlib.Core.Bool.{Bool, true, _&&_, cond}
+use mathlib.Core.List.{List}
+use lib.Dec.{leb, eqb}
+use lib.ListN.{length}
+use lib.Seq.{sets}
+use lib.Ieee.{Float, binary32, ofBits}
+use Rattle.format.specs.Format.{Answer, refused, accepted, encode}
+use Rattle.job.specs.Job.{Job, job}
+use Rattle.job.specs.Checks.{plainAnswer}
+use Rattle.sheet_format.specs.Sheet.{Sheet, edition1, sheet, readSheet}
+use Rattle.sheet_format.specs.Lists.{floats, allCounts, allFloats, tableOf}
+use Rattle.sheet_pack.specs.Packed.{sheetOf}
+use Rattle.sheet.specs.declared.Reading.{Reading}
+use Rattle.sheet.specs.declared.Reading.the-variants as reading
+use Rattle.sheet.specs.declared.Writing.{Writing}
+use Rattle.sheet.specs.declared.Writing.the-variants as writing
+
+-- the job that a sheet holds
+abbrev pub jobOf : Sheet → Job
+jobOf x = job (x .subs) (x .each) (x .tiles) (ofBits binary32 (x .weight)) (tableOf 0 (x .content)) (allFloats (x .content)) (allCounts (x .content))
+
+-- ---- reading
+-- the memory that a reading is lent
+pub record Room : Type 0 where
+  pub tiles : List ℕ
+  pub colours : List Float
+  pub counts : List ℕ
+  pub palette : List Float
+
+abbrev pub room : List ℕ → List Float → List ℕ → List Float → Room
+room tiles colours counts palette = record { tiles = tiles; colours = colours; counts = counts; palette = palette }
+
+pub record ReadOutcome : Type 0 where
+  pub answer : Reading
+  pub after : Room
+
+abbrev pub readOutcome : Reading → Room → ReadOutcome
+readOutcome r h = record { answer = r; after = h }
+
+-- enough for any sheet of 65,536 bytes
+unfoldable pub roomy : ℕ → ℕ → ℕ → ℕ → Bool
+roomy tiles colours counts palette = leb 768 palette && (leb 2048 tiles && (leb 5140 counts && leb 15420 colours))
+
+-- a sheet's lists stand in the first places; what isn't filled stays
+abbrev pub filled : Sheet → Room → Room
+filled x h =
+    room (sets (h .tiles) 0 (jobOf x .tiles)) (sets (h .colours) 0 (jobOf x .colours)) (sets (h .counts) 0 (jobOf x .counts)) (sets (h .palette) 0 (floats (x .palette)))
+
+abbrev pub readInto : Answer Sheet → Room → ReadOutcome
+readInto (refused n) h = readOutcome (reading.Refused n) h
+readInto (accepted x) h = readOutcome (reading.Sheet (jobOf x .S) (jobOf x .C) (jobOf x .T) (jobOf x .weight)) (filled x h)
+
+-- 3 for room comes first
+unfoldable pub readDef : List ℕ → Room → ReadOutcome
+readDef bytes h =
+    readInto (cond (roomy (length (h .tiles)) (length (h .colours)) (length (h .counts)) (length (h .palette))) (readSheet edition1 bytes) (refused 3)) h
+
+-- ---- writing
+pub record WriteOutcome : Type 0 where
+  pub answer : Writing
+  pub after : List ℕ
+
+abbrev pub writeOutcome : Writing → List ℕ → WriteOutcome
+writeOutcome r h = record { answer = r; after = h }
+
+-- a file into lent bytes: 13 where it is too large, then 3 where it has no room
+unfoldable pub storedIn : List ℕ → List ℕ → WriteOutcome
+storedIn file found =
+    cond (leb (length file) 65536)
+    (cond (leb (length file) (length found)) (writeOutcome (writing.Bytes (length file)) (sets found 0 file)) (writeOutcome (writing.Refused 3) found))
+    (writeOutcome (writing.Refused 13) found)
+
+-- the job's own refusals come first
+unfoldable pub writeDef : ℕ → Job → List Float → List ℕ → WriteOutcome
+writeDef size J palette found =
+    cond (eqb (plainAnswer size J palette true) 0) (storedIn (encode (sheet edition1) (sheetOf J palette)) found) (writeOutcome (writing.Refused (plainAnswer size J palette true)) found)

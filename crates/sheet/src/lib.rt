@@ -1,0 +1,115 @@
+// The fit sheet's public calls: the reader and the writer. Neither asks anything of its caller, and a refusal writes nothing.
+// Assumes nothing.
+ghost use mathlib.Core.Path.{_≡_};
+ghost use Rattle.job.specs.Job.{job, tileSize};
+ghost use Rattle.sheet.specs.Sheets.{room, roomy, readOutcome, readDef, writeOutcome, writeDef};
+
+const MOST_BYTES: usize = 65536;
+
+// What a reading finds: a refusal's number, or the numbers of a job whose lists are filled in.
+pub enum Reading {
+    Refused(u32),
+    Sheet {
+        s: usize,
+        c: usize,
+        t: usize,
+        weight: f32,
+    },
+}
+
+// Whether slices of these lengths hold the lists of any sheet.
+fn has_room(tiles: usize, colours: usize, counts: usize, palette: usize) -> bool
+    ensures { λ r. ⌜ r ≡ roomy tiles colours counts palette ⌝ }
+{
+    if palette < 768 {
+        return false;
+    }
+    if tiles < 2048 {
+        return false;
+    }
+    if counts < 5140 {
+        return false;
+    }
+    15420 <= colours
+}
+
+// A sheet into lent slices: two numbers a tile, three a colour. What isn't filled stays.
+pub fn read(
+    bytes: &[u8],
+    tiles: &mut [u32],
+    colours: &mut [f32],
+    counts: &mut [u32],
+    palette: &mut [f32],
+) -> Reading
+    ensures { λ r. ⌜ readOutcome r (room (now (tiles .exit)) (now (colours .exit)) (now (counts .exit)) (now (palette .exit))) ≡ readDef (now (bytes .entry)) (room (now (tiles .entry)) (now (colours .entry)) (now (counts .entry)) (now (palette .entry))) ⌝ }
+{
+    if !has_room(tiles.len(), colours.len(), counts.len(), palette.len()) {
+        return Reading::Refused(3);
+    }
+    match sheet_check::check(bytes) {
+        sheet_check::Checked::Refused(n) => Reading::Refused(n),
+        sheet_check::Checked::Sound {
+            subs,
+            each,
+            tiles: t,
+            weight,
+        } => {
+            let n = (3 * (subs * each)) as usize;
+            sheet_fill::fill_components(bytes, 86, n, palette, 0);
+            sheet_fill::fill_tiles(bytes, 86 + n * 32, t as usize, tiles, counts, colours);
+            Reading::Sheet {
+                s: subs as usize,
+                c: each as usize,
+                t: t as usize,
+                weight: pattern::weight(weight),
+            }
+        }
+    }
+}
+
+// What a writing answers: a refusal's number, or how many bytes the sheet has.
+pub enum Writing {
+    Refused(u32),
+    Bytes(usize),
+}
+
+// The sheet of a job and a palette, into lent bytes. Those past it stay.
+pub fn write(
+    s: usize,
+    c: usize,
+    t: usize,
+    weight: f32,
+    tiles: &[u32],
+    colours: &[f32],
+    counts: &[u32],
+    palette: &[f32],
+    dst: &mut [u8],
+) -> Writing
+    ensures { λ r. ⌜ writeOutcome r (now (dst .exit)) ≡ writeDef tileSize (job s c t weight (now (tiles .entry)) (now (colours .entry)) (now (counts .entry))) (now (palette .entry)) (now (dst .entry)) ⌝ }
+{
+    let number = job_check::check_job(
+        job::TILE_SIZE,
+        s,
+        c,
+        t,
+        weight,
+        tiles,
+        colours,
+        counts,
+        palette,
+        true,
+    );
+    if number != 0 {
+        return Writing::Refused(number);
+    }
+    let size = sheet_format::size_of(s, c, t, counts.len());
+    let n = format::bytes_for(size);
+    if MOST_BYTES < n {
+        return Writing::Refused(13);
+    }
+    if dst.len() < n {
+        return Writing::Refused(3);
+    }
+    sheet_pack::pack_sheet(s, c, t, weight, tiles, colours, counts, palette, dst, size);
+    Writing::Bytes(n)
+}
