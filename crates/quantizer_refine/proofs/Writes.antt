@@ -1,0 +1,63 @@
+-- Means are written in the order of the definition, and a whole pass is the gathering and then they. Assumes nothing.
+use Prim.Native.Nat.{ℕ, _+_, _*_, _≤_, _<_}
+use mathlib.Core.Path.{_≡_, refl, sym, ap, subst⁻¹, _∙_}
+use mathlib.Core.Bool.{Bool, cond}
+use mathlib.Core.List.{List}
+use native.Mathlib.Nat.{le-antisymm}
+use native.Mathlib.Numerals.{add-one}
+use native.Mathlib.Omega.{arith}
+use lib.ListN.{getD, length}
+use lib.Ieee.{Float}
+use borrow.Author.Tests.{eq-eqb, ne-eqb}
+use Rattle.color.specs.declared.Oklab.{Oklab}
+use Rattle.color.specs.Color.{colourAt, putAt, overOf}
+use Rattle.job.specs.Job.{Job}
+use Rattle.palette_tile.specs.Tiles.{Shown}
+use Rattle.quantizer.specs.Refining.{Gather, gatherOf, meanStep, meansOf, refined}
+use Rattle.quantizer_gather.specs.Gathers.{Counted}
+use Rattle.quantizer_gather.specs.Held.{gathered}
+use Rattle.quantizer_refine.specs.Means.{Meaning}
+use Rattle.quantizer_refine.specs.Refines.{length-means}
+
+-- ---- one colour
+module _ (A : Gather) (p : ℕ) (pal : List Float) where
+  pub mean-kept : getD (A .cnts) p 0 ≡ 0 → pal ≡ meanStep A p pal
+  unfolding meanStep
+  mean-kept z = sym (ap (λ (b : Bool). cond b pal (putAt pal p (overOf (colourAt (A .sums) p) (getD (A .cnts) p 0)))) (eq-eqb (getD (A .cnts) p 0) 0 z))
+
+  pub mean-written : (getD (A .cnts) p 0 ≡ 0 → ⊥) → (m : ℕ) → m ≡ getD (A .cnts) p 0 → (x y : Oklab) → x ≡ colourAt (A .sums) p → y ≡ overOf x m → (after : List Float) → after ≡ putAt pal p y → after ≡ meanStep A p pal
+  unfolding meanStep
+  mean-written n m w x y e f after g =
+      g
+      ∙ ap (putAt pal p) (f ∙ ap (overOf x) w ∙ ap (λ (z : Oklab). overOf z (getD (A .cnts) p 0)) e)
+      ∙ sym (ap (λ (b : Bool). cond b pal (putAt pal p (overOf (colourAt (A .sums) p) (getD (A .cnts) p 0)))) (ne-eqb (getD (A .cnts) p 0) 0 n))
+
+-- ---- the first n
+module _ (pal : List Float) (A : Gather) where
+  pub means-none : pal ≡ meansOf pal A 0
+  unfolding meansOf
+  means-none = refl
+
+  pub means-length : (p : ℕ) (s : List Float) → s ≡ meansOf pal A p → length s ≡ length pal
+  means-length p s e = ap length e ∙ length-means pal A p
+
+  pub means-meaning : (n : ℕ) → Meaning pal n A → (p : ℕ) → p < n → (s : List Float) → s ≡ meansOf pal A p → Meaning s (p + 1) A
+  means-meaning n M p l s e = record { room = omega (arith, means-length p s e, M .room); size = omega (arith, M .size); whole = M .whole; all = M .all; few = M .few }
+
+  pub means-more : (p : ℕ) (s after : List Float) → s ≡ meansOf pal A p → after ≡ meanStep A p s → after ≡ meansOf pal A (p + 1)
+  unfolding meansOf
+  means-more p s after e q = q ∙ ap (meanStep A p) e ∙ sym (ap (meansOf pal A) (add-one p))
+
+  pub means-end : (n p : ℕ) (s : List Float) → p ≤ n → n ≤ p → s ≡ meansOf pal A p → s ≡ meansOf pal A n
+  means-end n p s a b e = e ∙ ap (meansOf pal A) (le-antisymm a b)
+
+-- ---- a whole pass, whose sums and counts are A
+module _ (J : Job) (pal : List Float) (S : Shown J pal (J .S) (J .C)) (A : Gather) (e : A ≡ gatherOf J pal (J .T)) where
+  pub pass-meaning : Meaning pal (J .S * J .C) A
+  pass-meaning =
+      let K : Counted A 8388608 = subst⁻¹ (λ (X : Gather). Counted X 8388608) e (gathered J pal S) in
+      record { room = omega (arith, S .room); size = S .ready .sizes .cells; whole = K .held .whole; all = K .held .all; few = λ p. omega (arith, K .few p) }
+
+  pub pass-done : (after : List Float) → after ≡ meansOf pal A (J .S * J .C) → after ≡ refined J pal
+  unfolding refined
+  pass-done after q = q ∙ ap (λ (X : Gather). meansOf pal X (J .S * J .C)) e

@@ -1,0 +1,67 @@
+// One pass of refinement: each colour becomes the mean of the tile colours that are nearest to it, where there are any.
+// It is what the definitions in quantizer's specs/Refining.antt say. A mean is written only after all sums are complete, so into the palette itself.
+ghost use mathlib.Core.Path.{_≡_};
+ghost use Prim.Native.Nat.{_+_};
+ghost use lib.ListN.{length};
+ghost use Rattle.job.specs.Job.{job};
+ghost use Rattle.palette_tile.specs.Tiles.{hintsOf, Shown};
+ghost use Rattle.quantizer.specs.Refining.{gather, meanStep, meansOf, refined};
+ghost use Rattle.quantizer_refine.specs.Means.{Meaning};
+
+// Colour p becomes the mean of its sum, where pixels were counted.
+fn mean_at(pal: &mut [f32], p: usize, sums: &[f32], cnts: &[u32])
+    requires { ⌜ Meaning (now pal) (p + 1) (gather (now sums) (now cnts)) ⌝ }
+    ensures { λ r. ⌜ now (pal .exit) ≡ meanStep (gather (now (sums .entry)) (now (cnts .entry))) p (now (pal .entry)) ⌝ }
+{
+    let m = cnts[p];
+    if m == 0 {
+        return;
+    }
+    let x = color::colour(sums, p);
+    color::put(pal, p, color::over(x, job::wide(m)));
+}
+
+// The first n colours become the means of their sums.
+fn write_means(pal: &mut [f32], n: usize, sums: &[f32], cnts: &[u32])
+    requires { ⌜ Meaning (now pal) n (gather (now sums) (now cnts)) ⌝ }
+    ensures { λ r. ⌜ now (pal .exit) ≡ meansOf (now (pal .entry)) (gather (now (sums .entry)) (now (cnts .entry))) n ⌝ }
+{
+    let mut p = 0;
+    while p < n {
+        mean_at(pal, p, sums, cnts);
+        p += 1;
+    }
+}
+
+// All s subpalettes of c colours are recentred; the hints name each tile's winner.
+pub fn refine(
+    s: usize,
+    c: usize,
+    t: usize,
+    weight: f32,
+    tiles: &[u32],
+    colours: &[f32],
+    counts: &[u32],
+    pal: &mut [f32],
+    hints: &mut [u32],
+)
+    requires { ⌜ Shown (job s c t weight (now tiles) (now colours) (now counts)) (now pal) s c × (length (now hints) ≡ t) ⌝ }
+    ensures { λ r. ⌜ (now (pal .exit) ≡ refined (job s c t weight (now (tiles .entry)) (now (colours .entry)) (now (counts .entry))) (now (pal .entry))) × (now (hints .exit) ≡ hintsOf (job s c t weight (now (tiles .entry)) (now (colours .entry)) (now (counts .entry))) (now (pal .entry)) s c (now (hints .entry)) t) ⌝ }
+{
+    let mut sums = [0.0f32; 768];
+    let mut cnts = [0u32; 256];
+    quantizer_gather::gather_all(
+        s,
+        c,
+        t,
+        weight,
+        tiles,
+        colours,
+        counts,
+        pal,
+        hints,
+        &mut sums,
+        &mut cnts,
+    );
+    write_means(pal, s * c, &sums, &cnts);
+}
