@@ -19,7 +19,7 @@ pub record Fit (K : Course) (s : State) : Type 0 where
   pub sound : Sound K s
 
 module _ (size : ℕ) (small : size ≤ 256) (K : Course) (given : Bool) (D : Sampled size (K .job) (K .n) (K .samples) given) where
-  step-fit : (s : State) → Fit K s → draws (s .stage) ≡ true → Fit K (step K s)
+  pub step-fit : (s : State) → Fit K s → draws (s .stage) ≡ true → Fit K (step K s)
   unfolding step
   step-fit s F d =
       record {

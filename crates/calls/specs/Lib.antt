@@ -2,6 +2,7 @@ pub mod Cases
 pub mod Whilsts
 pub mod Split
 pub mod Place
+pub mod Settling
 pub mod Words
 pub mod Made
 pub mod Presence

@@ -128,7 +128,7 @@ module _ (K : Course) where
 -- ---- the run's ends
 module _ (K : Course) (S1 : 1 ≤ K .job .S) (C1 : 1 ≤ K .job .C) where
   -- a stage that draws has draws left, so a run of no draws stands at none
-  some-left : (s : State) → Rests K s → draws (s .stage) ≡ true → 1 ≤ s .left
+  pub some-left : (s : State) → Rests K s → draws (s .stage) ≡ true → 1 ≤ s .left
   some-left s R D = let z : s .left ≢ 0 = eqb-false (s .left) 0 (subst (λ (t : Bool). t && eqb (s .left) 0 ≡ false) D (R .done)) in omega arith
 
   -- up to stage 3, what is made and left is no more than the draws before the stop

@@ -107,7 +107,7 @@ module _ (K : Course) (S1 : 1 ≤ K .job .S) (C1 : 1 ≤ K .job .C) where
 
   -- ---- closing a round, whatever the stage
   module _ (f : ℕ) (s : State) (L : s .left ≡ 0) (A : Ahead K (suc f) s) (D : draws (s .stage) ≡ true) where
-    finish-ahead : Ahead K f (finishRound K s)
+    pub finish-ahead : Ahead K f (finishRound K s)
     finish-ahead = go (A .place)
       where
         at-end : (x : ℕ) → s .made + s .left ≡ x → s .made ≡ x
@@ -122,7 +122,7 @@ module _ (K : Course) (S1 : 1 ≤ K .job .S) (C1 : 1 ≤ K .job .C) where
         go (over k past r l e) = absurd (true≢false (sym D ∙ quiet (s .stage) k))
 
   -- ---- settling: with as much fuel as there are rounds to go, nothing is due in the end
-  idle : (s : State) → Ahead K 0 s → draws (s .stage) ≡ false
+  pub idle : (s : State) → Ahead K 0 s → draws (s .stage) ≡ false
   idle s A = go (A .place)
     where
       go : Placed K s → draws (s .stage) ≡ false
@@ -133,14 +133,14 @@ module _ (K : Course) (S1 : 1 ≤ K .job .S) (C1 : 1 ≤ K .job .C) where
       go (finishing k r l e) = absurd (let n : 1 ≤ 0 = unfold togo in rw stage4 at (A .near) in omega arith)
       go (over k past r l e) = quiet (s .stage) k
 
-  settling : (f : ℕ) (s : State) → Ahead K f s → Rests K (whilst (due K) (finishRound K) f s)
+  pub settling : (f : ℕ) (s : State) → Ahead K f s → Rests K (whilst (due K) (finishRound K) f s)
   unfolding whilst
   settling zero s A = record { place = A .place; done = ap (λ (t : Bool). t && eqb (s .left) 0) (idle s A) }
   settling (suc f) s A = by-test (Rests K) (due K s)
       (λ t. settling f (finishRound K s) (finish-ahead f s (eqb-true (s .left) 0 (and-r (draws (s .stage)) _ t)) A (and-l (draws (s .stage)) _ t)))
       (λ t. record { place = A .place; done = t })
 
-  enough : (s : State) → Placed K s → togo K s ≤ K .job .S + K .job .C + 20
+  pub enough : (s : State) → Placed K s → togo K s ≤ K .job .S + K .job .C + 20
   unfolding togo
   enough s (seeding k r l e) = rw stage0 (omega arith)
   enough s (growing k r l e) = rw stage1 (omega arith)
@@ -154,7 +154,7 @@ module _ (K : Course) (S1 : 1 ≤ K .job .S) (C1 : 1 ≤ K .job .C) where
   settle-rests s p = settling _ s (record { place = p; near = enough s p })
 
   -- ---- a draw, a step, an advance
-  draw-place : (s : State) → Rests K s → draws (s .stage) ≡ true → Placed K (draw K s)
+  pub draw-place : (s : State) → Rests K s → draws (s .stage) ≡ true → Placed K (draw K s)
   draw-place s R D = go (R .place)
     where
       some-left : 1 ≤ s .left

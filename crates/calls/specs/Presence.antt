@@ -28,7 +28,7 @@ module _ (K : Course) (S1 : 1 ≤ K .job .S) (C1 : 1 ≤ K .job .C) (s : State) 
   unfolding haveOf
   some-colours = all-stages (λ (x : ℕ). 1 ≤ x) (s .stage) (omega arith) (omega arith) C1 C1 C1
 
-  seeding-rounds : Placed K s → s .stage ≡ 0 → s .rounds + 2 ≤ K .job .S
+  pub seeding-rounds : Placed K s → s .stage ≡ 0 → s .rounds + 2 ≤ K .job .S
   seeding-rounds (seeding k r l e) h = omega arith
   seeding-rounds (growing k r l e) h = absurd (omega arith)
   seeding-rounds (replacing k r l e) h = absurd (omega arith)
@@ -36,7 +36,7 @@ module _ (K : Course) (S1 : 1 ≤ K .job .S) (C1 : 1 ≤ K .job .C) (s : State) 
   seeding-rounds (finishing k r l e) h = absurd (omega arith)
   seeding-rounds (over k past r l e) h = absurd (omega arith)
 
-  growing-rounds : Placed K s → s .stage ≡ 1 → s .rounds + 2 ≤ K .job .C
+  pub growing-rounds : Placed K s → s .stage ≡ 1 → s .rounds + 2 ≤ K .job .C
   growing-rounds (seeding k r l e) h = absurd (omega arith)
   growing-rounds (growing k r l e) h = omega arith
   growing-rounds (replacing k r l e) h = absurd (omega arith)

@@ -212,7 +212,7 @@ module _ (size : ℕ) (small : size ≤ 256) (K : Course) (R : Ready size (K .jo
   closeReplacing-sound s A k =
       both (Sound K) (ltb (s .rounds + 1) 10) (openReplacing-sound _ _ (judged-sound s A k) (judged-stage s ∙ k)) (enterReducing-sound _ (judged-sound s A k) (judged-stage s ∙ k))
 
-  finish-sound : (s : State) → Sound K s → Sound K (finishRound K s)
+  pub finish-sound : (s : State) → Sound K s → Sound K (finishRound K s)
   unfolding finishRound
   finish-sound s A =
       by-test (Sound K) (eqb (s .stage) 0) (λ t. closeSeeding-sound s A (eqb-true (s .stage) 0 t))

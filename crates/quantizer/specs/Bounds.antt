@@ -67,7 +67,7 @@ module _ (J : Job) (pal : List Float) (have : ℕ) (S : Shown J pal (J .S) have)
   unfolding grownBy
   grown-by-bounded zero h = B
   grown-by-bounded (suc i) h =
-      colour-copied-bounded (grownBy J pal have i) k (J .C) i (splitOf J pal have i) have (grown-by-bounded i (omega arith))
+      colour-copied-bounded (grownBy J pal have i) k (J .C) i (splitOf J pal have i) _ (grown-by-bounded i (omega arith))
       (place-room (J .S) (J .C) i (splitOf J pal have i) (length (grownBy J pal have i)) h (omega (arith, split-below J pal have S i h, S .present)) (omega (arith, rows J pal (S .room), length-grown-by J pal have i)))
 
   pub grown-bounded : Bounded (grown J pal have) k

@@ -98,7 +98,7 @@ module _ (J : Job) (pal : List Float) where
   pub length-grown-by : (have i : ℕ) → length (grownBy J pal have i) ≡ length pal
   unfolding grownBy
   length-grown-by have zero = refl
-  length-grown-by have (suc i) = length-colour-copied (grownBy J pal have i) (J .C) i (splitOf J pal have i) have ∙ length-grown-by have i
+  length-grown-by have (suc i) = length-colour-copied (grownBy J pal have i) (J .C) i _ _ ∙ length-grown-by have i
 
   pub length-grown : (have : ℕ) → length (grown J pal have) ≡ length pal
   unfolding grown
