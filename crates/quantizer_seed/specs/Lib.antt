@@ -1,0 +1,3 @@
+pub mod Seeds
+pub mod Distances
+pub mod Seeded
