@@ -1,0 +1,46 @@
+-- `run_draw::draw` meets its contract: what is asked and left is a law of proofs/Steps.antt. Assumes nothing.
+use Rattle.run_draw.proofs.Steps.{going-by, drawn-by}
+use borrow.Author.Needs.{needs}
+use Rattle.run_draw.proofs.draw.Statement.{statement}
+use Rattle.run_draw.proofs.draw.Tie as tie
+
+subs-of-requires : tie.Need-subs-of-requires
+subs-of-requires c κs = search needs
+
+have-of-requires : tie.Need-have-of-requires
+have-of-requires c κs = search needs
+
+alpha-of-requires : tie.Need-alpha-of-requires
+alpha-of-requires c κs = search needs
+
+draw-requires : tie.Need-draw-requires
+draw-requires c κs = going-by _ _ _ _ (c .before .before .before .before .before .before .before .before .before .before .before .before .before .args .r) _ _ (c .before .before .before .before .before .subs-of .ensures) (c .before .before .before .before .have-of .ensures) (c .before .before .before .before .before .before .before .before .before .before .before .before .before .pre .going)
+
+sub-t29 : tie.Need-sub-t29
+sub-t29 c = search needs
+
+same-length : tie.Need-same-length
+same-length c = search needs
+
+same-length-2 : tie.Need-same-length-2
+same-length-2 c = search needs
+
+same-length-3 : tie.Need-same-length-3
+same-length-3 c = search needs
+
+returns : tie.Need-returns
+returns c = drawn-by _ _ _ _ (c .before .before .before .before .before .before .before .before .before .before .before .before .before .before .before .before .before .before .before .before .args .r) _ _ (c .before .before .before .before .before .before .before .before .before .before .before .before .subs-of .ensures) (c .before .before .before .before .before .before .before .before .before .before .before .have-of .ensures) _ (c .before .before .before .before .before .before .before .before .before .before .alpha-of .ensures) _ _ _ _ _ (c .before .before .before .before .before .before .draw .ensures .0) (c .before .before .before .before .before .before .draw .ensures .1 .0) (c .before .before .before .before .before .before .draw .ensures .1 .1)
+
+pub draw-spec : {M : Type 1} → statement M
+draw-spec =
+    tie.close
+    (tie.spec
+    subs-of-requires
+    have-of-requires
+    alpha-of-requires
+    draw-requires
+    sub-t29
+    same-length
+    same-length-2
+    same-length-3
+    returns)

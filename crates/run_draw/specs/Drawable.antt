@@ -1,0 +1,12 @@
+-- What a draw asks of a state. Definitions only. Assumes nothing.
+use Prim.Native.Nat.{ℕ, _≤_}
+use Rattle.quantizer.specs.Course.{Course}
+use Rattle.quantizer_draw.specs.Draws.{Going}
+use Rattle.stages.specs.State.{State}
+use Rattle.stages.specs.Stages.{cycleOf, subsOf, haveOf}
+
+-- a course that passed, with its palette, hints and order; few rounds finished, and a draw left
+pub record Drawable (K : Course) (s : State) : Type 0 where
+  pub going : Going K (cycleOf K s) (s .palette) (subsOf K s) (haveOf K s) (s .hints)
+  pub few : s .rounds ≤ 16
+  pub left : 1 ≤ s .left

@@ -1,0 +1,2 @@
+pub mod Drawable
+pub mod Draws
