@@ -1,16 +1,50 @@
-// Forwarders to the sheet's reader. Assumes nothing.
-use sheet_check::Checked;
+// Forwarders to the sheet's reader and writer. Assumes nothing.
+// Each gives the number; what else there is to give goes through the references, which stay on a refusal.
+use sheet::Reading;
+use sheet::Writing;
 
-// The number that a sheet gets.
 #[no_mangle]
-pub extern "C" fn probe_sheet_check(s: &[u8]) -> u32 {
-    match sheet_check::check(s) {
-        Checked::Refused(number) => number,
-        Checked::Sound {
-            subs,
-            each,
-            tiles,
-            weight,
-        } => 0,
+pub extern "C" fn probe_sheet_read(
+    bytes: &[u8],
+    tiles: &mut [u32],
+    colours: &mut [f32],
+    counts: &mut [u32],
+    palette: &mut [f32],
+    subs: &mut usize,
+    each: &mut usize,
+    many: &mut usize,
+    heavy: &mut f32,
+) -> u32 {
+    match sheet::read(bytes, tiles, colours, counts, palette) {
+        Reading::Refused(number) => number,
+        Reading::Sheet { s, c, t, weight } => {
+            *subs = s;
+            *each = c;
+            *many = t;
+            *heavy = weight;
+            0
+        }
+    }
+}
+
+#[no_mangle]
+pub extern "C" fn probe_sheet_write(
+    s: usize,
+    c: usize,
+    t: usize,
+    weight: f32,
+    tiles: &[u32],
+    colours: &[f32],
+    counts: &[u32],
+    palette: &[f32],
+    dst: &mut [u8],
+    size: &mut usize,
+) -> u32 {
+    match sheet::write(s, c, t, weight, tiles, colours, counts, palette, dst) {
+        Writing::Refused(number) => number,
+        Writing::Bytes(n) => {
+            *size = n;
+            0
+        }
     }
 }

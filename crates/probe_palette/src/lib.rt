@@ -1,5 +1,4 @@
-// Forwarders to palettes and training, for the comparison with the Rust, as those of probe.
+// Forwarders to palettes, for the comparison with the Rust, as those of probe.
 // Each carries what its callee requires; the comparison's cases meet it.
 mod edits;
 mod fits;
-mod training;

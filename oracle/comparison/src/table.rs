@@ -91,3 +91,20 @@ pub fn counts(given: &Given) -> bool {
 pub fn within(numbers: &[f32], limit: f32) -> bool {
     numbers.iter().all(|x| x.is_finite() && x.abs() <= limit)
 }
+
+/// Document 01's number for a call without samples, whose own tests of numbers 2 and 3 are given.
+pub fn plain(given: &Given, palette: &[f32], own_sizes: bool, own_lengths: bool) -> u32 {
+    first(&[
+        (2, &|| sizes(given) && own_sizes),
+        (3, &|| lengths(given) && palette.len() == 3 * given.s * given.c && own_lengths),
+        (4, &|| weight(given.weight)),
+        (5, &|| table(given)),
+        (6, &|| counts(given)),
+        (7, &|| within(palette, 2.0) && within(&given.colours, 2.0)),
+    ])
+}
+
+/// The subpalettes of a job that is accepted.
+pub fn subs(given: &Given, palette: &[f32]) -> Palette {
+    colours(palette).chunks(given.c).map(<[_]>::to_vec).collect()
+}

@@ -60,22 +60,14 @@ impl Call {
         self
     }
 
-    /// Document 01's number, for a call whose own tests of number 2 and 3 are given.
+    /// Document 01's number, for a call whose own tests of numbers 2 and 3 are given.
     fn number(&self, own_sizes: bool, own_lengths: bool) -> u32 {
-        let given = &self.given;
-        table::first(&[
-            (2, &|| table::sizes(given) && own_sizes),
-            (3, &|| table::lengths(given) && self.palette.len() == 3 * given.s * given.c),
-            (3, &|| self.hints.len() == given.t && own_lengths),
-            (4, &|| table::weight(given.weight)),
-            (5, &|| table::table(given)),
-            (6, &|| table::counts(given)),
-            (7, &|| table::within(&self.palette, 2.0) && table::within(&given.colours, 2.0)),
-        ])
+        let lengths = self.hints.len() == self.given.t && own_lengths;
+        table::plain(&self.given, &self.palette, own_sizes, lengths)
     }
 
     fn subs(&self) -> Palette {
-        table::colours(&self.palette).chunks(self.given.c).map(<[_]>::to_vec).collect()
+        table::subs(&self.given, &self.palette)
     }
 
     fn lent(&self) -> ours::Job {

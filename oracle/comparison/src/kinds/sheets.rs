@@ -5,12 +5,21 @@ use terms::jobs::{self, Colours};
 use terms::rng::Rng;
 
 use super::{Kind, kind};
-use crate::ours;
+use crate::ours::{self, Job};
 use crate::sheet::{self, Sheet};
+use crate::table::Given;
 use crate::tally::Tally;
+use crate::{damage, lent, table};
 
-pub const KINDS: &[Kind] =
-    &[kind("sheet numbers", 20_000, numbers), kind("sheet bits", 30, bits), kind("largest sheets", 30, largest)];
+pub const KINDS: &[Kind] = &[
+    kind("sheet reading", 10_000, reading),
+    kind("sheet bits", 15, bits),
+    kind("largest sheets", 30, largest),
+    kind("sheet writing", 10_000, writing),
+];
+
+/// The room that a reading needs: tile entries of two numbers, colours of three, counts, palette numbers.
+const ROOM: [usize; 4] = [2048, 15_420, 5140, 768];
 
 /// A sheet of a few tiles.
 fn small(rng: &mut Rng) -> Sheet {
@@ -24,13 +33,18 @@ fn small(rng: &mut Rng) -> Sheet {
     }
 }
 
-/// A sheet with up to three damages.
-fn numbers(rng: &mut Rng, _: u64, tally: &mut Tally) {
+/// A sheet with up to three damages, into room that may be too little or more than enough.
+fn reading(rng: &mut Rng, _: u64, tally: &mut Tally) {
     let mut bytes = sheet::written(&small(rng));
     for _ in 0..rng.pick(&[0, 1, 1, 2, 3]) {
-        damage(rng, &mut bytes);
+        damage_bytes(rng, &mut bytes);
     }
-    compare(&bytes, tally);
+    let mut room = ROOM;
+    if rng.once_in(4) {
+        let place = rng.below(4);
+        room[place] = rng.pick(&[room[place] - 1, room[place] + 1, 0, room[place] + 77]);
+    }
+    read_into(&bytes, room, tally);
 }
 
 /// Every bit of one sheet changed, every cut of it, and bytes after it.
@@ -53,19 +67,23 @@ fn bits(rng: &mut Rng, _: u64, tally: &mut Tally) {
     }
 }
 
-/// Near 65,536 bytes: a colour takes 102 bits, so the last tiles are filled up until the sheet is just below, at or above.
-fn largest(rng: &mut Rng, case: u64, tally: &mut Tally) {
+/// Near 65,536 bytes: a colour takes 102 bits, so that many are filled in that the sheet is just below, at or above.
+fn large(rng: &mut Rng, more: usize) -> Sheet {
     let colours = Colours::any(rng, 2.0);
     let t = rng.pick(&[81, 100, 1024]);
     let fit = (8 * sheet::MOST_BYTES - 182 - 7 * t) / 102;
-    let most = fit - 1 + case as usize % 3;
-    let mut sheet =
-        Sheet { weight: 2.15, palette: jobs::palette(rng, 1, 1, &colours, 2.0), tiles: vec![Default::default(); t] };
-    for k in 0..most {
+    let palette = jobs::palette(rng, 1, 1, &colours, 2.0);
+    let mut sheet = Sheet { weight: 2.15, palette, tiles: vec![Default::default(); t] };
+    for k in 0..fit - 1 + more % 3 {
         let tile = &mut sheet.tiles[k / 64];
         tile.colours.push(colours.one(rng, 2.0));
         tile.counts.push(1);
     }
+    sheet
+}
+
+fn largest(rng: &mut Rng, case: u64, tally: &mut Tally) {
+    let sheet = large(rng, case as usize);
     let bytes = sheet::written(&sheet);
     compare(&bytes, tally);
     let size = rng.pick(&[sheet::MOST_BYTES, sheet::MOST_BYTES + 1, 2 * sheet::MOST_BYTES]);
@@ -73,7 +91,7 @@ fn largest(rng: &mut Rng, case: u64, tally: &mut Tally) {
 }
 
 /// A field of 32 bits or a byte replaced, a bit changed, a cut, bytes after.
-fn damage(rng: &mut Rng, bytes: &mut Vec<u8>) {
+fn damage_bytes(rng: &mut Rng, bytes: &mut Vec<u8>) {
     let end = 8 * bytes.len();
     match rng.below(8) {
         0 => bytes.truncate(rng.below(bytes.len() + 1)),
@@ -120,6 +138,80 @@ fn put(bytes: &mut [u8], at: usize, value: u32) {
 }
 
 fn compare(bytes: &[u8], tally: &mut Tally) {
-    let right = sheet::read(bytes).err().unwrap_or(0);
-    tally.same(ours::sheet_check(bytes), right, || format!("{bytes:02x?}"));
+    read_into(bytes, ROOM, tally);
+}
+
+/// Reads into room of these sizes: what is filled, and what stays.
+fn read_into(bytes: &[u8], room: [usize; 4], tally: &mut Tally) {
+    let found = Given {
+        s: 77,
+        c: 78,
+        t: 79,
+        weight: 80.0,
+        tiles: vec![0x5a5a_5a5a; room[0]],
+        colours: vec![-7.5; room[1]],
+        counts: vec![0x5a5a_5a5a; room[2]],
+    };
+    let found_palette = vec![-8.5; room[3]];
+    let enough = room.iter().zip(ROOM).all(|(has, needs)| *has >= needs);
+    let read = if enough { sheet::read(bytes) } else { Err(3) };
+    let (mut right, mut right_palette) = (found.clone(), found_palette.clone());
+    if let Ok(sheet) = &read {
+        let given = Given::new(&sheet.palette, &sheet.tiles, sheet.weight);
+        right.tiles[..given.tiles.len()].copy_from_slice(&given.tiles);
+        right.colours[..given.colours.len()].copy_from_slice(&given.colours);
+        right.counts[..given.counts.len()].copy_from_slice(&given.counts);
+        (right.s, right.c, right.t, right.weight) = (given.s, given.c, given.t, given.weight);
+        let numbers: Vec<f32> = sheet.palette.iter().flatten().flatten().copied().collect();
+        right_palette[..numbers.len()].copy_from_slice(&numbers);
+    }
+
+    let (lent_bytes, mut job, mut palette) = (lent::bytes(bytes), Job::lent(&found), lent::floats(&found_palette));
+    let number = ours::sheet_read(&lent_bytes, &mut job, &mut palette);
+    let kept = lent_bytes.untouched() && job.guarded() && palette.guarded();
+    let sizes = (job.s, job.c, job.t, job.weight);
+    let ours = (job.tiles.values().to_vec(), job.colours.values().to_vec(), job.counts.values().to_vec());
+    let right_sizes = (right.s, right.c, right.t, right.weight);
+    tally.same(
+        (number, sizes, ours, palette.values().to_vec(), kept),
+        (read.err().unwrap_or(0), right_sizes, (right.tiles, right.colours, right.counts), right_palette, true),
+        || format!("{bytes:02x?}"),
+    );
+}
+
+/// A job with its palette, damaged or not, into bytes of any number.
+fn writing(rng: &mut Rng, case: u64, tally: &mut Tally) {
+    let sheet = if case.is_multiple_of(500) { large(rng, case as usize / 500) } else { small(rng) };
+    let mut given = Given::new(&sheet.palette, &sheet.tiles, sheet.weight);
+    let mut numbers: Vec<f32> = sheet.palette.iter().flatten().flatten().copied().collect();
+    for _ in 0..rng.pick(&[0, 0, 1, 2]) {
+        damage::damage(rng, &mut given, &mut numbers);
+    }
+    let mut number = table::plain(&given, &numbers, true, true);
+    let mut bytes = Vec::new();
+    if number == 0 {
+        let sheet = Sheet { weight: given.weight, palette: table::subs(&given, &numbers), tiles: given.tiles() };
+        bytes = sheet::written(&sheet);
+        number = if bytes.len() > sheet::MOST_BYTES { 13 } else { 0 };
+    }
+    let room = match rng.below(4) {
+        0 => bytes.len().saturating_sub(1),
+        1 => bytes.len() + rng.below(40),
+        2 => bytes.len() / 2,
+        _ => bytes.len(),
+    };
+    if number == 0 && room < bytes.len() {
+        number = 3;
+    }
+    let mut right: Vec<u8> = (0..room).map(|_| rng.word() as u8).collect();
+    let mut dst = lent::bytes(&right);
+    let size = if number == 0 { bytes.len() } else { 0 };
+    right[..size].copy_from_slice(&bytes[..size]);
+
+    let (job, palette) = (Job::lent(&given), lent::floats(&numbers));
+    let answer = ours::sheet_write(&job, &palette, &mut dst);
+    let kept = job.untouched() && palette.untouched() && dst.guarded();
+    tally.same((answer, dst.values().to_vec(), kept), ((number, size), right, true), || {
+        format!("{given:?} {numbers:?}")
+    });
 }

@@ -1,16 +1,22 @@
-//! What training does between draws: the error of a palette.
+//! What training does: the error of a palette, growing, replacing, refinement, and draws.
 
-use answers::rust;
+use answers::{probed, rust};
 use terms::jobs::{self, Colours};
 use terms::rng::Rng;
-use terms::{Palette, Tile};
+use terms::{Held, Palette, Tile};
 
 use super::{Kind, kind};
 use crate::ours::{self, Flat, Job};
 use crate::table::Given;
 use crate::tally::Tally;
 
-pub const KINDS: &[Kind] = &[kind("mse", 5_000, mse)];
+pub const KINDS: &[Kind] = &[
+    kind("mse", 5_000, mse),
+    kind("grow", 5_000, grow),
+    kind("replace_weakest", 5_000, replace_weakest),
+    kind("refine", 5_000, refine),
+    kind("draws", 300, draws),
+];
 
 /// Tiles with hints, and a palette that a run may hold, in room for more.
 struct Case {
@@ -36,6 +42,28 @@ impl Case {
         Case { palette, tiles, weight: jobs::weight(rng), hints: jobs::hints(rng, t, s), flat }
     }
 
+    /// With every place in use.
+    fn full(rng: &mut Rng) -> Self {
+        let mut case = Case::any(rng);
+        case.flat = Flat::new(&case.palette, case.palette[0].len());
+        case
+    }
+
+    /// Our change of the palette beside the Rust's, and the hints that both leave.
+    fn compare(
+        mut self,
+        ours: impl FnOnce(&Job, &mut Flat, &mut [u32]),
+        rusts: impl FnOnce(&Palette, &[Tile], &mut [usize]) -> Palette,
+        tally: &mut Tally,
+    ) {
+        let shown = self.shown();
+        let (mut lent, mut hints) = (self.narrow_hints(), self.hints.clone());
+        ours(&self.job(), &mut self.flat, &mut lent);
+        let after = Flat::new(&rusts(&self.palette, &self.tiles, &mut hints), self.flat.room);
+        let left: Vec<usize> = lent.into_iter().map(|hint| hint as usize).collect();
+        tally.same((self.flat.numbers, left), (after.numbers, hints), || shown);
+    }
+
     /// The job, as one of so many subpalettes of so many colours as there is room for.
     fn job(&self) -> Job {
         let mut given = Given::new(&self.palette, &self.tiles, self.weight);
@@ -59,4 +87,69 @@ fn mse(rng: &mut Rng, _: u64, tally: &mut Tally) {
     let rusts = rust(case.weight).mse(&case.palette, &case.tiles, &mut hints);
     let left: Vec<usize> = lent.into_iter().map(|hint| hint as usize).collect();
     tally.same((ours, left), (rusts, hints), || case.shown());
+}
+
+/// Where there is room for one colour more.
+fn grow(rng: &mut Rng, _: u64, tally: &mut Tally) {
+    let mut case = Case::any(rng);
+    if case.flat.have == case.flat.room {
+        case.flat = Flat::new(&case.palette, case.flat.have + 1);
+    }
+    if case.flat.room > 16 {
+        return;
+    }
+    let weight = case.weight;
+    case.compare(ours::grow, |palette, tiles, hints| probed(weight).grow(palette, tiles, hints), tally);
+}
+
+fn replace_weakest(rng: &mut Rng, _: u64, tally: &mut Tally) {
+    let case = Case::full(rng);
+    let weight = case.weight;
+    case.compare(
+        ours::replace_weakest,
+        |palette, tiles, hints| probed(weight).replace_weakest(palette, tiles, hints),
+        tally,
+    );
+}
+
+fn refine(rng: &mut Rng, _: u64, tally: &mut Tally) {
+    let case = Case::full(rng);
+    let weight = case.weight;
+    case.compare(ours::refine, |palette, tiles, hints| probed(weight).refine(palette, tiles, hints), tally);
+}
+
+/// The draws of a run's final stage, one by one, with the order and the generator.
+fn draws(rng: &mut Rng, _: u64, tally: &mut Tally) {
+    let job = jobs::job(rng, 60);
+    let (s, c, n) = (job.s, job.c, job.samples.len());
+    let (colours, seed) = (Colours::any(rng, 2.0), rng.bits());
+    let palette = jobs::palette(rng, s, c, &colours, 4.0);
+    let hints = jobs::hints(rng, job.tiles.len(), s);
+    let b = n as u64 / 10;
+    if b == 0 {
+        return;
+    }
+    let mut cycle = ours::Cycle::new(n, seed);
+    let made = (s + c + 8) as u64 * b;
+    let held = Held {
+        palette: palette.clone(),
+        least: Vec::new(),
+        hints: hints.clone(),
+        order: cycle.order.clone(),
+        words: [cycle.state, 4, 0, 10 * b, made, 0],
+    };
+    cycle.made = made;
+    let mut run = probed(job.weight).resume(&job, &held);
+
+    let lent = Job::lent(&Given::new(&palette, &job.tiles, job.weight));
+    let samples: Vec<u32> = job.samples.iter().flat_map(|s| [s.tile as u32, s.place as u32]).collect();
+    let (mut flat, mut left) = (Flat::new(&palette, c), hints.iter().map(|&h| h as u32).collect::<Vec<_>>());
+    for _ in 0..10 * b - 1 {
+        ours::draw(&lent, &samples, &mut cycle, &mut flat, &mut left, 0.5);
+        run.advance(1);
+        let held = run.held();
+        let ours = (flat.numbers.clone(), left.iter().map(|&h| h as usize).collect::<Vec<_>>(), cycle.order.clone());
+        let rusts = (Flat::new(&held.palette, c).numbers, held.hints, held.order);
+        tally.same((ours, cycle.state), (rusts, held.words[0]), || format!("seed {seed:x}, {job:?}"));
+    }
 }

@@ -105,6 +105,10 @@ impl Job {
         }
     }
 
+    pub fn guarded(&self) -> bool {
+        self.tiles.guarded() && self.colours.guarded() && self.counts.guarded()
+    }
+
     pub fn untouched(&self) -> bool {
         self.tiles.untouched() && self.colours.untouched() && self.counts.untouched()
     }

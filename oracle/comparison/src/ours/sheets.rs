@@ -1,10 +1,87 @@
-//! The sheet's reader.
+//! The sheet's reader and writer, which take whatever a stranger lends.
+
+use super::Job;
+use crate::lent::Lent;
 
 unsafe extern "C" {
-    fn probe_sheet_check(bytes: *const u8, len: usize) -> u32;
+    fn probe_sheet_read(
+        bytes: *const u8,
+        bytes_len: usize,
+        tiles: *mut u32,
+        tiles_len: usize,
+        colours: *mut f32,
+        colours_len: usize,
+        counts: *mut u32,
+        counts_len: usize,
+        palette: *mut f32,
+        palette_len: usize,
+        s: &mut usize,
+        c: &mut usize,
+        t: &mut usize,
+        weight: &mut f32,
+    ) -> u32;
+    fn probe_sheet_write(
+        s: usize,
+        c: usize,
+        t: usize,
+        weight: f32,
+        tiles: *const u32,
+        tiles_len: usize,
+        colours: *const f32,
+        colours_len: usize,
+        counts: *const u32,
+        counts_len: usize,
+        palette: *const f32,
+        palette_len: usize,
+        dst: *mut u8,
+        dst_len: usize,
+        size: &mut usize,
+    ) -> u32;
 }
 
-/// The number that a sheet gets.
-pub fn sheet_check(bytes: &[u8]) -> u32 {
-    unsafe { probe_sheet_check(bytes.as_ptr(), bytes.len()) }
+/// The number; the sizes and the weight of the job become the sheet's, its slices and the palette are filled.
+pub fn sheet_read(bytes: &Lent<u8>, job: &mut Job, palette: &mut Lent<f32>) -> u32 {
+    unsafe {
+        probe_sheet_read(
+            bytes.pointer(),
+            bytes.len(),
+            job.tiles.pointer_mut(),
+            job.tiles.len(),
+            job.colours.pointer_mut(),
+            job.colours.len(),
+            job.counts.pointer_mut(),
+            job.counts.len(),
+            palette.pointer_mut(),
+            palette.len(),
+            &mut job.s,
+            &mut job.c,
+            &mut job.t,
+            &mut job.weight,
+        )
+    }
+}
+
+/// The number, and the bytes that the sheet has; 0 on a refusal.
+pub fn sheet_write(job: &Job, palette: &Lent<f32>, dst: &mut Lent<u8>) -> (u32, usize) {
+    let mut size = 0;
+    let number = unsafe {
+        probe_sheet_write(
+            job.s,
+            job.c,
+            job.t,
+            job.weight,
+            job.tiles.pointer(),
+            job.tiles.len(),
+            job.colours.pointer(),
+            job.colours.len(),
+            job.counts.pointer(),
+            job.counts.len(),
+            palette.pointer(),
+            palette.len(),
+            dst.pointer_mut(),
+            dst.len(),
+            &mut size,
+        )
+    };
+    (number, size)
 }

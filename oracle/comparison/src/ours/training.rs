@@ -1,6 +1,6 @@
 //! What training does between draws.
 
-use super::{Flat, Job};
+use super::{Cycle, Flat, Job};
 
 unsafe extern "C" {
     fn probe_mse(
@@ -21,6 +21,81 @@ unsafe extern "C" {
         hints: *mut u32,
         hints_len: usize,
     ) -> f32;
+    fn probe_grow(
+        s: usize,
+        c: usize,
+        t: usize,
+        weight: f32,
+        tiles: *const u32,
+        tiles_len: usize,
+        colours: *const f32,
+        colours_len: usize,
+        counts: *const u32,
+        counts_len: usize,
+        pal: *mut f32,
+        pal_len: usize,
+        have: usize,
+        hints: *mut u32,
+        hints_len: usize,
+    );
+    fn probe_replace_weakest(
+        s: usize,
+        c: usize,
+        t: usize,
+        weight: f32,
+        tiles: *const u32,
+        tiles_len: usize,
+        colours: *const f32,
+        colours_len: usize,
+        counts: *const u32,
+        counts_len: usize,
+        pal: *mut f32,
+        pal_len: usize,
+        hints: *mut u32,
+        hints_len: usize,
+    );
+    fn probe_refine(
+        s: usize,
+        c: usize,
+        t: usize,
+        weight: f32,
+        tiles: *const u32,
+        tiles_len: usize,
+        colours: *const f32,
+        colours_len: usize,
+        counts: *const u32,
+        counts_len: usize,
+        pal: *mut f32,
+        pal_len: usize,
+        hints: *mut u32,
+        hints_len: usize,
+    );
+    fn probe_draw(
+        s: usize,
+        c: usize,
+        t: usize,
+        n: usize,
+        weight: f32,
+        tiles: *const u32,
+        tiles_len: usize,
+        colours: *const f32,
+        colours_len: usize,
+        counts: *const u32,
+        counts_len: usize,
+        samples: *const u32,
+        samples_len: usize,
+        state: u64,
+        made: u64,
+        order: *mut u32,
+        order_len: usize,
+        pal: *mut f32,
+        pal_len: usize,
+        subs: usize,
+        have: usize,
+        hints: *mut u32,
+        hints_len: usize,
+        alpha: f32,
+    ) -> u64;
 }
 
 /// Of a job that is accepted, and a palette within 4.
@@ -45,4 +120,104 @@ pub fn mse(job: &Job, palette: &Flat, hints: &mut [u32]) -> f32 {
             hints.len(),
         )
     }
+}
+
+/// One colour more in each subpalette, where there is room.
+pub fn grow(job: &Job, palette: &mut Flat, hints: &mut [u32]) {
+    unsafe {
+        probe_grow(
+            job.s,
+            job.c,
+            job.t,
+            job.weight,
+            job.tiles.pointer(),
+            job.tiles.len(),
+            job.colours.pointer(),
+            job.colours.len(),
+            job.counts.pointer(),
+            job.counts.len(),
+            palette.numbers.as_mut_ptr(),
+            palette.numbers.len(),
+            palette.have,
+            hints.as_mut_ptr(),
+            hints.len(),
+        )
+    }
+}
+
+/// Of a palette whose places are all in use.
+pub fn replace_weakest(job: &Job, palette: &mut Flat, hints: &mut [u32]) {
+    unsafe {
+        probe_replace_weakest(
+            job.s,
+            job.c,
+            job.t,
+            job.weight,
+            job.tiles.pointer(),
+            job.tiles.len(),
+            job.colours.pointer(),
+            job.colours.len(),
+            job.counts.pointer(),
+            job.counts.len(),
+            palette.numbers.as_mut_ptr(),
+            palette.numbers.len(),
+            hints.as_mut_ptr(),
+            hints.len(),
+        )
+    }
+}
+
+/// Of a palette whose places are all in use.
+pub fn refine(job: &Job, palette: &mut Flat, hints: &mut [u32]) {
+    unsafe {
+        probe_refine(
+            job.s,
+            job.c,
+            job.t,
+            job.weight,
+            job.tiles.pointer(),
+            job.tiles.len(),
+            job.colours.pointer(),
+            job.colours.len(),
+            job.counts.pointer(),
+            job.counts.len(),
+            palette.numbers.as_mut_ptr(),
+            palette.numbers.len(),
+            hints.as_mut_ptr(),
+            hints.len(),
+        )
+    }
+}
+
+/// The next draw of the cycle, by alpha.
+pub fn draw(job: &Job, samples: &[u32], cycle: &mut Cycle, palette: &mut Flat, hints: &mut [u32], alpha: f32) {
+    cycle.state = unsafe {
+        probe_draw(
+            job.s,
+            job.c,
+            job.t,
+            samples.len() / 2,
+            job.weight,
+            job.tiles.pointer(),
+            job.tiles.len(),
+            job.colours.pointer(),
+            job.colours.len(),
+            job.counts.pointer(),
+            job.counts.len(),
+            samples.as_ptr(),
+            samples.len(),
+            cycle.state,
+            cycle.made,
+            cycle.order.as_mut_ptr(),
+            cycle.order.len(),
+            palette.numbers.as_mut_ptr(),
+            palette.numbers.len(),
+            palette.subs,
+            palette.have,
+            hints.as_mut_ptr(),
+            hints.len(),
+            alpha,
+        )
+    };
+    cycle.made += 1;
 }

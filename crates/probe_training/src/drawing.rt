@@ -1,0 +1,55 @@
+// A forwarder to one draw. Assumes of callers what the callee requires.
+ghost use Rattle.prng.specs.Shuffle.{deck};
+ghost use Rattle.cycle.specs.Cycle.{cycle};
+ghost use Rattle.job.specs.Job.{job};
+ghost use Rattle.quantizer.specs.Course.{course};
+ghost use Rattle.quantizer_draw.specs.Draws.{Going};
+use cycle::SampleCycle;
+use prng::Prng;
+
+// Gives the generator's state after the draw.
+#[no_mangle]
+pub extern "C" fn probe_draw(
+    s: usize,
+    c: usize,
+    t: usize,
+    n: usize,
+    weight: f32,
+    tiles: &[u32],
+    colours: &[f32],
+    counts: &[u32],
+    samples: &[u32],
+    state: u64,
+    made: u64,
+    order: &mut [u32],
+    pal: &mut [f32],
+    subs: usize,
+    have: usize,
+    hints: &mut [u32],
+    alpha: f32,
+) -> u64
+    requires { ⌜ Going (course (job s c t weight (now tiles) (now colours) (now counts)) n (now samples)) (cycle (deck (now order) state) made) (now pal) subs have (now hints) ⌝ }
+{
+    let prng = Prng { state };
+    let at = SampleCycle { prng, made };
+    let after = quantizer_draw::draw(
+        s,
+        c,
+        t,
+        n,
+        weight,
+        tiles,
+        colours,
+        counts,
+        samples,
+        at,
+        order,
+        pal,
+        subs,
+        have,
+        hints,
+        alpha,
+    );
+    let left = after.prng;
+    left.state
+}
