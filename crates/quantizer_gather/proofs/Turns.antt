@@ -17,8 +17,10 @@ use Rattle.palette_tile.specs.Tiles.{tileAt, fitAt, winner, hintStep, hintsOf, 
 use Rattle.palette_tile.specs.Present.{winner-below, shown-part}
 use Rattle.palette_tile.specs.Hints.{length-hints, hint-kept, hint-written, hints-none, hints-more}
 use Rattle.quantizer.specs.Refining.{Gather, nothing, tileGather, gatherStep, gatherOf}
-use Rattle.quantizer_gather.specs.Gathers.{Held, Counted, Gathering, Turned}
-use Rattle.quantizer_gather.specs.Held.{nothing-counted, row-in, gathering, counted}
+use Rattle.quantizer.specs.Indexes.{row-256}
+use Rattle.quantizer.specs.Refines.{Held, Gathered, nothing-gathered, gathered}
+use Rattle.quantizer_gather.specs.Gathers.{Gathering, Turned}
+use Rattle.quantizer_gather.specs.Through.{gathering}
 
 module _ (J : Job) (pal : List Float) (hints : List ℕ) (t : ℕ) (A : Gather) (K : Turned J pal hints t A) where
   shown : Shown J pal (J .S) (J .C)
@@ -66,7 +68,7 @@ module _ (J : Job) (pal : List Float) (hints : List ℕ) (t : ℕ) (A : Gather) 
     turn-part = shown-part J pal (J .S) (J .C) shown (b .index) below
 
     pub turn-base : b .index * J .C ≤ 256
-    turn-base = omega (arith, row-in J pal shown (b .index) below)
+    turn-base = omega (arith, row-256 J pal (J .S) (J .C) shown (b .index) below)
 
     module _ (sub : List Float) (tile : List Float) (part : List ℕ) (S : sub ≡ subOf pal (J .C) (J .C) (b .index)) (E : tile ≡ tileOf J t) (C : part ≡ countsOf J t) where
       pub turn-gathering : Gathering sub (tileWith tile part) (b .index * J .C) A
@@ -74,7 +76,7 @@ module _ (J : Job) (pal : List Float) (hints : List ℕ) (t : ℕ) (A : Gather) 
           subst⁻¹ (λ (x : List Float). Gathering x (tileWith tile part) (b .index * J .C) A) S
           (subst⁻¹ (λ (x : List Float). Gathering (subOf pal (J .C) (J .C) (b .index)) (tileWith x part) (b .index * J .C) A) E
           (subst⁻¹ (λ (x : List ℕ). Gathering (subOf pal (J .C) (J .C) (b .index)) (tileWith (tileOf J t) x) (b .index * J .C) A) C
-          (gathering J pal shown t (K .paired .tile) A (K .counted) (b .index) below)))
+          (gathering J pal shown t (K .paired .tile) A (K .gathered) (b .index) below)))
 
       pub turn-done : (r : Bool) → r ≡ isEmpty J t → r ≡ false → (X : Gather) (after : List ℕ) → X ≡ tileGather sub (tileWith tile part) (J .weight) (b .index * J .C) A (length part) → after ≡ set hints t (b .index) → Stepped X after
       unfolding gatherStep
@@ -102,17 +104,17 @@ module _ (J : Job) (pal : List Float) (S : Shown J pal (J .S) (J .C)) (first : L
     pub going-length : length hints ≡ length first
     going-length = ap length (G .left) ∙ length-hints J pal (J .S) (J .C) first t
 
-    going-counted : Counted A (256 * t)
-    going-counted = subst⁻¹ (λ (X : Gather). Counted X (256 * t)) (G .sums) (counted J pal S t (G .within))
+    going-gathered : Gathered A (256 * t)
+    going-gathered = subst⁻¹ (λ (X : Gather). Gathered X (256 * t)) (G .sums) (gathered J pal S t (G .within))
 
     -- the lists are as long as those before the walk
     pub going-whole : (B : Gather) → B ≡ nothing → (length (A .sums) ≡ length (B .sums)) × (length (A .cnts) ≡ length (B .cnts))
     going-whole B e =
-        let H : Held B = subst⁻¹ Held e (nothing-counted .held) in
-        (going-counted .held .whole ∙ sym (H .whole), going-counted .held .all ∙ sym (H .all))
+        let H : Held B = subst⁻¹ Held e (nothing-gathered .held) in
+        (going-gathered .held .whole ∙ sym (H .whole), going-gathered .held .all ∙ sym (H .all))
 
     pub going-turn : t < J .T → Turned J pal hints t A
-    going-turn l = record { paired = record { shown = S; tile = l; each = going-length ∙ L }; counted = going-counted }
+    going-turn l = record { paired = record { shown = S; tile = l; each = going-length ∙ L }; gathered = going-gathered }
 
     pub going-more : t < J .T → (after : List ℕ) (X : Gather) → X ≡ gatherStep J pal (winner J pal (J .S) (J .C) t) t A → after ≡ hintStep J pal (J .S) (J .C) t hints → Going J pal first after X (t + 1)
     unfolding gatherOf

@@ -1,30 +1,20 @@
--- What gathering asks of the sums and the counts, and what it keeps of them. Definitions only. Assumes nothing.
+-- What gathering asks of the sums and the counts. Definitions only. Assumes nothing.
 use Prim.Native.Nat.{ℕ, _+_, _*_, _/_, _≤_, _<_}
 use mathlib.Core.Path.{_≡_}
 use mathlib.Core.List.{List}
 use lib.ListN.{getD, length}
 use lib.Ieee.{Float}
 use Rattle.lists.specs.Every.{sum}
-use Rattle.color.specs.Color.{colourAt, Sized, Bounded}
+use Rattle.color.specs.Color.{Bounded}
 use Rattle.job.specs.Job.{Job}
 use Rattle.palette.specs.Palette.{Tile}
 use Rattle.palette_tile.specs.Tiles.{Paired}
 use Rattle.quantizer.specs.Refining.{Gather}
+use Rattle.quantizer.specs.Refines.{Held, Gathered}
 
 -- the pixels of a tile
 abbrev pub pixels : Tile → ℕ → ℕ
 pixels X k = sum (λ i. getD (X .counts) i 0) k
-
--- both lists are whole, and each sum is at most 2 for each pixel counted
-pub record Held (A : Gather) : Type 0 where
-  pub whole : length (A .sums) ≡ 768
-  pub all : length (A .cnts) ≡ 256
-  pub sized : (p : ℕ) → p < 256 → Sized (colourAt (A .sums) p) (2 * getD (A .cnts) p 0)
-
--- and no count is above m
-pub record Counted (A : Gather) (m : ℕ) : Type 0 where
-  pub held : Held A
-  pub few : (p : ℕ) → getD (A .cnts) p 0 ≤ m
 
 -- of m pixels more at p
 pub record Adding (A : Gather) (p m : ℕ) : Type 0 where
@@ -46,4 +36,4 @@ pub record Gathering (s : List Float) (X : Tile) (base : ℕ) (A : Gather) : Typ
 -- of tile t of a job, where each tile before it had 256 pixels at most
 pub record Turned (J : Job) (pal : List Float) (hints : List ℕ) (t : ℕ) (A : Gather) : Type 0 where
   pub paired : Paired J pal (J .S) (J .C) hints t
-  pub counted : Counted A (256 * t)
+  pub gathered : Gathered A (256 * t)

@@ -1,2 +1,2 @@
 pub mod Gathers
-pub mod Held
+pub mod Through

@@ -3,7 +3,7 @@ use Prim.Native.Nat.{ℕ, _+_, _*_, _≤_, _<_}
 use mathlib.Core.Path.{_≡_, refl, sym, ap, subst⁻¹, _∙_}
 use mathlib.Core.Bool.{Bool, cond}
 use mathlib.Core.List.{List}
-use native.Mathlib.Nat.{le-antisymm}
+use native.Mathlib.Nat.{le-refl, le-antisymm}
 use native.Mathlib.Numerals.{add-one}
 use native.Mathlib.Omega.{arith}
 use lib.ListN.{getD, length}
@@ -14,10 +14,9 @@ use Rattle.color.specs.Color.{colourAt, putAt, overOf}
 use Rattle.job.specs.Job.{Job}
 use Rattle.palette_tile.specs.Tiles.{Shown}
 use Rattle.quantizer.specs.Refining.{Gather, gatherOf, meanStep, meansOf, refined}
-use Rattle.quantizer_gather.specs.Gathers.{Counted}
-use Rattle.quantizer_gather.specs.Held.{gathered}
+use Rattle.quantizer.specs.Lengths.{length-means}
+use Rattle.quantizer.specs.Refines.{Gathered, gathered}
 use Rattle.quantizer_refine.specs.Means.{Meaning}
-use Rattle.quantizer_refine.specs.Refines.{length-means}
 
 -- ---- one colour
 module _ (A : Gather) (p : ℕ) (pal : List Float) where
@@ -55,8 +54,8 @@ module _ (pal : List Float) (A : Gather) where
 module _ (J : Job) (pal : List Float) (S : Shown J pal (J .S) (J .C)) (A : Gather) (e : A ≡ gatherOf J pal (J .T)) where
   pub pass-meaning : Meaning pal (J .S * J .C) A
   pass-meaning =
-      let K : Counted A 8388608 = subst⁻¹ (λ (X : Gather). Counted X 8388608) e (gathered J pal S) in
-      record { room = omega (arith, S .room); size = S .ready .sizes .cells; whole = K .held .whole; all = K .held .all; few = λ p. omega (arith, K .few p) }
+      let K : Gathered A (256 * J .T) = subst⁻¹ (λ (X : Gather). Gathered X (256 * J .T)) e (gathered J pal S (J .T) (le-refl (J .T))) in
+      record { room = omega (arith, S .room); size = S .ready .sizes .cells; whole = K .held .whole; all = K .held .all; few = λ p. omega (arith, K .few p, S .ready .sizes .tiles) }
 
   pub pass-done : (after : List Float) → after ≡ meansOf pal A (J .S * J .C) → after ≡ refined J pal
   unfolding refined

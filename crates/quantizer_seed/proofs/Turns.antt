@@ -18,10 +18,12 @@ use Rattle.palette_tile.specs.Present.{winner-below}
 use Rattle.palette_tile.specs.Hints.{length-hints, hint-kept, hint-written, hints-none, hints-more}
 use Rattle.quantizer.specs.Sums.{bump, zeros, sumsAt, greatest}
 use Rattle.quantizer.specs.Seeding.{distanceStep, distancesOf, worstOf}
-use Rattle.quantizer_sums.specs.Lists.{length-zeros}
-use Rattle.quantizer_sums.specs.Goods.{AllGood, sums-no-nan}
+use Rattle.quantizer.specs.Lists.{length-zeros}
+use Rattle.quantizer.specs.Goods.{AllGood, sums-no-nan}
+use Rattle.quantizer.specs.Lengths.{length-distances}
+use Rattle.quantizer.specs.Indexes.{shown-subs}
+use Rattle.quantizer.specs.NoNans.{distances-good}
 use Rattle.quantizer_seed.specs.Seeds.{Turned}
-use Rattle.quantizer_seed.specs.Distances.{length-distances, few, distances-good}
 
 module _ (J : Job) (pal : List Float) (n : ℕ) (hints : List ℕ) (t : ℕ) (d : List Float) (K : Turned J pal n hints t d) where
   abbrev Stepped : List Float → List ℕ → Type 0
@@ -50,7 +52,7 @@ module _ (J : Job) (pal : List Float) (n : ℕ) (hints : List ℕ) (t : ℕ) (d 
       module _ (b : Near) (B : b ≡ fitAt J pal n 1 t) where
         pub turn-below : b .index < length d
         turn-below =
-            omega (arith, subst⁻¹ (λ (x : Near). x .index < n) B (winner-below J pal n 1 (K .paired .shown) t), few J pal n (K .paired .shown), K .whole)
+            omega (arith, subst⁻¹ (λ (x : Near). x .index < n) B (winner-below J pal n 1 (K .paired .shown) t), shown-subs J pal n 1 (K .paired .shown), K .whole)
 
         pub turn-done : (after : List ℕ) → after ≡ set hints t (b .index) → Stepped (bump d (b .index) (b .dist)) after
         unfolding distanceStep
@@ -105,7 +107,7 @@ module _ (J : Job) (pal : List Float) (n : ℕ) (S : Shown J pal n 1) (d : List 
   sums-whole = ap length e ∙ length-distances J pal n (J .T)
 
   pub sums-room : n ≤ length d
-  sums-room = omega (arith, few J pal n S, sums-whole)
+  sums-room = omega (arith, shown-subs J pal n 1 S, sums-whole)
 
   -- the code's part from 0 on
   part-is : take (n - 0) d ≡ sumsAt d 0 n

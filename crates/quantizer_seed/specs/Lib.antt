@@ -1,3 +1,1 @@
 pub mod Seeds
-pub mod Distances
-pub mod Seeded

@@ -1,1 +1,0 @@
-// Sums that a stage keeps, by subpalette or by colour: laws only, in specs/. The stages stand in the crates above.
