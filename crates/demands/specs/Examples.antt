@@ -1,0 +1,156 @@
+-- The examples marked P, as one table. Assumes nothing.
+use Prim.Native.Nat.{ℕ, _+_, _*_, _/_, _≤_, _<_}
+use mathlib.Core.Path.{_≡_, refl, sym, ap, subst⁻¹, _∙_}
+use mathlib.Core.Bool.{false}
+use mathlib.Core.List.{List, [], _∷_}
+use lib.ListN.{length, getD}
+use lib.Dec.{lit≤, lit<}
+use lib.Ieee.{Float, inf, binary32, ofBits, neg, le, lt, eq}
+use Rattle.lists.specs.Every.{every, sum}
+use Rattle.lists.specs.Count.{count}
+use Rattle.lists.specs.Firsts.{firsts, hits}
+use Rattle.lists.specs.Hits.{length-firsts}
+use Rattle.prng.specs.Shuffle.{deck, shuffleOf}
+use Rattle.prng.specs.Shuffled.{shuffle-one}
+use Rattle.cycle.specs.Cycle.{drawAt}
+use Rattle.cycle.specs.Tenth.{tenth}
+use Rattle.cycle.specs.Examples.{tenths, twenty-of-ten, forty-four-of-twenty-five}
+use Rattle.stats.specs.Stats.{valueAt, leastTwo, argmaxOf, argminOf}
+use Rattle.stats.specs.Examples.{argmax-of-1-3-3, argmin-of-2-1-1, smallest-two-of-2-1-1, smallest-two-of-5}
+use Rattle.stats.specs.declared.Near.{Near}
+use Rattle.job.specs.Job.{Job, job}
+use Rattle.job.specs.Rules.{answer}
+use Rattle.job.specs.Checks.{among, within, weightFits, tileTest, tileFits, tilesFit, countTest, countFits, partFits, tileCountsFit, countsFit, firstNot, componentFits, firstBad, plainAnswer}
+use Rattle.palette.specs.Example.{middle-first}
+use Rattle.palette_edit.specs.Edits.{blend}
+use Rattle.palette_edit.specs.Example.{half-way}
+use Rattle.palette_tile.specs.Tiles.{fitAt}
+use Rattle.assign.specs.Assign.{Held, held, roomFor, assignAnswer, assignDef}
+use Rattle.quantizer.specs.Course.{Course}
+use Rattle.stages.specs.Calls.{Memory}
+use Rattle.stages.specs.History.{Run}
+use Rattle.calls.specs.Follow.{run-samples, run-end}
+use Rattle.demands.specs.Second.{assign-chooses}
+
+-- ---- numbers as f32
+abbrev nought : Float
+nought = ofBits binary32 0
+
+abbrev quarter : Float
+quarter = ofBits binary32 0x3e800000
+
+abbrev half : Float
+half = ofBits binary32 0x3f000000
+
+abbrev one : Float
+one = ofBits binary32 0x3f800000
+
+abbrev two : Float
+two = ofBits binary32 0x40000000
+
+abbrev three : Float
+three = ofBits binary32 0x40400000
+
+abbrev five : Float
+five = ofBits binary32 0x40a00000
+
+-- ---- the sheet of the paper: (0.25, 0, 0) four times; an empty tile; (0.5, 0, 0) twice; (1, 0, 0) once
+abbrev pub sheetJob : Job
+sheetJob = job 2 1 4 one (0 ∷ 1 ∷ 1 ∷ 0 ∷ 1 ∷ 1 ∷ 2 ∷ 1 ∷ []) (quarter ∷ nought ∷ nought ∷ half ∷ nought ∷ nought ∷ one ∷ nought ∷ nought ∷ []) (4 ∷ 2 ∷ 1 ∷ [])
+
+-- subpalettes (0, 0, 0) and (1, 0, 0)
+abbrev pub sheetPalette : List Float
+sheetPalette = nought ∷ nought ∷ nought ∷ one ∷ nought ∷ nought ∷ []
+
+-- a run of n samples past its last draw, from any seed and in any division into calls
+pub record Past (s c n : ℕ) (K : Course) (m : Memory) : Type 0 where
+  pub subs : K .job .S ≡ s
+  pub colours : K .job .C ≡ c
+  pub samples : K .n ≡ n
+  pub stage : 5 ≤ getD (m .words) 1 0
+
+-- 20 draws of 10 samples, each twice
+abbrev pub Each-twice : List ℕ → Type 0
+Each-twice ds = (length ds ≡ 20) × ((i : ℕ) → i < 10 → count i ds ≡ 2)
+
+-- 44 draws of 25 samples, 19 of them twice and 6 once
+abbrev pub Most-twice : List ℕ → Type 0
+Most-twice ds = (length ds ≡ 44) × (hits (λ i. count i ds) 2 25 ≡ 19) × (hits (λ i. count i ds) 1 25 ≡ 6)
+
+-- ---- the table
+pub record Examples : Type 0 where
+  pub tenth-of-9 : tenth 9 ≡ 0
+  pub tenth-of-10 : tenth 10 ≡ 1
+  pub tenth-of-19 : tenth 19 ≡ 1
+  pub tenth-of-20 : tenth 20 ≡ 2
+  pub draws-20 : (size : ℕ) → size ≤ 256 → (K : Course) (seed : ℕ) {m : Memory} {ds : List ℕ} → Run size K seed m ds → Past 1 1 10 K m → Each-twice ds
+  pub draws-44 : (size : ℕ) → size ≤ 256 → (K : Course) (seed : ℕ) {m : Memory} {ds : List ℕ} → Run size K seed m ds → Past 2 2 25 K m → Most-twice ds
+  pub argmax-takes-last : argmaxOf (valueAt (one ∷ three ∷ three ∷ [])) 3 ≡ 2
+  pub argmin-takes-first : argminOf (valueAt (two ∷ one ∷ one ∷ [])) 3 ≡ 1
+  pub two-of-2-1-1 : leastTwo (valueAt (two ∷ one ∷ one ∷ [])) 3 ≡ record { index = 1; dist = one; second = one }
+  pub two-of-5 : leastTwo (valueAt (five ∷ [])) 1 ≡ record { index = 0; dist = five; second = inf false }
+  pub tile-2 : fitAt sheetJob sheetPalette 2 1 2 ≡ record { index = 0; dist = half }
+  -- so from hints 0, 1 and 99, and from any other
+  pub tile-2-from : (a c hint d : ℕ) (w x y z : ℕ) → getD (assignDef 64 sheetJob sheetPalette (held (a ∷ c ∷ hint ∷ d ∷ []) (w ∷ x ∷ y ∷ z ∷ [])) .after .out) 2 0 ≡ 0
+  pub nudge : blend half nought one ≡ half
+  pub shuffle-of-one : (s x : ℕ) → shuffleOf s (x ∷ []) ≡ deck (x ∷ []) s
+
+-- ---- the runs
+-- the draws of a run past its last, by the cycle
+all-draws : (size : ℕ) → size ≤ 256 → (K : Course) (seed s c n : ℕ) {m : Memory} {ds : List ℕ} → Run size K seed m ds → Past s c n K m → ds ≡ firsts (drawAt n seed) ((s + c + 18) * (n / 10))
+all-draws size small K seed s c n r P =
+    run-samples size K seed r
+    ∙ ap (firsts (drawAt (K .n) seed)) (run-end size small K seed r (P .stage))
+    ∙ ap (λ (k : ℕ). firsts (drawAt (K .n) seed) ((k + K .job .C + 18) * (K .n / 10))) (P .subs)
+    ∙ ap (λ (k : ℕ). firsts (drawAt (K .n) seed) ((s + k + 18) * (K .n / 10))) (P .colours)
+    ∙ ap (λ (k : ℕ). firsts (drawAt k seed) ((s + c + 18) * (k / 10))) (P .samples)
+
+module _ (size : ℕ) (small : size ≤ 256) (K : Course) (seed : ℕ) {m : Memory} {ds : List ℕ} (r : Run size K seed m ds) where
+  run-of-20 : Past 1 1 10 K m → Each-twice ds
+  run-of-20 P =
+      let e = all-draws size small K seed 1 1 10 r P in
+      (ap length e ∙ length-firsts (drawAt 10 seed) 20, λ i h. ap (count i) e ∙ twenty-of-ten seed i h)
+
+  run-of-44 : Past 2 2 25 K m → Most-twice ds
+  run-of-44 P =
+      let e = all-draws size small K seed 2 2 25 r P in
+      let x = forty-four-of-twenty-five seed in (
+        ap length e ∙ length-firsts (drawAt 25 seed) 44,
+        subst⁻¹ (λ (xs : List ℕ). hits (λ i. count i xs) 2 25 ≡ 19) e (x .0),
+        subst⁻¹ (λ (xs : List ℕ). hits (λ i. count i xs) 1 25 ≡ 6) e (x .1),
+      )
+
+-- ---- the sheet
+middle : fitAt sheetJob sheetPalette 2 1 2 ≡ record { index = 0; dist = half }
+unfolding fitAt
+middle = middle-first
+
+module _ (a c hint d w x y z : ℕ) where
+  abbrev lent : Held
+  lent = held (a ∷ c ∷ hint ∷ d ∷ []) (w ∷ x ∷ y ∷ z ∷ [])
+
+  accepted : assignAnswer 64 sheetJob sheetPalette lent ≡ 0
+  unfolding assignAnswer plainAnswer answer roomFor among weightFits tilesFit tileFits tileTest countsFit tileCountsFit partFits countFits countTest firstBad firstNot componentFits within every sum ofBits neg le lt eq
+  accepted = refl
+
+  from-any : getD (assignDef 64 sheetJob sheetPalette lent .after .out) 2 0 ≡ 0
+  from-any = assign-chooses 64 (lit≤ tt) sheetJob sheetPalette lent accepted 2 (lit< tt) refl .1 ∙ ap (λ (b : Near). b .index) middle
+
+pub examples : Examples
+examples =
+    record {
+      tenth-of-9 = tenths .0;
+      tenth-of-10 = tenths .1;
+      tenth-of-19 = tenths .2;
+      tenth-of-20 = tenths .3;
+      draws-20 = run-of-20;
+      draws-44 = run-of-44;
+      argmax-takes-last = argmax-of-1-3-3;
+      argmin-takes-first = argmin-of-2-1-1;
+      two-of-2-1-1 = smallest-two-of-2-1-1;
+      two-of-5 = smallest-two-of-5;
+      tile-2 = middle;
+      tile-2-from = from-any;
+      nudge = half-way;
+      shuffle-of-one = shuffle-one;
+    }

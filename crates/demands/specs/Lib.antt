@@ -1,0 +1,5 @@
+pub mod Calls
+pub mod First
+pub mod Second
+pub mod Third
+pub mod Examples

@@ -1,0 +1,145 @@
+-- Results are proved against a definition: a tile that is not empty gets the subpalette of least rounded summed distance, the lowest index on a tie,
+-- whatever hint it starts from. Assumes nothing.
+use Prim.Native.Nat.{ℕ, _≤_, _<_}
+use mathlib.Core.Path.{_≡_, refl, sym, ap, _∙_}
+use mathlib.Core.Bool.{Bool, true, false, not, cond}
+use mathlib.Core.List.{List, [], _∷_, _++_}
+use native.Mathlib.Nat.{le-of-eq}
+use lib.Dec.{eqb}
+use lib.ListN.{length, getD, set}
+use lib.Ieee.{Float, binary32}
+use borrow.Author.Tests.{eqb-true, eq-eqb}
+use Rattle.lists.specs.Tests.{and-l, and-r}
+use Rattle.ieee.specs.Keys.{Good}
+use Rattle.stats.specs.declared.Near.{Near}
+use Rattle.stats.specs.declared.Two.{Two}
+use Rattle.stats.specs.Stats.{nextOf, leastTwo}
+use Rattle.stats.specs.Seconds.{next-below, next-other, second-at}
+use Rattle.job.specs.Job.{Job, isEmpty}
+use Rattle.job.specs.Rules.{rule, answer, numbered}
+use Rattle.job.specs.Passing.{goes, fails, both-pass}
+use Rattle.job.specs.Checks.{plainAnswer}
+use Rattle.job.specs.Ready.{Plain, plain-ready}
+use Rattle.choice.specs.Choice.{Least}
+use Rattle.choice.specs.Scan.{least-has}
+use Rattle.choice.specs.Two.{firstOf, two-first}
+use Rattle.palette.specs.Palette.{distAt}
+use Rattle.palette.specs.Sums.{dist-good}
+use Rattle.palette_tile.specs.Tiles.{tileAt, presentIn, fitAt, winner, twoAt, Shown}
+use Rattle.palette_tile.specs.Present.{shown-present, tile-counted}
+use Rattle.fits.specs.Fits.{SingleOutcome, singleOutcome, PairOutcome, pairOutcome, oneRules, oneAnswer, singleAnswer, singleDef, pairDef}
+use Rattle.fits.specs.declared.Single.{Single}
+use Rattle.fits.specs.declared.Single.the-variants as single
+use Rattle.fits.specs.declared.Pair.{Pair}
+use Rattle.fits.specs.declared.Pair.the-variants as pair
+use Rattle.fits.specs.Shown.{shown, one-tile, one-plain}
+use Rattle.fits.specs.Empty.{empty-one, empty-many}
+use Rattle.assign.specs.Assign.{Held, held, Outcome, outcome, roomFor, assignAnswer, assignDef, assigned, subpaletteOf, subpalettes, hintOf}
+use Rattle.assign.specs.Reading.{subpalette-at, hint-at}
+
+-- the distance of tile t to each of the n subpalettes of `have` colours that are present: nearest distance times count, summed colour by colour
+abbrev pub distances : Job → List Float → ℕ → ℕ → ℕ → ℕ → Float
+distances J palette n have t = distAt (presentIn J palette n have) (tileAt J t) (J .weight)
+
+-- ---- the choice, in every call and at every moment of a run
+module _ (J : Job) (palette : List Float) (n have : ℕ) (P : Shown J palette n have) (t : ℕ) (l : t < J .T) where
+  good : (i : ℕ) → i < n → Good binary32 (distances J palette n have t i)
+  good = dist-good (presentIn J palette n have) (tileAt J t) (J .weight) (shown-present J palette n have P) (tile-counted J palette n have P t l) (P .ready .weight)
+
+  -- no subpalette is less far, and every one before it is farther
+  pub choice : Least (distances J palette n have t) n (fitAt J palette n have t)
+  unfolding fitAt
+  choice = least-has (distances J palette n have t) n (P .subs) good
+
+  -- the first of the best two is that choice, and the second is the distance of another subpalette
+  pub first-of-two : firstOf (twoAt J palette n have t) ≡ fitAt J palette n have t
+  unfolding twoAt fitAt
+  first-of-two = two-first (distances J palette n have t) n
+
+  pub second-of-two : 2 ≤ n
+      → (other : ℕ) × (other < n) × (other ≡ twoAt J palette n have t .index → ⊥) × (twoAt J palette n have t .second ≡ distances J palette n have t other)
+  unfolding twoAt
+  second-of-two h =
+      let d = distances J palette n have t in
+      (nextOf d n, next-below d n h good, next-other d n h good, second-at d n h good)
+
+-- ---- the single fit and best_two
+module _ (size : ℕ) (small : size ≤ 256) (J : Job) (palette : List Float) where
+  -- a tile that passed is answered with its choice, which becomes its hint
+  pub single-chooses : (hints : List ℕ) → singleAnswer size J palette (length hints) ≡ 0
+      → Least (distances J palette (J .S) (J .C) 0) (J .S) (fitAt J palette (J .S) (J .C) 0)
+      × (singleDef size J palette hints ≡ singleOutcome (single.Best (fitAt J palette (J .S) (J .C) 0)) (set hints 0 (winner J palette (J .S) (J .C) 0)))
+  single-chooses hints z =
+      let first : oneAnswer size J palette (length hints) ≡ 0 = unfold singleAnswer oneAnswer numbered in both-pass (oneRules size J palette (length hints)) (rule 15 (not (isEmpty J 0)) ∷ []) refl z .0 in (
+        choice J palette (J .S) (J .C) (shown size J palette _ small (one-plain size J palette (length hints) first)) 0 (le-of-eq (sym (one-tile size J palette (length hints) first))),
+        (unfold singleDef in rw (eq-eqb (singleAnswer size J palette (length hints)) 0 z)),
+      )
+
+  -- whatever the hint: any two give one answer
+  pub single-any-hint : (h k : List ℕ) → length h ≡ length k → singleDef size J palette h .answer ≡ singleDef size J palette k .answer
+  single-any-hint h k e = told h ∙ ap given e ∙ sym (told k)
+    where
+      given : ℕ → Single
+      given n = cond (eqb (singleAnswer size J palette n) 0) (single.Best (fitAt J palette (J .S) (J .C) 0)) (single.Refused (singleAnswer size J palette n))
+
+      by : (t : Bool) (r s : Single) (x y : List ℕ) → cond t (singleOutcome r x) (singleOutcome s y) .answer ≡ cond t r s
+      by true r s x y = refl
+      by false r s x y = refl
+
+      told : (x : List ℕ) → singleDef size J palette x .answer ≡ given (length x)
+      told x = unfold singleDef in by (eqb (singleAnswer size J palette (length x)) 0) _ _ _ _
+
+  pub pair-any-hint : (h k : List ℕ) → length h ≡ length k → pairDef size J palette h .answer ≡ pairDef size J palette k .answer
+  pair-any-hint h k e = told h ∙ ap given e ∙ sym (told k)
+    where
+      given : ℕ → Pair
+      given n = cond (eqb (oneAnswer size J palette n) 0) (pair.Best (twoAt J palette (J .S) (J .C) 0)) (pair.Refused (oneAnswer size J palette n))
+
+      by : (t : Bool) (r s : Pair) (x y : List ℕ) → cond t (pairOutcome r x) (pairOutcome s y) .answer ≡ cond t r s
+      by true r s x y = refl
+      by false r s x y = refl
+
+      told : (x : List ℕ) → pairDef size J palette x .answer ≡ given (length x)
+      told x = unfold pairDef in by (eqb (oneAnswer size J palette (length x)) 0) _ _ _ _
+
+  -- an empty tile, where all else passed: 15 (best_two: `empty-one` and `empty-many` of fits)
+  pub single-empty : (hints : List ℕ) → oneAnswer size J palette (length hints) ≡ 0 → isEmpty J 0 ≡ true → singleAnswer size J palette (length hints) ≡ 15
+  unfolding singleAnswer oneAnswer numbered
+  single-empty hints z e =
+      sym (goes (oneRules size J palette (length hints)) (rule 15 (not (isEmpty J 0)) ∷ []) (answer (oneRules size J palette (length hints))) 15 refl refl z (fails 15 (not (isEmpty J 0)) [] (rw e)))
+
+-- ---- assign
+module _ (size : ℕ) (small : size ≤ 256) (J : Job) (palette : List Float) (h : Held) (z : assignAnswer size J palette h ≡ 0) where
+  plain : Plain size J palette (roomFor (J .T) (length (h .hints)) (length (h .out)))
+  unfolding assignAnswer
+  plain = plain-ready size J palette (roomFor (J .T) (length (h .hints)) (length (h .out))) z
+
+  done : assignDef size J palette h ≡ outcome 0 (assigned J palette h (J .T))
+  unfolding assignDef
+  done = rw (eq-eqb (assignAnswer size J palette h) 0 z)
+
+  room : (length (h .hints) ≡ J .T) × (length (h .out) ≡ J .T)
+  unfolding roomFor
+  room =
+      let r = plain .roomy in
+      (eqb-true _ _ (and-l (eqb (length (h .hints)) (J .T)) (eqb (length (h .out)) (J .T)) r), eqb-true _ _ (and-r (eqb (length (h .hints)) (J .T)) (eqb (length (h .out)) (J .T)) r))
+
+  module _ (t : ℕ) (l : t < J .T) where
+    out-at : getD (assignDef size J palette h .after .out) t 0 ≡ subpaletteOf J palette t
+    out-at = ap (λ (x : Outcome). getD (x .after .out) t 0) done ∙ (unfold assigned in subpalette-at J palette (h .out) (J .T) t (le-of-eq (sym (room .1))) l)
+
+    hint-left : getD (assignDef size J palette h .after .hints) t 0 ≡ hintOf J palette (h .hints) t
+    hint-left = ap (λ (x : Outcome). getD (x .after .hints) t 0) done ∙ (unfold assigned in hint-at J palette (h .hints) (J .T) t (le-of-eq (sym (room .0))) l)
+
+    -- each tile that is not empty gets its choice, whatever its hint was, and it becomes the hint
+    pub assign-chooses : isEmpty J t ≡ false
+        → Least (distances J palette (J .S) (J .C) t) (J .S) (fitAt J palette (J .S) (J .C) t)
+        × (getD (assignDef size J palette h .after .out) t 0 ≡ winner J palette (J .S) (J .C) t)
+        × (getD (assignDef size J palette h .after .hints) t 0 ≡ winner J palette (J .S) (J .C) t)
+    unfolding subpaletteOf
+    assign-chooses e = (choice J palette (J .S) (J .C) (shown size J palette _ small plain) t l, out-at ∙ rw e, hint-left ∙ rw e)
+
+    -- an empty one gets 0, and keeps its hint
+    pub assign-empty : isEmpty J t ≡ true → (getD (assignDef size J palette h .after .out) t 0 ≡ 0) × (getD (assignDef size J palette h .after .hints) t 0 ≡ getD (h .hints) t 0)
+    unfolding subpaletteOf
+    assign-empty e = (out-at ∙ rw e, hint-left ∙ rw e)

@@ -1,0 +1,56 @@
+-- A job is started once and advanced in calls of any size. After t draws each sample was drawn t / n times, rounded down or up, and none waits past
+-- 2 · n - 1 draws; a finished run made (S + C + 18) · b draws, b being n / 10 rounded down. Assumes nothing.
+use Prim.Native.Nat.{ℕ, _+_, _-_, _*_, _/_, _≤_, _<_}
+use mathlib.Core.Path.{_≡_}
+use mathlib.Core.Bool.{true}
+use mathlib.Core.List.{List}
+use lib.ListN.{length, getD}
+use Rattle.lists.specs.Count.{count}
+use Rattle.cycle.specs.Even.{Even}
+use Rattle.cycle.specs.Tenth.{tenth}
+use Rattle.cycle.specs.Tenths.{tenth-is}
+use Rattle.quantizer.specs.Course.{Course, b}
+use Rattle.stages.specs.State.{draws}
+use Rattle.stages.specs.Stages.{advance}
+use Rattle.stages.specs.Calls.{Memory, stateOf, outcome, advanceAnswer, advanceCall}
+use Rattle.stages.specs.History.{Run}
+use Rattle.calls.specs.Accepted.{Accepted}
+use Rattle.calls.specs.Next.{advance-split, call-draws}
+use Rattle.calls.specs.Follow.{run-made, run-even, run-waits, run-accepted, run-end}
+
+-- ds are all samples that the calls since the start drew, in their order, and m is the memory that the last call left
+pub record Drawn (size : ℕ) (K : Course) (m : Memory) (ds : List ℕ) : Type 0 where
+  -- as many as word 4 says
+  pub made : length ds ≡ getD (m .words) 4 0
+  pub even : (i : ℕ) → i < K .n → Even (K .n) (length ds) (count i ds)
+  -- of any 2 · n - 1 draws in a row, from draw k on, one is of sample i
+  pub waits : (i k : ℕ) → i < K .n → k + (2 * K .n - 1) ≤ length ds → (j : ℕ) × (k ≤ j) × (j < k + (2 * K .n - 1)) × (getD ds j 0 ≡ i)
+  -- past the last draw, at stages 5, 6 and 7
+  pub finished : 5 ≤ getD (m .words) 1 0 → length ds ≡ (K .job .S + K .job .C + 18) * b K
+  -- the next call accepts what the last one left
+  pub resumes : Accepted size K m
+
+-- whatever the division into calls, so after any t = length ds draws
+pub third-demand : (size : ℕ) → size ≤ 256 → (K : Course) (seed : ℕ) {m : Memory} {ds : List ℕ} → Run size K seed m ds → Drawn size K m ds
+third-demand size small K seed r =
+    record {
+      made = run-made size K seed r;
+      even = run-even size K seed r;
+      waits = run-waits size K seed r;
+      finished = run-end size small K seed r;
+      resumes = run-accepted size small K seed r;
+    }
+
+-- to advance by a and then by c, with no stop between, is to advance by a + c
+pub any-size : (size : ℕ) → size ≤ 256 → (K : Course) (m : Memory) (a c : ℕ) → advanceAnswer size K m ≡ 0 → draws (advance K a (stateOf m) .stage) ≡ true
+    → advanceCall size K m (a + c)
+    ≡ outcome 0 (advanceCall size K m a .drew + advanceCall size K (advanceCall size K m a .after) c .drew) (advanceCall size K (advanceCall size K m a .after) c .after)
+any-size = advance-split
+
+-- the draws that a call reports are those that its record has more, in refused calls too
+pub reported : (size : ℕ) → size ≤ 256 → (K : Course) (m : Memory) (a : ℕ) → getD (advanceCall size K m a .after .words) 4 0 ≡ getD (m .words) 4 0 + advanceCall size K m a .drew
+reported = call-draws
+
+-- b is the Rust's f32 tenth, cut to a whole number
+pub tenths : (n : ℕ) → n ≤ 16384 → tenth n ≡ n / 10
+tenths = tenth-is
