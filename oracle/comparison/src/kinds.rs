@@ -5,6 +5,7 @@ mod groups;
 mod leaves;
 mod own;
 mod palettes;
+mod runs;
 mod sheets;
 mod training;
 
@@ -22,8 +23,16 @@ pub struct Kind {
     pub compare: fn(&mut Rng, u64, &mut Tally),
 }
 
-pub const KINDS: [&[Kind]; 7] =
-    [own::KINDS, leaves::KINDS, palettes::KINDS, training::KINDS, groups::KINDS, calls::KINDS, sheets::KINDS];
+pub const KINDS: [&[Kind]; 8] = [
+    own::KINDS,
+    leaves::KINDS,
+    palettes::KINDS,
+    training::KINDS,
+    groups::KINDS,
+    calls::KINDS,
+    runs::KINDS,
+    sheets::KINDS,
+];
 
 const fn kind(name: &'static str, cases: u64, compare: fn(&mut Rng, u64, &mut Tally)) -> Kind {
     Kind { name, cases, whole: false, compare }

@@ -55,3 +55,7 @@ pub fn words(values: &[u32]) -> Lent<u32> {
 pub fn bytes(values: &[u8]) -> Lent<u8> {
     Lent::new(values, 0xa5)
 }
+
+pub fn long_words(values: &[u64]) -> Lent<u64> {
+    Lent::new(values, 0xa5a5_a5a5_a5a5_a5a5)
+}

@@ -4,11 +4,13 @@
 mod calls;
 mod leaves;
 mod palettes;
+mod runs;
 mod sheets;
 mod training;
 
 pub use calls::*;
 pub use leaves::*;
 pub use palettes::*;
+pub use runs::*;
 pub use sheets::*;
 pub use training::*;
