@@ -1,0 +1,46 @@
+-- `put_load` meets its contract: two fields and the line's end. Assumes nothing.
+use native.Mathlib.Omega.{arith}
+use Rattle.fit_lines.specs.Lines.{loadLine, loadWord, space}
+use Rattle.fit_lines.specs.Lengths.{field-most}
+use Rattle.fit_lines.specs.Stores.{both-stored}
+use borrow.Author.Needs.{needs}
+use Rattle.fit_lines.proofs.put_load.Statement.{statement}
+use Rattle.fit_lines.proofs.put_load.Tie as tie
+
+slice-aggregate-put-field : tie.Need-slice-aggregate-put-field
+slice-aggregate-put-field c = search needs
+
+put-field-requires : tie.Need-put-field-requires
+put-field-requires c κs = search needs
+
+slice-aggregate-put-field-2 : tie.Need-slice-aggregate-put-field-2
+slice-aggregate-put-field-2 c = search needs
+
+put-field-requires-2 : tie.Need-put-field-requires-2
+put-field-requires-2 c κs = omega (arith, c .before .before .before .before .put-field .ensures .place, field-most loadWord (c .before .before .before .before .before .before .before .before .args .sub))
+
+slice-aggregate-put-word : tie.Need-slice-aggregate-put-word
+slice-aggregate-put-word c = search needs
+
+put-word-requires : tie.Need-put-word-requires
+put-word-requires c κs = omega (arith, c .before .before .before .before .put-field2 .ensures .place, c .before .before .before .before .before .before .before .before .before .put-field .ensures .place, field-most loadWord (c .before .before .before .before .before .before .before .before .before .before .before .before .before .args .sub), field-most space (c .before .before .before .before .before .before .before .before .before .before .before .before .before .args .n))
+
+same-length : tie.Need-same-length
+same-length c = search needs
+
+returns : tie.Need-returns
+unfolding loadLine
+returns c = both-stored (both-stored (c .before .before .before .before .before .before .before .before .before .before .before .before .put-field .ensures) (c .before .before .before .before .before .before .before .put-field2 .ensures)) (c .before .before .put-word .ensures)
+
+pub put-load-spec : {M : Type 1} → statement M
+put-load-spec =
+    tie.close
+    (tie.spec
+    slice-aggregate-put-field
+    put-field-requires
+    slice-aggregate-put-field-2
+    put-field-requires-2
+    slice-aggregate-put-word
+    put-word-requires
+    same-length
+    returns)

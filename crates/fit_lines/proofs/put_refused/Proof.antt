@@ -1,0 +1,38 @@
+-- `put_refused` meets its contract: a field and the line's end. Assumes nothing.
+use native.Mathlib.Omega.{arith}
+use Rattle.fit_lines.specs.Lines.{refusedLine, refusedWord}
+use Rattle.fit_lines.specs.Lengths.{field-most}
+use Rattle.fit_lines.specs.Stores.{both-stored}
+use borrow.Author.Needs.{needs}
+use Rattle.fit_lines.proofs.put_refused.Statement.{statement}
+use Rattle.fit_lines.proofs.put_refused.Tie as tie
+
+slice-aggregate-put-field : tie.Need-slice-aggregate-put-field
+slice-aggregate-put-field c = search needs
+
+put-field-requires : tie.Need-put-field-requires
+put-field-requires c κs = search needs
+
+slice-aggregate-put-word : tie.Need-slice-aggregate-put-word
+slice-aggregate-put-word c = search needs
+
+put-word-requires : tie.Need-put-word-requires
+put-word-requires c κs = omega (arith, c .before .before .before .before .put-field .ensures .place, field-most refusedWord (c .before .before .before .before .before .before .before .before .args .n))
+
+same-length : tie.Need-same-length
+same-length c = search needs
+
+returns : tie.Need-returns
+unfolding refusedLine
+returns c = both-stored (c .before .before .before .before .before .before .before .put-field .ensures) (c .before .before .put-word .ensures)
+
+pub put-refused-spec : {M : Type 1} → statement M
+put-refused-spec =
+    tie.close
+    (tie.spec
+    slice-aggregate-put-field
+    put-field-requires
+    slice-aggregate-put-word
+    put-word-requires
+    same-length
+    returns)

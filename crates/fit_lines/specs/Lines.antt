@@ -1,0 +1,81 @@
+-- The lines that `fit` prints, as bytes. Definitions only. Assumes nothing.
+use Prim.Native.Nat.{ℕ, _+_}
+use mathlib.Core.Path.{_≡_}
+use mathlib.Core.Bool.{cond}
+use mathlib.Core.List.{List, [], _∷_, _++_}
+use lib.Dec.{ltb}
+use lib.ListN.{length}
+use lib.Seq.{sets}
+use Rattle.io.specs.Digits.{digits}
+
+-- x stands in the places from `at` up to `next`, and all else as before
+pub record Stored (before after : List ℕ) (at next : ℕ) (x : List ℕ) : Type 0 where
+  pub text : after ≡ sets before at x
+  pub place : next ≡ at + length x
+
+-- the decimal digits of a number below 10,000
+unfoldable pub widthOf : ℕ → ℕ
+widthOf n = cond (ltb n 10) 1 (cond (ltb n 100) 2 (cond (ltb n 1000) 3 4))
+
+unfoldable pub decimal : ℕ → List ℕ
+decimal n = digits 10 (widthOf n) n
+
+-- ---- words, in ASCII
+-- "tiles "
+abbrev pub tilesWord : List ℕ
+tilesWord = 116 ∷ 105 ∷ 108 ∷ 101 ∷ 115 ∷ 32 ∷ []
+
+-- " subpalettes "
+abbrev pub subpalettesWord : List ℕ
+subpalettesWord = 32 ∷ 115 ∷ 117 ∷ 98 ∷ 112 ∷ 97 ∷ 108 ∷ 101 ∷ 116 ∷ 116 ∷ 101 ∷ 115 ∷ 32 ∷ []
+
+-- "tile "
+abbrev pub tileWord : List ℕ
+tileWord = 116 ∷ 105 ∷ 108 ∷ 101 ∷ 32 ∷ []
+
+-- " sub "
+abbrev pub subWord : List ℕ
+subWord = 32 ∷ 115 ∷ 117 ∷ 98 ∷ 32 ∷ []
+
+-- " dist "
+abbrev pub distWord : List ℕ
+distWord = 32 ∷ 100 ∷ 105 ∷ 115 ∷ 116 ∷ 32 ∷ []
+
+-- "load "
+abbrev pub loadWord : List ℕ
+loadWord = 108 ∷ 111 ∷ 97 ∷ 100 ∷ 32 ∷ []
+
+-- " "
+abbrev pub space : List ℕ
+space = 32 ∷ []
+
+-- "refused "
+abbrev pub refusedWord : List ℕ
+refusedWord = 114 ∷ 101 ∷ 102 ∷ 117 ∷ 115 ∷ 101 ∷ 100 ∷ 32 ∷ []
+
+-- a line's end
+abbrev pub lineEnd : List ℕ
+lineEnd = 10 ∷ []
+
+-- ---- lines
+-- "tiles T subpalettes S"
+unfoldable pub headLine : ℕ → ℕ → List ℕ
+headLine tiles subs =
+    tilesWord ++ decimal tiles
+    ++ (subpalettesWord ++ decimal subs)
+    ++ lineEnd
+
+-- "tile T sub S dist D", the distance's pattern in eight hexadecimal digits
+unfoldable pub tileLine : ℕ → ℕ → ℕ → List ℕ
+tileLine tile sub dist =
+    tileWord ++ decimal tile
+    ++ (subWord ++ decimal sub)
+    ++ distWord ++ digits 16 8 dist ++ lineEnd
+
+-- "load S N"
+unfoldable pub loadLine : ℕ → ℕ → List ℕ
+loadLine sub n = loadWord ++ decimal sub ++ (space ++ decimal n) ++ lineEnd
+
+-- "refused N"
+unfoldable pub refusedLine : ℕ → List ℕ
+refusedLine n = refusedWord ++ decimal n ++ lineEnd

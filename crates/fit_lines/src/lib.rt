@@ -1,0 +1,107 @@
+// Text into lent bytes: words, numbers, and the lines that `fit` prints. Each function gives the place behind what it wrote.
+// Assumes nothing.
+ghost use mathlib.Core.Path.{_≡_};
+ghost use Prim.Native.Nat.{_+_, _≤_, _<_};
+ghost use mathlib.Core.List.{_++_};
+ghost use lib.ListN.{length};
+ghost use Rattle.io.specs.Digits.{digits, glyph as Digits·glyph};
+ghost use Rattle.fit_lines.specs.Lines.{Stored, widthOf, decimal, headLine, tileLine, loadLine, refusedLine};
+
+// A word from place `at` on.
+fn put_word(out: &mut [u8], at: usize, word: &[u8]) -> usize
+    requires { ⌜ at + length (now word) ≤ length (now out) ⌝ }
+    ensures { λ r. ⌜ Stored (now (out .entry)) (now (out .exit)) at r (now (word .entry)) ⌝ }
+{
+    let mut i = 0;
+    while i < word.len() {
+        let j = at + i;
+        out[j] = word[i];
+        i += 1;
+    }
+    at + i
+}
+
+fn glyph(d: u32) -> u8
+    requires { ⌜ d < 16 ⌝ }
+    ensures { λ r. ⌜ r ≡ Digits·glyph d ⌝ }
+{
+    if d < 10 { 48 + d as u8 } else { 87 + d as u8 }
+}
+
+// The last k digits of n in `base`, the most significant first.
+fn put_digits(out: &mut [u8], at: usize, n: u32, base: u32, k: usize) -> usize
+    requires { ⌜ (at + k ≤ length (now out)) × (0 < base) × (base ≤ 16) ⌝ }
+    ensures { λ r. ⌜ Stored (now (out .entry)) (now (out .exit)) at r (digits base k n) ⌝ }
+{
+    let mut rest = n;
+    let mut i = k;
+    while i > 0 {
+        i -= 1;
+        let j = at + i;
+        out[j] = glyph(rest % base);
+        rest /= base;
+    }
+    at + k
+}
+
+// How many decimal digits a number below 10,000 has.
+fn width(n: u32) -> usize
+    ensures { λ r. ⌜ r ≡ widthOf n ⌝ }
+{
+    if n < 10 {
+        return 1;
+    }
+    if n < 100 {
+        return 2;
+    }
+    if n < 1000 {
+        return 3;
+    }
+    4
+}
+
+// A word, then a number in decimal.
+fn put_field(out: &mut [u8], at: usize, word: &[u8], n: u32) -> usize
+    requires { ⌜ at + (length (now word) + 4) ≤ length (now out) ⌝ }
+    ensures { λ r. ⌜ Stored (now (out .entry)) (now (out .exit)) at r (now (word .entry) ++ decimal n) ⌝ }
+{
+    let next = put_word(out, at, word);
+    put_digits(out, next, n, 10, width(n))
+}
+
+pub fn put_head(out: &mut [u8], at: usize, tiles: u32, subs: u32) -> usize
+    requires { ⌜ at + 28 ≤ length (now out) ⌝ }
+    ensures { λ r. ⌜ Stored (now (out .entry)) (now (out .exit)) at r (headLine tiles subs) ⌝ }
+{
+    let a = put_field(out, at, b"tiles ", tiles);
+    let b = put_field(out, a, b" subpalettes ", subs);
+    put_word(out, b, b"\n")
+}
+
+pub fn put_tile(out: &mut [u8], at: usize, tile: u32, sub: u32, dist: u32) -> usize
+    requires { ⌜ at + 33 ≤ length (now out) ⌝ }
+    ensures { λ r. ⌜ Stored (now (out .entry)) (now (out .exit)) at r (tileLine tile sub dist) ⌝ }
+{
+    let a = put_field(out, at, b"tile ", tile);
+    let b = put_field(out, a, b" sub ", sub);
+    let c = put_word(out, b, b" dist ");
+    let d = put_digits(out, c, dist, 16, 8);
+    put_word(out, d, b"\n")
+}
+
+pub fn put_load(out: &mut [u8], at: usize, sub: u32, n: u32) -> usize
+    requires { ⌜ at + 15 ≤ length (now out) ⌝ }
+    ensures { λ r. ⌜ Stored (now (out .entry)) (now (out .exit)) at r (loadLine sub n) ⌝ }
+{
+    let a = put_field(out, at, b"load ", sub);
+    let b = put_field(out, a, b" ", n);
+    put_word(out, b, b"\n")
+}
+
+pub fn put_refused(out: &mut [u8], at: usize, n: u32) -> usize
+    requires { ⌜ at + 13 ≤ length (now out) ⌝ }
+    ensures { λ r. ⌜ Stored (now (out .entry)) (now (out .exit)) at r (refusedLine n) ⌝ }
+{
+    let a = put_field(out, at, b"refused ", n);
+    put_word(out, a, b"\n")
+}
