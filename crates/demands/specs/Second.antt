@@ -5,15 +5,14 @@ use mathlib.Core.Path.{_≡_, refl, sym, ap, _∙_}
 use mathlib.Core.Bool.{Bool, true, false, not, cond}
 use mathlib.Core.List.{List, [], _∷_, _++_}
 use native.Mathlib.Nat.{le-of-eq}
+use native.Mathlib.Omega.{arith}
 use lib.Dec.{eqb}
 use lib.ListN.{length, getD, set}
-use lib.Ieee.{Float, binary32}
+use lib.Ieee.{Float, binary32, lt}
 use borrow.Author.Tests.{eqb-true, eq-eqb}
 use Rattle.lists.specs.Tests.{and-l, and-r}
 use Rattle.ieee.specs.Keys.{Good}
-use Rattle.stats.specs.declared.Near.{Near}
-use Rattle.stats.specs.declared.Two.{Two}
-use Rattle.stats.specs.Stats.{nextOf, leastTwo}
+use Rattle.stats.specs.Stats.{nextOf}
 use Rattle.stats.specs.Seconds.{next-below, next-other, second-at}
 use Rattle.job.specs.Job.{Job, isEmpty}
 use Rattle.job.specs.Rules.{rule, answer, numbered}
@@ -27,15 +26,21 @@ use Rattle.palette.specs.Palette.{distAt}
 use Rattle.palette.specs.Sums.{dist-good}
 use Rattle.palette_tile.specs.Tiles.{tileAt, presentIn, fitAt, winner, twoAt, Shown}
 use Rattle.palette_tile.specs.Present.{shown-present, tile-counted}
-use Rattle.fits.specs.Fits.{SingleOutcome, singleOutcome, PairOutcome, pairOutcome, oneRules, oneAnswer, singleAnswer, singleDef, pairDef}
+use Rattle.fits.specs.Fits.{singleOutcome, pairOutcome, oneRules, oneAnswer, singleAnswer, singleDef, pairDef}
 use Rattle.fits.specs.declared.Single.{Single}
 use Rattle.fits.specs.declared.Single.the-variants as single
 use Rattle.fits.specs.declared.Pair.{Pair}
 use Rattle.fits.specs.declared.Pair.the-variants as pair
+pub use Rattle.fits.specs.Empty.{empty-one, empty-many}
 use Rattle.fits.specs.Shown.{shown, one-tile, one-plain}
-use Rattle.fits.specs.Empty.{empty-one, empty-many}
 use Rattle.assign.specs.Assign.{Held, held, Outcome, outcome, roomFor, assignAnswer, assignDef, assigned, subpaletteOf, subpalettes, hintOf}
 use Rattle.assign.specs.Reading.{subpalette-at, hint-at}
+use Rattle.quantizer.specs.Course.{Course}
+use Rattle.stages.specs.Stages.{subsOf, haveOf}
+use Rattle.stages.specs.Calls.{Memory, stateOf}
+use Rattle.calls.specs.Presence.{draw-shown}
+use Rattle.calls.specs.Accepted.{Accepted, job-passed}
+use Rattle.demands.specs.Runners.{second-least}
 
 -- the distance of tile t to each of the n subpalettes of `have` colours that are present: nearest distance times count, summed colour by colour
 abbrev pub distances : Job → List Float → ℕ → ℕ → ℕ → ℕ → Float
@@ -51,7 +56,7 @@ module _ (J : Job) (palette : List Float) (n have : ℕ) (P : Shown J palette n 
   unfolding fitAt
   choice = least-has (distances J palette n have t) n (P .subs) good
 
-  -- the first of the best two is that choice, and the second is the distance of another subpalette
+  -- the first of the best two is that choice; the second is the distance of another subpalette, and none of the others is less far
   pub first-of-two : firstOf (twoAt J palette n have t) ≡ fitAt J palette n have t
   unfolding twoAt fitAt
   first-of-two = two-first (distances J palette n have t) n
@@ -63,6 +68,10 @@ module _ (J : Job) (palette : List Float) (n have : ℕ) (P : Shown J palette n 
       let d = distances J palette n have t in
       (nextOf d n, next-below d n h good, next-other d n h good, second-at d n h good)
 
+  pub none-before-second : (j : ℕ) → j < n → (j ≡ twoAt J palette n have t .index → ⊥) → lt (distances J palette n have t j) (twoAt J palette n have t .second) ≡ false
+  unfolding twoAt
+  none-before-second = second-least (distances J palette n have t) n good (P .subs) (omega (arith, P .most, P .ready .sizes .few))
+
 -- ---- the single fit and best_two
 module _ (size : ℕ) (small : size ≤ 256) (J : Job) (palette : List Float) where
   -- a tile that passed is answered with its choice, which becomes its hint
@@ -73,6 +82,18 @@ module _ (size : ℕ) (small : size ≤ 256) (J : Job) (palette : List Float) wh
       let first : oneAnswer size J palette (length hints) ≡ 0 = unfold singleAnswer oneAnswer numbered in both-pass (oneRules size J palette (length hints)) (rule 15 (not (isEmpty J 0)) ∷ []) refl z .0 in (
         choice J palette (J .S) (J .C) (shown size J palette _ small (one-plain size J palette (length hints) first)) 0 (le-of-eq (sym (one-tile size J palette (length hints) first))),
         (unfold singleDef in rw (eq-eqb (singleAnswer size J palette (length hints)) 0 z)),
+      )
+
+  pub pair-chooses : (hints : List ℕ) → oneAnswer size J palette (length hints) ≡ 0
+      → Least (distances J palette (J .S) (J .C) 0) (J .S) (fitAt J palette (J .S) (J .C) 0)
+      × (firstOf (twoAt J palette (J .S) (J .C) 0) ≡ fitAt J palette (J .S) (J .C) 0)
+      × (pairDef size J palette hints ≡ pairOutcome (pair.Best (twoAt J palette (J .S) (J .C) 0)) (set hints 0 (twoAt J palette (J .S) (J .C) 0 .index)))
+  pair-chooses hints z =
+      let present = shown size J palette _ small (one-plain size J palette (length hints) z) in
+      let first : 0 < J .T = le-of-eq (sym (one-tile size J palette (length hints) z)) in (
+        choice J palette (J .S) (J .C) present 0 first,
+        first-of-two J palette (J .S) (J .C) present 0 first,
+        (unfold pairDef in rw (eq-eqb (oneAnswer size J palette (length hints)) 0 z)),
       )
 
   -- whatever the hint: any two give one answer
@@ -102,13 +123,39 @@ module _ (size : ℕ) (small : size ≤ 256) (J : Job) (palette : List Float) wh
       told : (x : List ℕ) → pairDef size J palette x .answer ≡ given (length x)
       told x = unfold pairDef in by (eqb (oneAnswer size J palette (length x)) 0) _ _ _ _
 
-  -- an empty tile, where all else passed: 15 (best_two: `empty-one` and `empty-many` of fits)
+  -- an empty tile, where all else passed: the single fit answers 15, and best_two as `empty-one` and `empty-many` say
   pub single-empty : (hints : List ℕ) → oneAnswer size J palette (length hints) ≡ 0 → isEmpty J 0 ≡ true → singleAnswer size J palette (length hints) ≡ 15
   unfolding singleAnswer oneAnswer numbered
   single-empty hints z e =
       sym (goes (oneRules size J palette (length hints)) (rule 15 (not (isEmpty J 0)) ∷ []) (answer (oneRules size J palette (length hints))) 15 refl refl z (fails 15 (not (isEmpty J 0)) [] (rw e)))
 
 -- ---- assign
+-- whatever the hints: any two lists of them give one number, and each tile one subpalette
+pub assign-any-hints : (size : ℕ) (J : Job) (palette : List Float) (out h k : List ℕ) → length h ≡ length k
+    → (assignDef size J palette (held h out) .number ≡ assignDef size J palette (held k out) .number)
+    × (assignDef size J palette (held h out) .after .out ≡ assignDef size J palette (held k out) .after .out)
+assign-any-hints size J palette out h k e = (number h ∙ ap (λ (n : ℕ). cond (eqb (table n) 0) 0 (table n)) e ∙ sym (number k), left h ∙ ap (λ (n : ℕ). cond (eqb (table n) 0) all out) e ∙ sym (left k))
+  where
+    table : ℕ → ℕ
+    table n = plainAnswer size J palette (roomFor (J .T) n (length out))
+
+    all : List ℕ
+    all = subpalettes J palette out (J .T)
+
+    number-by : (t : Bool) (n : ℕ) (x y : Held) → cond t (outcome 0 x) (outcome n y) .number ≡ cond t 0 n
+    number-by true n x y = refl
+    number-by false n x y = refl
+
+    left-by : (t : Bool) (n : ℕ) (x y : Held) → cond t (outcome 0 x) (outcome n y) .after .out ≡ cond t (x .out) (y .out)
+    left-by true n x y = refl
+    left-by false n x y = refl
+
+    number : (x : List ℕ) → assignDef size J palette (held x out) .number ≡ cond (eqb (table (length x)) 0) 0 (table (length x))
+    number x = unfold assignDef assignAnswer in number-by (eqb (table (length x)) 0) (table (length x)) (assigned J palette (held x out) (J .T)) (held x out)
+
+    left : (x : List ℕ) → assignDef size J palette (held x out) .after .out ≡ cond (eqb (table (length x)) 0) all out
+    left x = unfold assignDef assignAnswer assigned in left-by (eqb (table (length x)) 0) (table (length x)) (assigned J palette (held x out) (J .T)) (held x out)
+
 module _ (size : ℕ) (small : size ≤ 256) (J : Job) (palette : List Float) (h : Held) (z : assignAnswer size J palette h ≡ 0) where
   plain : Plain size J palette (roomFor (J .T) (length (h .hints)) (length (h .out)))
   unfolding assignAnswer
@@ -143,3 +190,12 @@ module _ (size : ℕ) (small : size ≤ 256) (J : Job) (palette : List Float) (h
     pub assign-empty : isEmpty J t ≡ true → (getD (assignDef size J palette h .after .out) t 0 ≡ 0) × (getD (assignDef size J palette h .after .hints) t 0 ≡ getD (h .hints) t 0)
     unfolding subpaletteOf
     assign-empty e = (out-at ∙ rw e, hint-left ∙ rw e)
+
+-- ---- a run: at every draw of an accepted memory, whatever hints it holds, each tile's choice is among the colours then present
+-- (`moved` of quantizer nudges the colour of that subpalette which is nearest to the sample)
+pub draw-chooses : (size : ℕ) → size ≤ 256 → (K : Course) (m : Memory) → Accepted size K m → (t : ℕ) → t < K .job .T
+    → Least (distances (K .job) (stateOf m .palette) (subsOf K (stateOf m)) (haveOf K (stateOf m)) t) (subsOf K (stateOf m)) (fitAt (K .job) (stateOf m .palette) (subsOf K (stateOf m)) (haveOf K (stateOf m)) t)
+draw-chooses size small K m A t l =
+    let J = job-passed size K true (A .passed) .ready in
+    let held = A .fit .sound .held in
+    choice (K .job) (stateOf m .palette) (subsOf K (stateOf m)) (haveOf K (stateOf m)) (draw-shown size small K J (stateOf m) (A .fit .rests .place) (held .size) (held .bound)) t l

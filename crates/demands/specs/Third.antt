@@ -1,12 +1,14 @@
 -- A job is started once and advanced in calls of any size. After t draws each sample was drawn t / n times, rounded down or up, and none waits past
 -- 2 · n - 1 draws; a finished run made (S + C + 18) · b draws, b being n / 10 rounded down. Assumes nothing.
 use Prim.Native.Nat.{ℕ, _+_, _-_, _*_, _/_, _≤_, _<_}
-use mathlib.Core.Path.{_≡_}
+use mathlib.Core.Path.{_≡_, ap, subst⁻¹, _∙_}
 use mathlib.Core.Bool.{true}
 use mathlib.Core.List.{List}
-use lib.ListN.{length, getD}
+use lib.ListN.{length, getD, take}
 use Rattle.lists.specs.Count.{count}
-use Rattle.cycle.specs.Even.{Even}
+use Rattle.lists.specs.Firsts.{firsts}
+use Rattle.cycle.specs.Cycle.{drawAt}
+use Rattle.cycle.specs.Even.{Even, even}
 use Rattle.cycle.specs.Tenth.{tenth}
 use Rattle.cycle.specs.Tenths.{tenth-is}
 use Rattle.quantizer.specs.Course.{Course, b}
@@ -16,13 +18,15 @@ use Rattle.stages.specs.Calls.{Memory, stateOf, outcome, advanceAnswer, advance
 use Rattle.stages.specs.History.{Run}
 use Rattle.calls.specs.Accepted.{Accepted}
 use Rattle.calls.specs.Next.{advance-split, call-draws}
-use Rattle.calls.specs.Follow.{run-made, run-even, run-waits, run-accepted, run-end}
+use Rattle.calls.specs.Follow.{run-made, run-samples, run-waits, run-accepted, run-end}
+use Rattle.demands.specs.Prefixes.{take-firsts}
 
 -- ds are all samples that the calls since the start drew, in their order, and m is the memory that the last call left
-pub record Drawn (size : ℕ) (K : Course) (m : Memory) (ds : List ℕ) : Type 0 where
+pub record Evenly (size : ℕ) (K : Course) (m : Memory) (ds : List ℕ) : Type 0 where
   -- as many as word 4 says
   pub made : length ds ≡ getD (m .words) 4 0
-  pub even : (i : ℕ) → i < K .n → Even (K .n) (length ds) (count i ds)
+  -- after any t of its draws
+  pub even : (i t : ℕ) → i < K .n → t ≤ length ds → Even (K .n) t (count i (take t ds))
   -- of any 2 · n - 1 draws in a row, from draw k on, one is of sample i
   pub waits : (i k : ℕ) → i < K .n → k + (2 * K .n - 1) ≤ length ds → (j : ℕ) × (k ≤ j) × (j < k + (2 * K .n - 1)) × (getD ds j 0 ≡ i)
   -- past the last draw, at stages 5, 6 and 7
@@ -30,16 +34,19 @@ pub record Drawn (size : ℕ) (K : Course) (m : Memory) (ds : List ℕ) : Type 0
   -- the next call accepts what the last one left
   pub resumes : Accepted size K m
 
--- whatever the division into calls, so after any t = length ds draws
-pub third-demand : (size : ℕ) → size ≤ 256 → (K : Course) (seed : ℕ) {m : Memory} {ds : List ℕ} → Run size K seed m ds → Drawn size K m ds
-third-demand size small K seed r =
+-- whatever the division into calls
+pub third-demand : (size : ℕ) → size ≤ 256 → (K : Course) (seed : ℕ) {m : Memory} {ds : List ℕ} → Run size K seed m ds → Evenly size K m ds
+third-demand size small K seed {m} {ds} r =
     record {
       made = run-made size K seed r;
-      even = run-even size K seed r;
+      even = λ i t l h. subst⁻¹ (λ (xs : List ℕ). Even (K .n) t (count i xs)) (first-draws t h) (even (K .n) seed i t l);
       waits = run-waits size K seed r;
       finished = run-end size small K seed r;
       resumes = run-accepted size small K seed r;
     }
+  where
+    first-draws : (t : ℕ) → t ≤ length ds → take t ds ≡ firsts (drawAt (K .n) seed) t
+    first-draws t h = ap (take t) (run-samples size K seed r) ∙ take-firsts (drawAt (K .n) seed) t (length ds) h
 
 -- to advance by a and then by c, with no stop between, is to advance by a + c
 pub any-size : (size : ℕ) → size ≤ 256 → (K : Course) (m : Memory) (a c : ℕ) → advanceAnswer size K m ≡ 0 → draws (advance K a (stateOf m) .stage) ≡ true
