@@ -2,3 +2,4 @@
 // Each carries what its callee requires; the comparison's cases meet it.
 mod between;
 mod drawing;
+mod seeding;

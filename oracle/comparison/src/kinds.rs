@@ -6,6 +6,7 @@ mod leaves;
 mod own;
 mod palettes;
 mod runs;
+mod seeding;
 mod sheets;
 mod training;
 
@@ -23,11 +24,12 @@ pub struct Kind {
     pub compare: fn(&mut Rng, u64, &mut Tally),
 }
 
-pub const KINDS: [&[Kind]; 8] = [
+pub const KINDS: [&[Kind]; 9] = [
     own::KINDS,
     leaves::KINDS,
     palettes::KINDS,
     training::KINDS,
+    seeding::KINDS,
     groups::KINDS,
     calls::KINDS,
     runs::KINDS,

@@ -154,6 +154,8 @@ pub trait Probed: Rust {
     fn refine(&self, palette: &Palette, tiles: &[Tile], hints: &mut [usize]) -> Palette;
     /// The seeding of s subpalettes, draws included. Gives the palette and the hints left behind.
     fn seed(&self, job: &Job, hints: &[usize], seed: u64) -> (Palette, Vec<usize>);
+    /// The subpalette that seeding splits next.
+    fn worst(&self, palette: &Palette, tiles: &[Tile], hints: &mut [usize]) -> usize;
     fn start(&self, job: &Job, hints: &[usize], seed: u64) -> Box<dyn Steps>;
     /// A run from a state between two draws.
     fn resume(&self, job: &Job, held: &Held) -> Box<dyn Steps>;

@@ -40,6 +40,19 @@ fn grown(palette: &Palette, tiles: &[TileData]) -> Palette {
     grown
 }
 
+/// As at the end of a round of `seed_palette`.
+fn worst(palette: &Palette, tiles: &[TileData]) -> usize {
+    let mut distances = vec![0.0f32; palette.len()];
+    for tile in tiles {
+        if tile.is_empty(settings()) {
+            continue;
+        }
+        let (sp_index, dist) = palette.best_fit(tile);
+        distances[sp_index] += dist;
+    }
+    argmax(&distances)
+}
+
 impl Probed for crate::Door {
     fn next(&self, seed: u64, count: usize) -> (Vec<u64>, u64) {
         let mut prng = Prng::new(seed);
@@ -91,6 +104,13 @@ impl Probed for crate::Door {
         let b = base_iterations(samples.len());
         let palette = seed_palette(&tiles, &samples, &mut cycle, job.s, REPLACE_ALPHA, b, settings());
         (colours_of(&palette), hints_of(&tiles))
+    }
+
+    fn worst(&self, palette: &terms::Palette, tiles: &[Tile], hints: &mut [usize]) -> usize {
+        let tiles = tiles_data(tiles, hints);
+        let index = worst(&palette_of(palette), &tiles);
+        hints.copy_from_slice(&hints_of(&tiles));
+        index
     }
 
     fn start(&self, job: &Job, hints: &[usize], seed: u64) -> Box<dyn Steps> {
@@ -228,7 +248,7 @@ impl Stepped {
     /// What a round does after its draws.
     fn end_round(&mut self) {
         match self.stage {
-            0 => self.choose_split(),
+            0 => self.split_index = worst(&self.palette, &self.tiles),
             2 => {
                 let mse = self.palette.mse(&self.tiles);
                 if mse < self.least_error {
@@ -240,19 +260,6 @@ impl Stepped {
         }
         self.rounds += 1;
         self.begin_round();
-    }
-
-    /// As at the end of a round of `seed_palette`.
-    fn choose_split(&mut self) {
-        let mut distances = vec![0.0f32; self.palette.len()];
-        for tile in self.tiles.iter() {
-            if tile.is_empty(settings()) {
-                continue;
-            }
-            let (sp_index, dist) = self.palette.best_fit(tile);
-            distances[sp_index] += dist;
-        }
-        self.split_index = argmax(&distances);
     }
 }
 

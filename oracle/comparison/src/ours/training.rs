@@ -1,4 +1,4 @@
-//! What training does between draws.
+//! What training does: between draws, a draw, seeding.
 
 use super::{Cycle, Flat, Job};
 
@@ -96,6 +96,40 @@ unsafe extern "C" {
         hints_len: usize,
         alpha: f32,
     ) -> u64;
+    fn probe_seed(
+        s: usize,
+        c: usize,
+        t: usize,
+        n: usize,
+        weight: f32,
+        tiles: *const u32,
+        tiles_len: usize,
+        colours: *const f32,
+        colours_len: usize,
+        counts: *const u32,
+        counts_len: usize,
+        samples: *const u32,
+        samples_len: usize,
+        pal: *mut f32,
+        pal_len: usize,
+    );
+    fn probe_worst(
+        s: usize,
+        c: usize,
+        t: usize,
+        weight: f32,
+        tiles: *const u32,
+        tiles_len: usize,
+        colours: *const f32,
+        colours_len: usize,
+        counts: *const u32,
+        counts_len: usize,
+        pal: *const f32,
+        pal_len: usize,
+        subs: usize,
+        hints: *mut u32,
+        hints_len: usize,
+    ) -> usize;
 }
 
 /// Of a job that is accepted, and a palette within 4.
@@ -220,4 +254,50 @@ pub fn draw(job: &Job, samples: &[u32], cycle: &mut Cycle, palette: &mut Flat, h
         )
     };
     cycle.made += 1;
+}
+
+/// The mean of the samples, at the palette's first place.
+pub fn seed(job: &Job, samples: &[u32], palette: &mut Flat) {
+    unsafe {
+        probe_seed(
+            job.s,
+            job.c,
+            job.t,
+            samples.len() / 2,
+            job.weight,
+            job.tiles.pointer(),
+            job.tiles.len(),
+            job.colours.pointer(),
+            job.colours.len(),
+            job.counts.pointer(),
+            job.counts.len(),
+            samples.as_ptr(),
+            samples.len(),
+            palette.numbers.as_mut_ptr(),
+            palette.numbers.len(),
+        )
+    }
+}
+
+/// The subpalette to split next, of those present with one colour each.
+pub fn worst(job: &Job, palette: &Flat, hints: &mut [u32]) -> usize {
+    unsafe {
+        probe_worst(
+            job.s,
+            job.c,
+            job.t,
+            job.weight,
+            job.tiles.pointer(),
+            job.tiles.len(),
+            job.colours.pointer(),
+            job.colours.len(),
+            job.counts.pointer(),
+            job.counts.len(),
+            palette.numbers.as_ptr(),
+            palette.numbers.len(),
+            palette.subs,
+            hints.as_mut_ptr(),
+            hints.len(),
+        )
+    }
 }

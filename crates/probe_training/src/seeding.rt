@@ -1,0 +1,43 @@
+// Forwarders to the first colour of seeding and to the choice of what is split next. Assumes of callers what each callee requires.
+ghost use mathlib.Core.Path.{_≡_};
+ghost use lib.ListN.{length};
+ghost use Rattle.job.specs.Job.{job};
+ghost use Rattle.palette_tile.specs.Tiles.{Shown};
+ghost use Rattle.quantizer.specs.Course.{course};
+ghost use Rattle.quantizer_seed.specs.Seeds.{Seeding};
+
+#[no_mangle]
+pub extern "C" fn probe_seed(
+    s: usize,
+    c: usize,
+    t: usize,
+    n: usize,
+    weight: f32,
+    tiles: &[u32],
+    colours: &[f32],
+    counts: &[u32],
+    samples: &[u32],
+    pal: &mut [f32],
+)
+    requires { ⌜ Seeding (course (job s c t weight (now tiles) (now colours) (now counts)) n (now samples)) (now pal) ⌝ }
+{
+    quantizer_seed::seed(s, c, t, n, weight, tiles, colours, counts, samples, pal)
+}
+
+#[no_mangle]
+pub extern "C" fn probe_worst(
+    s: usize,
+    c: usize,
+    t: usize,
+    weight: f32,
+    tiles: &[u32],
+    colours: &[f32],
+    counts: &[u32],
+    pal: &[f32],
+    subs: usize,
+    hints: &mut [u32],
+) -> usize
+    requires { ⌜ Shown (job s c t weight (now tiles) (now colours) (now counts)) (now pal) subs 1 × (length (now hints) ≡ t) ⌝ }
+{
+    quantizer_seed::worst(s, c, t, weight, tiles, colours, counts, pal, subs, hints)
+}

@@ -1,0 +1,122 @@
+//! Seeding: its first colour, its choice of the subpalette to split, and its rounds, draws included.
+
+use answers::probed;
+use terms::jobs::{self, Colours};
+use terms::rng::Rng;
+use terms::{Colour, Edit, Palette, Tile};
+
+use super::{Kind, kind};
+use crate::ours::{self, Cycle, Flat, Job};
+use crate::table::Given;
+use crate::tally::Tally;
+
+pub const KINDS: &[Kind] =
+    &[kind("seed mean", 5_000, mean), kind("seed choice", 10_000, choice), kind("seeding", 500, seeding)];
+
+/// The palette in a job's room; other numbers stand where none is present, to be left as they are.
+fn placed(rng: &mut Rng, palette: &Palette, c: usize, s: usize) -> Flat {
+    let mut flat = Flat::with_places(palette, c, s);
+    let others = Colours::any(rng, 4.0);
+    for number in flat.numbers.iter_mut().filter(|number| number.is_nan()) {
+        *number = others.one(rng, 4.0)[0];
+    }
+    flat
+}
+
+fn lent(tiles: &[Tile], weight: f32, s: usize, c: usize) -> Job {
+    Job::lent(&Given { s, c, ..Given::new(&vec![vec![[0.0; 3]]], tiles, weight) })
+}
+
+fn narrow(hints: &[usize]) -> Vec<u32> {
+    hints.iter().map(|&hint| hint as u32).collect()
+}
+
+fn pairs(job: &terms::Job) -> Vec<u32> {
+    job.samples.iter().flat_map(|s| [s.tile as u32, s.place as u32]).collect()
+}
+
+/// Beside the Rust's seeding of one subpalette, which has no round.
+fn mean(rng: &mut Rng, _: u64, tally: &mut Tally) {
+    let mut job = jobs::job(rng, 1_000);
+    let first = Colours::any(rng, 4.0).one(rng, 4.0);
+    let mut flat = placed(rng, &vec![vec![first]], job.c, job.s);
+    let mut after = flat.numbers.clone();
+    let lent = lent(&job.tiles, job.weight, job.s, job.c);
+    ours::seed(&lent, &pairs(&job), &mut flat);
+
+    let hints = jobs::hints(rng, job.tiles.len(), job.s);
+    job.s = 1;
+    let (palette, left) = probed(job.weight).seed(&job, &hints, rng.bits());
+    after[..3].copy_from_slice(&palette[0][0]);
+    tally.same((flat.numbers, hints, lent.untouched()), (after, left, true), || format!("{job:?}"));
+}
+
+/// Makes the second half of the subpalettes the first one's mirror images, and has each tile's beside it somewhere: equal
+/// sums, but for the order in which they are rounded.
+fn mirror(rng: &mut Rng, palette: &mut Palette, tiles: &mut Vec<Tile>) {
+    let image = |colours: &Vec<Colour>| colours.iter().map(|colour| colour.map(|x| -x)).collect();
+    let half = palette.len() / 2;
+    for i in 0..half {
+        palette[half + i] = image(&palette[i]);
+    }
+    let images: Vec<Tile> =
+        tiles.iter().map(|tile| Tile { colours: image(&tile.colours), counts: tile.counts.clone() }).collect();
+    for tile in images {
+        tiles.insert(rng.below(tiles.len() + 1), tile);
+    }
+}
+
+/// Among some or all of a job's subpalettes.
+fn choice(rng: &mut Rng, _: u64, tally: &mut Tally) {
+    let colours = Colours::any(rng, 2.0);
+    let (s, c, t) = (jobs::sixteen(rng), jobs::sixteen(rng), rng.pick(&[1, 2, 5, 20, 60]));
+    let subs = if rng.once_in(2) { s } else { rng.among(1, s) };
+    let limit = rng.pick(&[2.0, 4.0]);
+    let mut palette = jobs::palette(rng, subs, 1, &colours, limit);
+    let mut tiles = jobs::tiles(rng, t, &colours);
+    if rng.once_in(30) {
+        tiles.fill(Tile::default());
+    }
+    if rng.once_in(3) {
+        mirror(rng, &mut palette, &mut tiles);
+    }
+    let (weight, mut hints) = (jobs::weight(rng), jobs::hints(rng, tiles.len(), s));
+    let shown = format!("hints {hints:?}, weight {weight:?}, s {s}, c {c}, {tiles:?}, {palette:?}");
+
+    let flat = placed(rng, &palette, c, s);
+    let (before, mut left) = (flat.numbers.clone(), narrow(&hints));
+    let lent = lent(&tiles, weight, s, c);
+    let ours = ours::worst(&lent, &flat, &mut left);
+    let rusts = probed(weight).worst(&palette, &tiles, &mut hints);
+    tally.same((ours, left, flat.numbers, lent.untouched()), (rusts, narrow(&hints), before, true), || shown);
+}
+
+/// After each round, beside the Rust's seeding of as many subpalettes.
+fn seeding(rng: &mut Rng, _: u64, tally: &mut Tally) {
+    let mut job = jobs::job(rng, 300);
+    let (s, c, n, seed) = (job.s, job.c, job.samples.len(), rng.bits());
+    let hints = jobs::hints(rng, job.tiles.len(), s);
+    let (lent, samples) = (lent(&job.tiles, job.weight, s, c), pairs(&job));
+    let (mut cycle, mut left, mut split) = (Cycle::new(n, seed), narrow(&hints), 0);
+    let mut flat = placed(rng, &vec![vec![[0.0; 3]]], c, s);
+    let mut after = flat.numbers.clone();
+    ours::seed(&lent, &samples, &mut flat);
+    for subs in 1..=s {
+        if subs > 1 {
+            flat.edit(Edit::DuplicatePalette(split));
+            flat.subs = subs;
+            for _ in 0..n / 10 {
+                ours::draw(&lent, &samples, &mut cycle, &mut flat, &mut left, 0.3);
+            }
+            split = ours::worst(&lent, &flat, &mut left);
+        }
+        job.s = subs;
+        let (palette, rusts) = probed(job.weight).seed(&job, &hints, seed);
+        for (i, sub) in palette.iter().enumerate() {
+            after[3 * c * i..][..3].copy_from_slice(&sub[0]);
+        }
+        tally.same((flat.numbers.clone(), left.clone()), (after.clone(), narrow(&rusts)), || {
+            format!("seed {seed:x}, hints {hints:?}, {job:?}")
+        });
+    }
+}
