@@ -1,0 +1,70 @@
+-- The closing of a round passes the order and the samples by: what holds without them holds with any. Assumes nothing.
+use Prim.Native.Nat.{ℕ, _+_, _-_}
+use mathlib.Core.Path.{_≡_, refl, sym, ap, _∙_}
+use mathlib.Core.Bool.{Bool, true, false, cond}
+use mathlib.Core.List.{List, []}
+use lib.Dec.{ltb}
+use lib.Ieee.{Float, binary32, lt, ofBits}
+use Rattle.quantizer.specs.Course.{Course, course}
+use Rattle.quantizer.specs.Seeding.{worstOf}
+use Rattle.stages.specs.declared.Record.{Record}
+use Rattle.stages.specs.State.{State, stateWith}
+use Rattle.stages.specs.Stages.{noticed, openSeeding, openGrowing, openReplacing, errorOf, keep, judged, enterReplacing, enterGrowing, enterReducing, closeSeeding, closeGrowing, closeReplacing}
+
+-- the state with another order
+abbrev ordered : List ℕ → State → State
+ordered o s =
+    record { order = o; hints = s .hints; palette = s .palette; least = s .least; generator = s .generator; stage = s .stage; rounds = s .rounds; left = s .left; made = s .made; error = s .error }
+
+both-sides : (f : State → State) (t : Bool) (x y : State) → f (cond t x y) ≡ cond t (f x) (f y)
+both-sides f true x y = refl
+both-sides f false x y = refl
+
+module _ (K : Course) (o : List ℕ) (s : State) where
+  judged-ordered : ordered o (judged K s) ≡ judged K (ordered o s)
+  unfolding judged keep noticed errorOf
+  judged-ordered = both-sides (ordered o) (lt (errorOf K s) (ofBits binary32 (s .error))) (keep K s) (noticed K (K .job .S) (K .job .C) s)
+
+  replacing-ordered : ordered o (closeReplacing K s) ≡ closeReplacing K (ordered o s)
+  unfolding closeReplacing openReplacing enterReducing
+  replacing-ordered =
+      both-sides (ordered o) (ltb (s .rounds + 1) 10) (openReplacing K (s .rounds + 1) (judged K s)) (enterReducing K (judged K s))
+      ∙ ap (λ (z : State). cond (ltb (s .rounds + 1) 10) (openReplacing K (s .rounds + 1) z) (enterReducing K z)) judged-ordered
+
+  growing-ordered : ordered o (closeGrowing K s) ≡ closeGrowing K (ordered o s)
+  unfolding closeGrowing openGrowing enterReplacing openReplacing keep noticed errorOf
+  growing-ordered = both-sides (ordered o) (ltb (s .rounds + 1) (K .job .C - 1)) (openGrowing K (s .rounds + 1) s) (enterReplacing K s)
+
+  entry-ordered : ordered o (enterGrowing K s) ≡ enterGrowing K (ordered o s)
+  unfolding enterGrowing openGrowing enterReplacing openReplacing keep noticed errorOf
+  entry-ordered = both-sides (ordered o) (ltb 1 (K .job .C)) (openGrowing K 0 s) (enterReplacing K s)
+
+seeding-ordered : (K : Course) (o : List ℕ) (s : State) → ordered o (closeSeeding K s) ≡ closeSeeding K (ordered o s)
+unfolding closeSeeding openSeeding noticed
+seeding-ordered K o s =
+    let x = openSeeding K (s .rounds + 1) (worstOf (K .job) (s .palette) (s .rounds + 2)) (noticed K (s .rounds + 2) 1 s) in
+    both-sides (ordered o) (ltb (s .rounds + 1) (K .job .S - 1)) x (enterGrowing K (noticed K (s .rounds + 2) 1 s))
+    ∙ ap (cond (ltb (s .rounds + 1) (K .job .S - 1)) (ordered o x)) (entry-ordered K o (noticed K (s .rounds + 2) 1 s))
+
+module _ (K : Course) (s : State) where
+  seeding-same : closeSeeding (course (K .job) (K .n) []) s ≡ closeSeeding K s
+  unfolding closeSeeding openSeeding noticed enterGrowing openGrowing enterReplacing openReplacing keep errorOf
+  seeding-same = refl
+
+  growing-same : closeGrowing (course (K .job) (K .n) []) s ≡ closeGrowing K s
+  unfolding closeGrowing openGrowing enterReplacing openReplacing keep noticed errorOf
+  growing-same = refl
+
+  replacing-same : closeReplacing (course (K .job) (K .n) []) s ≡ closeReplacing K s
+  unfolding closeReplacing openReplacing enterReducing judged keep noticed errorOf
+  replacing-same = refl
+
+module _ (K : Course) (o h : List ℕ) (p l : List Float) (r : Record) (h2 : List ℕ) (p2 l2 : List Float) (r2 : Record) where
+  pub seeding-any : stateWith [] h2 p2 l2 r2 ≡ closeSeeding (course (K .job) (K .n) []) (stateWith [] h p l r) → stateWith o h2 p2 l2 r2 ≡ closeSeeding K (stateWith o h p l r)
+  seeding-any e = ap (ordered o) (e ∙ seeding-same K (stateWith [] h p l r)) ∙ seeding-ordered K o (stateWith [] h p l r)
+
+  pub growing-any : stateWith [] h2 p2 l2 r2 ≡ closeGrowing (course (K .job) (K .n) []) (stateWith [] h p l r) → stateWith o h2 p2 l2 r2 ≡ closeGrowing K (stateWith o h p l r)
+  growing-any e = ap (ordered o) (e ∙ growing-same K (stateWith [] h p l r)) ∙ growing-ordered K o (stateWith [] h p l r)
+
+  pub replacing-any : stateWith [] h2 p2 l2 r2 ≡ closeReplacing (course (K .job) (K .n) []) (stateWith [] h p l r) → stateWith o h2 p2 l2 r2 ≡ closeReplacing K (stateWith o h p l r)
+  replacing-any e = ap (ordered o) (e ∙ replacing-same K (stateWith [] h p l r)) ∙ replacing-ordered K o (stateWith [] h p l r)

@@ -1,0 +1,60 @@
+-- `run_round::settle` meets its contract. The invariant: what settling gives is still to come, from a state that can be closed. Assumes nothing.
+use mathlib.Core.Path.{sym, _∙_}
+use Rattle.job.specs.Job.{job}
+use Rattle.quantizer.specs.Course.{course}
+use Rattle.stages.specs.State.{stateWith}
+use Rattle.calls.specs.Place.{togo}
+use Rattle.run_round.proofs.Closes.{Settling, begun, to-close, fewer, again, ended}
+use Rattle.run_round.proofs.settle.Statement.{statement}
+use Rattle.run_round.proofs.settle.Tie as tie
+
+abbrev Inv-loop : tie.InvT-loop
+Inv-loop s c t n weight tiles colours counts samples order hints₀ palette₀ least₀ at₀ hints palette least at =
+    Settling (course (job s c t weight tiles colours counts) n samples) (stateWith order hints₀ palette₀ least₀ at₀) (stateWith order hints palette least at)
+
+abbrev μ-loop : tie.MeasureT-loop
+μ-loop s c t n weight tiles colours counts samples order hints₀ palette₀ least₀ at₀ hints palette least at =
+    togo (course (job s c t weight tiles colours counts) n samples) (stateWith order hints palette least at)
+
+loop-holds : tie.Need-loop-holds Inv-loop μ-loop
+loop-holds c = begun _ _ (c .before .before .before .before .before .before .before .before .pre)
+
+is-due-requires : tie.Need-is-due-requires Inv-loop μ-loop
+is-due-requires c κs = tt
+
+finish-round-requires : tie.Need-finish-round-requires Inv-loop μ-loop
+finish-round-requires c κs = to-close _ _ (c .before .before .before .before .before .loop .inv .standing) (sym (c .before .before .before .before .is-due .ensures) ∙ c .before .before .before .if1 .taken)
+
+loop-less : tie.Need-loop-less Inv-loop μ-loop
+loop-less c = fewer _ _ (c .before .before .before .before .before .before .before .before .before .before .before .before .loop .inv .standing) (sym (c .before .before .before .before .before .before .before .before .before .before .before .is-due .ensures) ∙ c .before .before .before .before .before .before .before .before .before .before .if1 .taken) _ (c .before .before .before .before .before .before .finish-round .ensures)
+
+loop-again : tie.Need-loop-again Inv-loop μ-loop
+loop-again c = again _ _ _ (c .before .before .before .before .before .before .before .before .before .before .before .before .loop .inv) (sym (c .before .before .before .before .before .before .before .before .before .before .before .is-due .ensures) ∙ c .before .before .before .before .before .before .before .before .before .before .if1 .taken) _ (c .before .before .before .before .before .before .finish-round .ensures)
+
+same-length : tie.Need-same-length Inv-loop μ-loop
+same-length c = c .before .before .loop .inv .standing .sound .hints ∙ sym (c .before .before .before .before .before .before .before .before .before .before .before .pre .sound .hints)
+
+same-length-2 : tie.Need-same-length-2 Inv-loop μ-loop
+same-length-2 c = c .before .before .loop .inv .standing .sound .held .size ∙ sym (c .before .before .before .before .before .before .before .before .before .before .before .pre .sound .held .size)
+
+same-length-3 : tie.Need-same-length-3 Inv-loop μ-loop
+same-length-3 c = c .before .before .loop .inv .standing .sound .room ∙ sym (c .before .before .before .before .before .before .before .before .before .before .before .pre .sound .room)
+
+returns : tie.Need-returns Inv-loop μ-loop
+returns c = ended _ _ _ (c .before .before .loop .inv) (sym (c .before .is-due .ensures) ∙ c .if1 .left)
+
+pub settle-spec : {M : Type 1} → statement M
+settle-spec =
+    tie.close
+    (tie.spec
+    Inv-loop
+    μ-loop
+    loop-holds
+    is-due-requires
+    finish-round-requires
+    loop-less
+    loop-again
+    same-length
+    same-length-2
+    same-length-3
+    returns)

@@ -1,0 +1,141 @@
+// What closes a round, whatever its stage, and the settling of a run: all that needs no draw.
+// The order and the samples are not read; they are there to be named in what is promised.
+use stages::Record;
+ghost use mathlib.Core.Path.{_≡_};
+ghost use mathlib.Core.Bool.{Bool, _&&_};
+ghost use lib.Dec.{eqb};
+ghost use Rattle.job.specs.Job.{job};
+ghost use Rattle.quantizer.specs.Course.{course};
+ghost use Rattle.stages.specs.State.{stateWith, draws};
+ghost use Rattle.stages.specs.Stages.{finishRound, settle};
+ghost use Rattle.run_round.specs.Settles.{Standing, Closing};
+
+// A round's end. The final draws are one round.
+fn finish_round(
+    s: usize,
+    c: usize,
+    t: usize,
+    n: usize,
+    weight: f32,
+    tiles: &[u32],
+    colours: &[f32],
+    counts: &[u32],
+    samples: &[u32],
+    order: &[u32],
+    hints: &mut [u32],
+    palette: &mut [f32],
+    least: &mut [f32],
+    r: Record,
+) -> Record
+    requires { ⌜ Closing (course (job s c t weight (now tiles) (now colours) (now counts)) n (now samples)) (stateWith (now order) (now hints) (now palette) (now least) r) ⌝ }
+    ensures { λ x. ⌜ stateWith (now (order .entry)) (now (hints .exit)) (now (palette .exit)) (now (least .exit)) x ≡ finishRound (course (job s c t weight (now (tiles .entry)) (now (colours .entry)) (now (counts .entry))) n (now (samples .entry))) (stateWith (now (order .entry)) (now (hints .entry)) (now (palette .entry)) (now (least .entry)) r) ⌝ }
+{
+    if r.stage == 0 {
+        return run_seeding::close_seeding(
+            s,
+            c,
+            t,
+            n,
+            weight,
+            tiles,
+            colours,
+            counts,
+            hints,
+            palette,
+            least,
+            r,
+        );
+    }
+    if r.stage == 1 {
+        return run_growing::close_growing(
+            s,
+            c,
+            t,
+            n,
+            weight,
+            tiles,
+            colours,
+            counts,
+            hints,
+            palette,
+            least,
+            r,
+        );
+    }
+    if r.stage == 2 {
+        return run_replacing::close_replacing(
+            s,
+            c,
+            t,
+            n,
+            weight,
+            tiles,
+            colours,
+            counts,
+            hints,
+            palette,
+            least,
+            r,
+        );
+    }
+    Record {
+        generator: r.generator,
+        stage: 5,
+        rounds: 0,
+        left: 0,
+        made: r.made,
+        error: r.error,
+    }
+}
+
+// Whether a round is to be closed.
+fn is_due(r: Record) -> bool
+    ensures { λ x. ⌜ x ≡ (draws (r .stage) && eqb (r .left) 0) ⌝ }
+{
+    if r.left != 0 {
+        return false;
+    }
+    run_record::makes_draws(r.stage)
+}
+
+// Rounds are closed while one is due.
+pub fn settle(
+    s: usize,
+    c: usize,
+    t: usize,
+    n: usize,
+    weight: f32,
+    tiles: &[u32],
+    colours: &[f32],
+    counts: &[u32],
+    samples: &[u32],
+    order: &[u32],
+    hints: &mut [u32],
+    palette: &mut [f32],
+    least: &mut [f32],
+    r: Record,
+) -> Record
+    requires { ⌜ Standing (course (job s c t weight (now tiles) (now colours) (now counts)) n (now samples)) (stateWith (now order) (now hints) (now palette) (now least) r) ⌝ }
+    ensures { λ x. ⌜ stateWith (now (order .entry)) (now (hints .exit)) (now (palette .exit)) (now (least .exit)) x ≡ settle (course (job s c t weight (now (tiles .entry)) (now (colours .entry)) (now (counts .entry))) n (now (samples .entry))) (stateWith (now (order .entry)) (now (hints .entry)) (now (palette .entry)) (now (least .entry)) r) ⌝ }
+{
+    let mut at = r;
+    while is_due(at) {
+        at = finish_round(
+            s,
+            c,
+            t,
+            n,
+            weight,
+            tiles,
+            colours,
+            counts,
+            samples,
+            order,
+            hints,
+            palette,
+            least,
+            at,
+        );
+    }
+    at
+}
