@@ -24,7 +24,7 @@ use Rattle.run_replacing.specs.Closing.{Lent, Judging}
 use Rattle.run_growing.specs.Grows.{Grown}
 use Rattle.run_seeding.specs.Seeds.{Seeded}
 use Rattle.run_round.specs.Settles.{Standing, Closing}
-use Rattle.run_round.proofs.Orders.{seeding-any, growing-any, replacing-any}
+use Rattle.run_round.specs.Orders.{seeding-any, growing-any, replacing-any}
 
 module _ (K : Course) (o h : List ℕ) (p l : List Float) (r : Record) (A : Closing K (stateWith o h p l r)) where
   lent : Lent (K .job) h p l

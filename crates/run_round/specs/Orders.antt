@@ -1,4 +1,4 @@
--- The closing of a round passes the order and the samples by: what holds without them holds with any. Assumes nothing.
+-- The closing of a round, and a run's first one, pass the order and the samples by: what holds without them holds with any. Assumes nothing.
 use Prim.Native.Nat.{ℕ, _+_, _-_}
 use mathlib.Core.Path.{_≡_, refl, sym, ap, _∙_}
 use mathlib.Core.Bool.{Bool, true, false, cond}
@@ -6,8 +6,9 @@ use mathlib.Core.List.{List, []}
 use lib.Dec.{ltb}
 use lib.Ieee.{Float, binary32, lt, ofBits}
 use Rattle.quantizer.specs.Course.{Course, course}
-use Rattle.quantizer.specs.Seeding.{worstOf}
+use Rattle.quantizer.specs.Seeding.{duplicated, worstOf}
 use Rattle.stages.specs.declared.Record.{Record}
+use Rattle.run_record.specs.Sized.{sized}
 use Rattle.stages.specs.State.{State, stateWith}
 use Rattle.stages.specs.Stages.{noticed, openSeeding, openGrowing, openReplacing, errorOf, keep, judged, enterReplacing, enterGrowing, enterReducing, closeSeeding, closeGrowing, closeReplacing}
 
@@ -59,6 +60,10 @@ module _ (K : Course) (s : State) where
   unfolding closeReplacing openReplacing enterReducing judged keep noticed errorOf
   replacing-same = refl
 
+  entry-same : enterGrowing (course (K .job) (K .n) []) s ≡ enterGrowing K s
+  unfolding enterGrowing openGrowing enterReplacing openReplacing keep noticed errorOf
+  entry-same = refl
+
 module _ (K : Course) (o h : List ℕ) (p l : List Float) (r : Record) (h2 : List ℕ) (p2 l2 : List Float) (r2 : Record) where
   pub seeding-any : stateWith [] h2 p2 l2 r2 ≡ closeSeeding (course (K .job) (K .n) []) (stateWith [] h p l r) → stateWith o h2 p2 l2 r2 ≡ closeSeeding K (stateWith o h p l r)
   seeding-any e = ap (ordered o) (e ∙ seeding-same K (stateWith [] h p l r)) ∙ seeding-ordered K o (stateWith [] h p l r)
@@ -68,3 +73,13 @@ module _ (K : Course) (o h : List ℕ) (p l : List Float) (r : Record) (h2 : Lis
 
   pub replacing-any : stateWith [] h2 p2 l2 r2 ≡ closeReplacing (course (K .job) (K .n) []) (stateWith [] h p l r) → stateWith o h2 p2 l2 r2 ≡ closeReplacing K (stateWith o h p l r)
   replacing-any e = ap (ordered o) (e ∙ replacing-same K (stateWith [] h p l r)) ∙ replacing-ordered K o (stateWith [] h p l r)
+
+  -- a run's first round
+  pub entry-any : stateWith [] h2 p2 l2 r2 ≡ enterGrowing (course (K .job) (K .n) []) (stateWith [] h p l r) → stateWith o h2 p2 l2 r2 ≡ enterGrowing K (stateWith o h p l r)
+  entry-any e = ap (ordered o) (e ∙ entry-same K (stateWith [] h p l r)) ∙ entry-ordered K o (stateWith [] h p l r)
+
+  pub open-any : (round from : ℕ) → stateWith [] [] p2 [] r2 ≡ openSeeding (sized (K .job .S) (K .job .C) (K .n)) round from (stateWith [] [] p [] r)
+      → stateWith o h p2 l r2 ≡ openSeeding K round from (stateWith o h p l r)
+  unfolding openSeeding duplicated
+  open-any round from e =
+      ap (λ (s : State). record { order = o; hints = h; palette = s .palette; least = l; generator = s .generator; stage = s .stage; rounds = s .rounds; left = s .left; made = s .made; error = s .error }) e
