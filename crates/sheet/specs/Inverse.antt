@@ -11,7 +11,7 @@ use lib.Seq.{sets, sets-eq, take-at}
 use lib.Ieee.{Float, binary32, fits}
 use borrow.Author.Tests.{le-leb, eq-eqb, eqb-true, leb-true}
 use Rattle.format.specs.Format.{Answer, refused, accepted, readOf, encode}
-use Rattle.job.specs.Job.{Job, tileSize, mostTileColours}
+use Rattle.job.specs.Job.{Job, tileSize}
 use Rattle.job.specs.Checks.{plainAnswer}
 use Rattle.job.specs.Ready.{Plain, plain-ready}
 use Rattle.sheet_format.specs.Sheet.{edition1, Sheet, whole, sheet, readSheet}
@@ -26,7 +26,7 @@ use Rattle.sheet.specs.Floats.{Singles}
 use Rattle.sheet.specs.Kept.{job-back, palette-back, sheet-good}
 use Rattle.sheet.specs.Again.{sheet-again}
 use Rattle.sheet.specs.Accepted.{within-limit, accepted-says}
-use Rattle.sheet.specs.Taken.{taken}
+use Rattle.sheet.specs.Taken.{content-counts, taken}
 
 -- what was stored in the first places stands there
 pub sets-front : {A : Type 0} (v l : List A) → length v ≤ length l → take (length v) (sets l 0 v) ≡ v
@@ -43,13 +43,17 @@ written-read b x h e = sheet-back edition1 b x h (within-limit b x e .1)
 same-sheet : (x y : Sheet) → _≡_ {A = Answer Sheet} (accepted x) (accepted y) → x ≡ y
 same-sheet x y e = cc
 
--- an accepted sheet's job passes the checks of every call without samples
-pub accepted-job : (b : List ℕ) (x : Sheet) → T (areBytes b) → readSheet edition1 b ≡ accepted x → plainAnswer tileSize (jobOf x) (floats (x .palette)) true ≡ 0
-accepted-job b x h e =
+-- an accepted sheet has few colours, and its job passes the checks of every call without samples
+accepted-total : (b : List ℕ) (x : Sheet) → readSheet edition1 b ≡ accepted x → total (x .content) ≤ 5140
+accepted-total b x e =
     let A = accepted-says b (x .subs) (x .each) (x .tiles) (x .weight) (sym (ap checkedOf e)) in
-    let few = A .fit in
-    let same = same-sheet x _ (sym e ∙ A .is) in
-    taken x (written-read b x h e .1) (subst (λ (y : Sheet). total (y .content) ≤ mostTileColours) (sym same) (omega arith))
+    subst (λ (y : Sheet). total (y .content) ≤ 5140) (sym (same-sheet x _ (sym e ∙ A .is))) (A .fit)
+
+pub accepted-few : (b : List ℕ) (x : Sheet) → T (areBytes b) → readSheet edition1 b ≡ accepted x → length (jobOf x .counts) ≤ 5140
+accepted-few b x h e = omega (arith, accepted-total b x e, content-counts x (written-read b x h e .1))
+
+pub accepted-job : (b : List ℕ) (x : Sheet) → T (areBytes b) → readSheet edition1 b ≡ accepted x → plainAnswer tileSize (jobOf x) (floats (x .palette)) true ≡ 0
+accepted-job b x h e = let few = accepted-total b x e in taken x (written-read b x h e .1) (omega arith)
 
 -- ---- written, then read
 module _ (J : Job) (palette : List Float) (old : List ℕ) (n : ℕ) (new : List ℕ) (w : writeOutcome (Bytes n) new ≡ writeDef tileSize J palette old) where

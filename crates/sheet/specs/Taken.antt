@@ -204,6 +204,9 @@ tiles-say (suc m) (x ∷ v) h =
       small = bounded-append (tileFloats x) (allFloats v) (colours-small (length x) 0 x (and-r (ltb (length x) (2 ^ 7) && leb (length x) 64) (colours edition1 (length x) 0 .good x) g)) (r .small);
     }
 
+pub content-counts : (x : Sheet) → T (sheet edition1 .good x) → total (x .content) ≡ length (allCounts (x .content))
+content-counts x h = tiles-say (x .tiles) (x .content) (content-good x h) .counts
+
 -- ---- a sheet that can be written, of few enough colours
 pub taken : (x : Sheet) → T (sheet edition1 .good x) → total (x .content) ≤ mostTileColours → plainAnswer tileSize (jobOf x) (floats (x .palette)) true ≡ 0
 unfolding plainAnswer among countsFit tileCountsFit

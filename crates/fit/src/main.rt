@@ -1,0 +1,26 @@
+// `fit`: the fits of a sheet's tiles. It reads a sheet from standard input and prints the lines that crate fit_text gives for it.
+// One byte past the largest sheet is enough to know that a sheet is too large. Assumes nothing.
+ghost use mathlib.Core.Path.{_≡_};
+ghost use lib.ListN.{length};
+
+// Room for the largest sheet and one byte more. The contract gives only the length.
+fn sheet_room() -> [u8; 65537]
+    ensures { λ r. ⌜ 65537 ≡ length r ⌝ }
+{
+    [0; 65537]
+}
+
+// Room for the lines of any sheet.
+fn text_room() -> [u8; 34060]
+    ensures { λ r. ⌜ 34060 ≡ length r ⌝ }
+{
+    [0; 34060]
+}
+
+fn main() {
+    let mut sheet = sheet_room();
+    let n = io::read_full(libc::STDIN_FILENO, &mut sheet);
+    let mut text = text_room();
+    let k = fit_text::fit(&sheet[..n], &mut text);
+    io::write_all(libc::STDOUT_FILENO, &text[..k]);
+}

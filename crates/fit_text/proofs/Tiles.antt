@@ -1,0 +1,209 @@
+-- One tile more: its line, its load, and its answer where it is empty and where it is not. Assumes nothing.
+use mathlib.Core.Path.{_≡_, refl, sym, ap, ap₂, _∙_}
+use Prim.Native.Nat.{ℕ, zero, suc, _+_, _*_, _≤_, _<_}
+use native.Mathlib.Omega.{arith}
+use native.Mathlib.Numerals.{add-one}
+use mathlib.Core.Bool.{Bool, true, false, cond, not, true≢false}
+use mathlib.Core.List.{List, [], _++_}
+use lib.Dec.{T, eqb}
+use lib.ListN.{length, getD, set, replicate, length-append}
+use lib.Seq.{sets, getD-set-same, getD-set-other}
+use lib.Ieee.{Float, binary32, toBits, isNan}
+use borrow.Author.Tests.{eqb-true, eqb-false}
+use Rattle.lists.specs.Count.{hit, count}
+use Rattle.lists.specs.Counting.{hit-same, hit-other}
+use Rattle.lists.specs.Firsts.{firsts, hits}
+use Rattle.lists.specs.Hits.{hits-suc}
+use Rattle.ieee.specs.Keys.{Good}
+use Rattle.ieee.specs.Plus.{plus-real}
+use Rattle.assign.specs.Assign.{subpaletteOf}
+use Rattle.choice.specs.Scan.{least-good}
+use Rattle.job.specs.Job.{Job, sizeOf, isEmpty}
+use Rattle.palette.specs.Palette.{distAt}
+use Rattle.palette.specs.Sums.{dist-good}
+use Rattle.palette_tile.specs.Tiles.{tileAt, presentIn, fitAt, winner, Shown}
+use Rattle.palette_tile.specs.Present.{shown-present, winner-below, tile-counted}
+use Rattle.io.specs.Digits.{digits}
+use Rattle.fit_lines.specs.Lines.{Stored, decimal, tileLine, loadLine, headLine, refusedLine, tileWord, subWord, distWord, lineEnd, loadWord, space, tilesWord, subpalettesWord, refusedWord}
+use Rattle.fit_lines.specs.Lengths.{field-most, length-digits}
+use Rattle.fit_lines.specs.Stores.{both-stored}
+use Rattle.fit_text.specs.Text.{distBits, tileLines, loadOf, loadLines, fitText}
+
+-- ---- how long a line is, at most
+pub tile-most : (i k d : ℕ) → length (tileLine i k d) ≤ 33
+unfolding tileLine
+tile-most i k d =
+    let a : List ℕ = tileWord ++ decimal i in
+    let b : List ℕ = subWord ++ decimal k in
+    omega (
+      arith,
+      length-append (a ++ b ++ distWord ++ digits 16 8 d) lineEnd,
+      length-append (a ++ b ++ distWord) (digits 16 8 d),
+      length-append (a ++ b) distWord,
+      length-append a b,
+      field-most tileWord i,
+      field-most subWord k,
+      length-digits 16 8 d,
+    )
+
+pub load-most : (k n : ℕ) → length (loadLine k n) ≤ 15
+unfolding loadLine
+load-most k n =
+    let a : List ℕ = loadWord ++ decimal k in
+    let b : List ℕ = space ++ decimal n in
+    omega (arith, length-append (a ++ b) lineEnd, length-append a b, field-most loadWord k, field-most space n)
+
+pub head-most : (t s : ℕ) → length (headLine t s) ≤ 28
+unfolding headLine
+head-most t s =
+    let a : List ℕ = tilesWord ++ decimal t in
+    let b : List ℕ = subpalettesWord ++ decimal s in
+    omega (arith, length-append (a ++ b) lineEnd, length-append a b, field-most tilesWord t, field-most subpalettesWord s)
+
+pub not-empty : (n : ℕ) (r : Bool) → r ≡ eqb n 0 → r ≡ false → 1 ≤ n
+not-empty zero r e h = absurd (true≢false (sym e ∙ h))
+not-empty (suc n) r e h = omega arith
+
+hit-most : (b : Bool) → hit b ≤ 1
+unfolding hit
+hit-most true = omega arith
+hit-most false = omega arith
+
+module _ (J : Job) (p : List Float) where
+  -- ---- the answer of a tile
+  pub empty-sub : (t : ℕ) (r : Bool) → r ≡ eqb (sizeOf (J .tiles) t) 0 → r ≡ true → (0 ≡ subpaletteOf J p t) × (0 ≡ distBits J p t)
+  unfolding subpaletteOf distBits
+  empty-sub t r e h = (
+    sym (ap (λ (b : Bool). cond b 0 (winner J p (J .S) (J .C) t)) (sym e ∙ h)),
+    sym (ap (λ (b : Bool). cond b 0 (toBits binary32 (fitAt J p (J .S) (J .C) t .dist))) (sym e ∙ h)),
+  )
+
+  pub full-sub : (t : ℕ) (r : Bool) (k : ℕ) (d : Float) → r ≡ eqb (sizeOf (J .tiles) t) 0 → r ≡ false → k ≡ fitAt J p (J .S) (J .C) t .index → d ≡ fitAt J p (J .S) (J .C) t .dist
+      → (k ≡ subpaletteOf J p t) × (toBits binary32 d ≡ distBits J p t)
+  unfolding subpaletteOf distBits
+  full-sub t r k d e h ek ed = (
+    ek ∙ sym (ap (λ (b : Bool). cond b 0 (winner J p (J .S) (J .C) t)) (sym e ∙ h)),
+    ap (toBits binary32) ed ∙ sym (ap (λ (b : Bool). cond b 0 (toBits binary32 (fitAt J p (J .S) (J .C) t .dist))) (sym e ∙ h)),
+  )
+
+  module _ (S : Shown J p (J .S) (J .C)) where
+    pub dist-real : (t : ℕ) → t < J .T → T (not (isNan (fitAt J p (J .S) (J .C) t .dist)))
+    unfolding fitAt
+    dist-real t l =
+        plus-real _ (least-good (distAt (presentIn J p (J .S) (J .C)) (tileAt J t) (J .weight)) (J .S)
+        (dist-good (presentIn J p (J .S) (J .C)) (tileAt J t) (J .weight) (shown-present J p (J .S) (J .C) S) (tile-counted J p (J .S) (J .C) S t l) (S .ready .weight)) .pos)
+
+    pub sub-below : (t : ℕ) → subpaletteOf J p t < J .S
+    unfolding subpaletteOf
+    sub-below t = by (isEmpty J t) (winner-below J p (J .S) (J .C) S t) (S .subs)
+      where
+        by : (b : Bool) → winner J p (J .S) (J .C) t < J .S → 1 ≤ J .S → cond b 0 (winner J p (J .S) (J .C) t) < J .S
+        by true w s = omega arith
+        by false w s = w
+
+  -- ---- lines
+  pub lines-none : (l : List ℕ) (at : ℕ) → Stored l l at at (tileLines J p 0)
+  unfolding tileLines
+  lines-none l at = record { text = refl; place = omega arith }
+
+  pub lines-more : (l m n : List ℕ) (at q r i k d : ℕ) → Stored l m at q (tileLines J p i) → Stored m n q r (tileLine i k d) → k ≡ subpaletteOf J p i → d ≡ distBits J p i → Stored l n at r (tileLines J p (i + 1))
+  unfolding tileLines
+  lines-more l m n at q r i k d a b ek ed =
+      go (i + 1) (add-one i) (both-stored a (over b))
+    where
+      over : Stored m n q r (tileLine i k d) → Stored m n q r (tileLine i (subpaletteOf J p i) (distBits J p i))
+      over s = record { text = s .text ∙ ap₂ (λ (x y : ℕ). sets m q (tileLine i x y)) ek ed; place = s .place ∙ ap₂ (λ (x y : ℕ). q + length (tileLine i x y)) ek ed }
+
+      go : (j : ℕ) → j ≡ suc i → Stored l n at r (tileLines J p i ++ tileLine i (subpaletteOf J p i) (distBits J p i)) → Stored l n at r (tileLines J p j)
+      go j e s = record { text = s .text ∙ ap (λ (x : ℕ). sets l at (tileLines J p x)) (sym e); place = s .place ∙ ap (λ (x : ℕ). at + length (tileLines J p x)) (sym e) }
+
+  pub tile-lines-most : (n : ℕ) → length (tileLines J p n) ≤ 33 * n
+  unfolding tileLines
+  tile-lines-most zero = omega arith
+  tile-lines-most (suc n) =
+      omega (arith, length-append (tileLines J p n) (tileLine n (subpaletteOf J p n) (distBits J p n)), tile-most n (subpaletteOf J p n) (distBits J p n), tile-lines-most n)
+
+  -- ---- loads
+  pub load-none : (k : ℕ) → loadOf J p k 0 ≡ 0
+  unfolding loadOf firsts count
+  load-none k = refl
+
+  pub load-few : (k n : ℕ) → loadOf J p k n ≤ n
+  unfolding loadOf
+  load-few k zero = omega (arith, load-none k)
+  load-few k (suc n) = omega (arith, hits-suc (subpaletteOf J p) k n, load-few k n, hit-most (eqb (subpaletteOf J p n) k))
+
+  pub load-more : (loads : List ℕ) (i s : ℕ) → s ≡ subpaletteOf J p i → s < length loads → ((k : ℕ) → getD loads k 0 ≡ loadOf J p k i) → (k : ℕ) → getD (set loads s (getD loads s 0 + 1)) k 0 ≡ loadOf J p k (i + 1)
+  unfolding loadOf
+  load-more loads i s e l all k = by (eqb k s) refl
+    where
+      same : k ≡ s → getD (set loads s (getD loads s 0 + 1)) k 0 ≡ hits (subpaletteOf J p) k (i + 1)
+      same z =
+          ap (λ (j : ℕ). getD (set loads s (getD loads s 0 + 1)) j 0) z ∙ getD-set-same loads s (getD loads s 0 + 1) 0 l
+          ∙ ap (λ (j : ℕ). j + 1) (ap (λ (j : ℕ). getD loads j 0) (sym z) ∙ all k)
+          ∙ sym (ap (hits (subpaletteOf J p) k) (add-one i) ∙ hits-suc (subpaletteOf J p) k i ∙ ap (λ (j : ℕ). hits (subpaletteOf J p) k i + j) (hit-same (subpaletteOf J p i) k (sym e ∙ sym z)))
+
+      other : (k ≡ s → ⊥) → getD (set loads s (getD loads s 0 + 1)) k 0 ≡ hits (subpaletteOf J p) k (i + 1)
+      other z =
+          getD-set-other loads s k (getD loads s 0 + 1) 0 z ∙ all k
+          ∙ sym (ap (hits (subpaletteOf J p) k) (add-one i) ∙ hits-suc (subpaletteOf J p) k i ∙ ap (λ (j : ℕ). hits (subpaletteOf J p) k i + j) (hit-other (subpaletteOf J p i) k (λ f. z (sym f ∙ sym e))) ∙ omega arith)
+
+      by : (b : Bool) → eqb k s ≡ b → getD (set loads s (getD loads s 0 + 1)) k 0 ≡ hits (subpaletteOf J p) k (i + 1)
+      by true h = same (eqb-true k s h)
+      by false h = other (eqb-false k s h)
+
+-- ---- the lines of the loads
+pub loads-none : (f : ℕ → ℕ) (l : List ℕ) (at : ℕ) → Stored l l at at (loadLines f 0)
+unfolding loadLines
+loads-none f l at = record { text = refl; place = omega arith }
+
+pub loads-more : (f : ℕ → ℕ) (l m n : List ℕ) (at q r k : ℕ) → Stored l m at q (loadLines f k) → Stored m n q r (loadLine k (f k)) → Stored l n at r (loadLines f (k + 1))
+unfolding loadLines
+loads-more f l m n at q r k a b = go (k + 1) (add-one k) (both-stored a b)
+  where
+    go : (j : ℕ) → j ≡ suc k → Stored l n at r (loadLines f k ++ loadLine k (f k)) → Stored l n at r (loadLines f j)
+    go j e s = record { text = s .text ∙ ap (λ (x : ℕ). sets l at (loadLines f x)) (sym e); place = s .place ∙ ap (λ (x : ℕ). at + length (loadLines f x)) (sym e) }
+
+pub loads-same : (f g : ℕ → ℕ) (n : ℕ) → ((k : ℕ) → f k ≡ g k) → loadLines f n ≡ loadLines g n
+unfolding loadLines
+loads-same f g zero h = refl
+loads-same f g (suc n) h = ap₂ (λ (a b : List ℕ). a ++ b) (loads-same f g n h) (ap (loadLine n) (h n))
+
+loads-most : (f : ℕ → ℕ) (n : ℕ) → length (loadLines f n) ≤ 15 * n
+unfolding loadLines
+loads-most f zero = omega arith
+loads-most f (suc n) = omega (arith, length-append (loadLines f n) (loadLine n (f n)), load-most n (f n), loads-most f n)
+
+-- what any job's lines take, at most
+pub fit-most : (J : Job) (p : List Float) → J .T ≤ 1024 → J .S ≤ 16 → length (fitText J p) ≤ 34060
+unfolding fitText
+fit-most J p t s =
+    let f : ℕ → ℕ = λ k. loadOf J p k (J .T) in
+    omega (
+      arith,
+      length-append (headLine (J .T) (J .S) ++ tileLines J p (J .T)) (loadLines f (J .S)),
+      length-append (headLine (J .T) (J .S)) (tileLines J p (J .T)),
+      head-most (J .T) (J .S),
+      tile-lines-most J p (J .T),
+      loads-most f (J .S),
+    )
+
+pub refused-most : (n : ℕ) → length (refusedLine n) ≤ 13
+unfolding refusedLine
+refused-most n = omega (arith, length-append (refusedWord ++ decimal n) lineEnd, field-most refusedWord n)
+
+pub zero-at : (n k : ℕ) → _≡_ {A = ℕ} (getD (replicate n 0) k 0) 0
+zero-at zero k = refl
+zero-at (suc n) zero = refl
+zero-at (suc n) (suc k) = zero-at n k
+
+-- ---- head, tiles and loads
+pub all-stored : (J : Job) (p : List Float) (loads : List ℕ) (l m n o : List ℕ) (a b r : ℕ) → Stored l m 0 a (headLine (J .T) (J .S)) → Stored m n a b (tileLines J p (J .T))
+    → Stored n o b r (loadLines (λ k. getD loads k 0) (J .S)) → ((k : ℕ) → getD loads k 0 ≡ loadOf J p k (J .T)) → Stored l o 0 r (fitText J p)
+unfolding fitText
+all-stored J p loads l m n o a b r x y z h =
+    both-stored (both-stored x y)
+    (record {
+      text = z .text ∙ ap (sets n b) (loads-same (λ k. getD loads k 0) (λ k. loadOf J p k (J .T)) (J .S) h);
+      place = z .place ∙ ap (λ (u : List ℕ). b + length u) (loads-same (λ k. getD loads k 0) (λ k. loadOf J p k (J .T)) (J .S) h);
+    })

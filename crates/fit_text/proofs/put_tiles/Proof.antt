@@ -1,0 +1,113 @@
+-- `put_tiles` meets its contract. The loop's invariant: the lines of the tiles passed stand there, and the loads count them. Assumes nothing.
+use Prim.Native.Nat.{ℕ, _≤_, _+_, _-_, _*_}
+use mathlib.Core.Path.{_≡_, refl, sym, ap, _∙_, subst}
+use native.Mathlib.Omega.{arith}
+use lib.ListN.{length, getD, length-set}
+use Rattle.job.specs.Job.{job}
+use Rattle.fit_lines.specs.Lines.{Stored}
+use Rattle.fit_text.specs.Text.{tileLines, loadOf}
+use Rattle.fit_text.proofs.Tiles.{tile-most, sub-below, lines-none, lines-more, load-none, load-few, load-more}
+use Rattle.fit_text.proofs.put_tiles.Statement.{statement}
+use Rattle.fit_text.proofs.put_tiles.Tie as tie
+
+abbrev Inv-loop : tie.InvT-loop
+Inv-loop s c t weight tiles colours counts palette hints₀ loads₀ out₀ at q₀ i₀ hints loads out q i =
+    (i ≤ t) × (length hints ≡ t) × (length loads ≡ length loads₀) × (length out ≡ length out₀) × (q ≤ at + 33 * i)
+    × Stored out₀ out at q (tileLines (job s c t weight tiles colours counts) palette i) × ((k : ℕ) → getD loads k 0 ≡ loadOf (job s c t weight tiles colours counts) palette k i)
+
+abbrev μ-loop : tie.MeasureT-loop
+μ-loop s c t weight tiles colours counts palette hints₀ loads₀ out₀ at q₀ i₀ hints loads out q i = t - i
+
+loop-holds : tie.Need-loop-holds Inv-loop μ-loop
+loop-holds c = (
+  omega arith,
+  c .before .before .before .before .before .before .before .pre .1,
+  refl,
+  refl,
+  omega arith,
+  lines-none (job (c .before .before .before .before .before .before .before .args .s) (c .before .before .before .before .before .before .before .args .c) (c .before .before .before .before .before .before .before .args .t) (c .before .before .before .before .before .before .before .args .weight) (c .before .before .before .before .before .before .before .args .tiles .now) (c .before .before .before .before .before .before .before .args .colours .now) (c .before .before .before .before .before .before .before .args .counts .now)) (c .before .before .before .before .before .before .before .args .palette .now) (c .before .before .before .before .before .before .before .args .out .now) (c .before .before .before .before .before .before .before .args .at),
+  λ k. c .before .before .before .before .before .before .before .pre .3 k ∙ sym (load-none (job (c .before .before .before .before .before .before .before .args .s) (c .before .before .before .before .before .before .before .args .c) (c .before .before .before .before .before .before .before .args .t) (c .before .before .before .before .before .before .before .args .weight) (c .before .before .before .before .before .before .before .args .tiles .now) (c .before .before .before .before .before .before .before .args .colours .now) (c .before .before .before .before .before .before .before .args .counts .now)) (c .before .before .before .before .before .before .before .args .palette .now) k),
+)
+
+tile-found-requires : tie.Need-tile-found-requires Inv-loop μ-loop
+tile-found-requires c κs = record { shown = c .before .before .before .before .before .before .before .before .before .before .pre .0; tile = omega arith; each = c .before .before .loop .inv .1 }
+
+cast-put-tile : tie.Need-cast-put-tile Inv-loop μ-loop
+cast-put-tile c = omega (arith, c .before .before .before .before .before .before .before .before .before .before .before .before .before .before .pre .0 .ready .sizes .tiles)
+
+put-tile-requires : tie.Need-put-tile-requires Inv-loop μ-loop
+put-tile-requires c κs = omega arith
+
+cast-k : tie.Need-cast-k Inv-loop μ-loop
+cast-k c = omega arith
+
+mul-loads : tie.Need-mul-loads Inv-loop μ-loop
+mul-loads c = omega arith
+
+slice-read-loads : tie.Need-slice-read-loads Inv-loop μ-loop
+slice-read-loads c = omega (arith, c .before .before .before .before .before .before .before .before .tile-found .ensures .0, sub-below (job (c .before .before .before .before .before .before .before .before .before .before .before .before .before .before .before .before .before .before .before .args .s) (c .before .before .before .before .before .before .before .before .before .before .before .before .before .before .before .before .before .before .before .args .c) (c .before .before .before .before .before .before .before .before .before .before .before .before .before .before .before .before .before .before .before .args .t) (c .before .before .before .before .before .before .before .before .before .before .before .before .before .before .before .before .before .before .before .args .weight) (c .before .before .before .before .before .before .before .before .before .before .before .before .before .before .before .before .before .before .before .args .tiles .now) (c .before .before .before .before .before .before .before .before .before .before .before .before .before .before .before .before .before .before .before .args .colours .now) (c .before .before .before .before .before .before .before .before .before .before .before .before .before .before .before .before .before .before .before .args .counts .now)) (c .before .before .before .before .before .before .before .before .before .before .before .before .before .before .before .before .before .before .before .args .palette .now) (c .before .before .before .before .before .before .before .before .before .before .before .before .before .before .before .before .before .before .before .pre .0) (c .before .before .before .before .before .before .before .before .before .before .before .loop .i))
+
+add-loads : tie.Need-add-loads Inv-loop μ-loop
+add-loads c = omega (arith, c .before .before .before .before .before .before .before .before .before .before .before .loop .inv .6 (c .before .before .before .before .before .before .before .before .tile-found .result .sub), load-few (job (c .before .before .before .before .before .before .before .before .before .before .before .before .before .before .before .before .before .before .before .args .s) (c .before .before .before .before .before .before .before .before .before .before .before .before .before .before .before .before .before .before .before .args .c) (c .before .before .before .before .before .before .before .before .before .before .before .before .before .before .before .before .before .before .before .args .t) (c .before .before .before .before .before .before .before .before .before .before .before .before .before .before .before .before .before .before .before .args .weight) (c .before .before .before .before .before .before .before .before .before .before .before .before .before .before .before .before .before .before .before .args .tiles .now) (c .before .before .before .before .before .before .before .before .before .before .before .before .before .before .before .before .before .before .before .args .colours .now) (c .before .before .before .before .before .before .before .before .before .before .before .before .before .before .before .before .before .before .before .args .counts .now)) (c .before .before .before .before .before .before .before .before .before .before .before .before .before .before .before .before .before .before .before .args .palette .now) (c .before .before .before .before .before .before .before .before .tile-found .result .sub) (c .before .before .before .before .before .before .before .before .before .before .before .loop .i), c .before .before .before .before .before .before .before .before .before .before .before .before .before .before .before .before .before .before .before .pre .0 .ready .sizes .tiles)
+
+slice-write-loads : tie.Need-slice-write-loads Inv-loop μ-loop
+slice-write-loads c = omega (arith, c .before .before .before .before .before .before .before .before .tile-found .ensures .0, sub-below (job (c .before .before .before .before .before .before .before .before .before .before .before .before .before .before .before .before .before .before .before .args .s) (c .before .before .before .before .before .before .before .before .before .before .before .before .before .before .before .before .before .before .before .args .c) (c .before .before .before .before .before .before .before .before .before .before .before .before .before .before .before .before .before .before .before .args .t) (c .before .before .before .before .before .before .before .before .before .before .before .before .before .before .before .before .before .before .before .args .weight) (c .before .before .before .before .before .before .before .before .before .before .before .before .before .before .before .before .before .before .before .args .tiles .now) (c .before .before .before .before .before .before .before .before .before .before .before .before .before .before .before .before .before .before .before .args .colours .now) (c .before .before .before .before .before .before .before .before .before .before .before .before .before .before .before .before .before .before .before .args .counts .now)) (c .before .before .before .before .before .before .before .before .before .before .before .before .before .before .before .before .before .before .before .args .palette .now) (c .before .before .before .before .before .before .before .before .before .before .before .before .before .before .before .before .before .before .before .pre .0) (c .before .before .before .before .before .before .before .before .before .before .before .loop .i))
+
+add-i : tie.Need-add-i Inv-loop μ-loop
+add-i c = omega arith
+
+loop-less : tie.Need-loop-less Inv-loop μ-loop
+loop-less c = omega arith
+
+loop-again : tie.Need-loop-again Inv-loop μ-loop
+loop-again c =
+    let room = tile-most (c .before .before .before .before .before .before .before .before .before .before .before .loop .i) (c .before .before .before .before .before .before .before .before .tile-found .result .sub) (c .before .before .before .before .before .before .before .before .tile-found .result .bits) in (
+      omega arith,
+      c .before .before .before .before .before .before .before .before .tile-found .kept .1 .1 .1 .1 .1 .1 .1 .1 .0 ∙ c .before .before .before .before .before .before .before .before .before .before .before .loop .inv .1,
+      length-set (c .before .before .before .before .before .before .before .before .before .before .before .loop .loads) _ _ ∙ c .before .before .before .before .before .before .before .before .before .before .before .loop .inv .2,
+      c .before .before .before .before .put-tile .kept .0 ∙ c .before .before .before .before .before .before .before .before .before .before .before .loop .inv .3,
+      omega (arith, c .before .before .before .before .put-tile .ensures .place),
+      lines-more (job (c .before .before .before .before .before .before .before .before .before .before .before .before .before .before .before .before .before .before .before .args .s) (c .before .before .before .before .before .before .before .before .before .before .before .before .before .before .before .before .before .before .before .args .c) (c .before .before .before .before .before .before .before .before .before .before .before .before .before .before .before .before .before .before .before .args .t) (c .before .before .before .before .before .before .before .before .before .before .before .before .before .before .before .before .before .before .before .args .weight) (c .before .before .before .before .before .before .before .before .before .before .before .before .before .before .before .before .before .before .before .args .tiles .now) (c .before .before .before .before .before .before .before .before .before .before .before .before .before .before .before .before .before .before .before .args .colours .now) (c .before .before .before .before .before .before .before .before .before .before .before .before .before .before .before .before .before .before .before .args .counts .now)) (c .before .before .before .before .before .before .before .before .before .before .before .before .before .before .before .before .before .before .before .args .palette .now) (c .before .before .before .before .before .before .before .before .before .before .before .before .before .before .before .before .before .before .before .args .out .now) (c .before .before .before .before .before .before .before .before .before .before .before .loop .out) (c .before .before .before .before .put-tile .last .0) (c .before .before .before .before .before .before .before .before .before .before .before .before .before .before .before .before .before .before .before .args .at) (c .before .before .before .before .before .before .before .before .before .before .before .loop .q) (c .before .before .before .before .put-tile .result) (c .before .before .before .before .before .before .before .before .before .before .before .loop .i) (c .before .before .before .before .before .before .before .before .tile-found .result .sub) (c .before .before .before .before .before .before .before .before .tile-found .result .bits)
+          (c .before .before .before .before .before .before .before .before .before .before .before .loop .inv .5) (c .before .before .before .before .put-tile .ensures) (c .before .before .before .before .before .before .before .before .tile-found .ensures .0) (c .before .before .before .before .before .before .before .before .tile-found .ensures .1),
+      load-more (job (c .before .before .before .before .before .before .before .before .before .before .before .before .before .before .before .before .before .before .before .args .s) (c .before .before .before .before .before .before .before .before .before .before .before .before .before .before .before .before .before .before .before .args .c) (c .before .before .before .before .before .before .before .before .before .before .before .before .before .before .before .before .before .before .before .args .t) (c .before .before .before .before .before .before .before .before .before .before .before .before .before .before .before .before .before .before .before .args .weight) (c .before .before .before .before .before .before .before .before .before .before .before .before .before .before .before .before .before .before .before .args .tiles .now) (c .before .before .before .before .before .before .before .before .before .before .before .before .before .before .before .before .before .before .before .args .colours .now) (c .before .before .before .before .before .before .before .before .before .before .before .before .before .before .before .before .before .before .before .args .counts .now)) (c .before .before .before .before .before .before .before .before .before .before .before .before .before .before .before .before .before .before .before .args .palette .now) (c .before .before .before .before .before .before .before .before .before .before .before .loop .loads) (c .before .before .before .before .before .before .before .before .before .before .before .loop .i) (c .before .before .before .before .before .before .before .before .tile-found .result .sub) (c .before .before .before .before .before .before .before .before .tile-found .ensures .0)
+          (omega (arith, c .before .before .before .before .before .before .before .before .tile-found .ensures .0, sub-below (job (c .before .before .before .before .before .before .before .before .before .before .before .before .before .before .before .before .before .before .before .args .s) (c .before .before .before .before .before .before .before .before .before .before .before .before .before .before .before .before .before .before .before .args .c) (c .before .before .before .before .before .before .before .before .before .before .before .before .before .before .before .before .before .before .before .args .t) (c .before .before .before .before .before .before .before .before .before .before .before .before .before .before .before .before .before .before .before .args .weight) (c .before .before .before .before .before .before .before .before .before .before .before .before .before .before .before .before .before .before .before .args .tiles .now) (c .before .before .before .before .before .before .before .before .before .before .before .before .before .before .before .before .before .before .before .args .colours .now) (c .before .before .before .before .before .before .before .before .before .before .before .before .before .before .before .before .before .before .before .args .counts .now)) (c .before .before .before .before .before .before .before .before .before .before .before .before .before .before .before .before .before .before .before .args .palette .now) (c .before .before .before .before .before .before .before .before .before .before .before .before .before .before .before .before .before .before .before .pre .0) (c .before .before .before .before .before .before .before .before .before .before .before .loop .i))) (c .before .before .before .before .before .before .before .before .before .before .before .loop .inv .6),
+    )
+
+same-length : tie.Need-same-length Inv-loop μ-loop
+same-length c = omega arith
+
+same-length-2 : tie.Need-same-length-2 Inv-loop μ-loop
+same-length-2 c = omega arith
+
+same-length-3 : tie.Need-same-length-3 Inv-loop μ-loop
+same-length-3 c = omega arith
+
+returns : tie.Need-returns Inv-loop μ-loop
+returns c =
+    let e : c .before .loop .i ≡ c .before .before .before .before .before .before .before .before .before .args .t = omega arith in (
+      subst (λ (k : ℕ). Stored (c .before .before .before .before .before .before .before .before .before .args .out .now) (c .before .loop .out) (c .before .before .before .before .before .before .before .before .before .args .at) (c .before .loop .q) (tileLines (job (c .before .before .before .before .before .before .before .before .before .args .s) (c .before .before .before .before .before .before .before .before .before .args .c) (c .before .before .before .before .before .before .before .before .before .args .t) (c .before .before .before .before .before .before .before .before .before .args .weight) (c .before .before .before .before .before .before .before .before .before .args .tiles .now) (c .before .before .before .before .before .before .before .before .before .args .colours .now) (c .before .before .before .before .before .before .before .before .before .args .counts .now)) (c .before .before .before .before .before .before .before .before .before .args .palette .now) k)) e (c .before .loop .inv .5),
+      λ k. c .before .loop .inv .6 k ∙ ap (loadOf (job (c .before .before .before .before .before .before .before .before .before .args .s) (c .before .before .before .before .before .before .before .before .before .args .c) (c .before .before .before .before .before .before .before .before .before .args .t) (c .before .before .before .before .before .before .before .before .before .args .weight) (c .before .before .before .before .before .before .before .before .before .args .tiles .now) (c .before .before .before .before .before .before .before .before .before .args .colours .now) (c .before .before .before .before .before .before .before .before .before .args .counts .now)) (c .before .before .before .before .before .before .before .before .before .args .palette .now) k) e,
+    )
+
+pub put-tiles-spec : {M : Type 1} → statement M
+put-tiles-spec =
+    tie.close
+    (tie.spec
+    Inv-loop
+    μ-loop
+    loop-holds
+    tile-found-requires
+    cast-put-tile
+    put-tile-requires
+    cast-k
+    mul-loads
+    slice-read-loads
+    add-loads
+    slice-write-loads
+    add-i
+    loop-less
+    loop-again
+    same-length
+    same-length-2
+    same-length-3
+    returns)

@@ -1,0 +1,73 @@
+-- What `fit` prints for a sheet. Definitions only. Assumes nothing.
+use Prim.Native.Nat.{ℕ, zero, suc, _+_, _*_, _≤_}
+use mathlib.Core.Path.{_≡_}
+use mathlib.Core.Bool.{Bool, cond}
+use mathlib.Core.List.{List, [], _++_}
+use lib.Dec.{leb}
+use lib.ListN.{length, take}
+use lib.Seq.{sets}
+use lib.Ieee.{Float, binary32, toBits}
+use Rattle.lists.specs.Firsts.{hits}
+use Rattle.assign.specs.Assign.{subpaletteOf}
+use Rattle.format.specs.Format.{Answer, refused, accepted}
+use Rattle.job.specs.Job.{Job, job, isEmpty}
+use Rattle.palette_tile.specs.Tiles.{fitAt, Shown}
+use Rattle.fit_lines.specs.Lines.{Stored, headLine, tileLine, loadLine, refusedLine}
+use Rattle.sheet_format.specs.Sheet.{Sheet, edition1, readSheet}
+use Rattle.sheet_format.specs.Lists.{floats}
+use Rattle.sheet.specs.Sheets.{jobOf}
+
+-- the pattern of a tile's distance to the subpalette that fits it best; 0 of an empty one
+unfoldable pub distBits : Job → List Float → ℕ → ℕ
+distBits J palette t = cond (isEmpty J t) 0 (toBits binary32 (fitAt J palette (J .S) (J .C) t .dist))
+
+-- the lines of the first n tiles
+unfoldable pub tileLines : Job → List Float → ℕ → List ℕ
+tileLines J palette zero = []
+tileLines J palette (suc n) = tileLines J palette n ++ tileLine n (subpaletteOf J palette n) (distBits J palette n)
+
+-- how many of the first n tiles are assigned to subpalette k
+unfoldable pub loadOf : Job → List Float → ℕ → ℕ → ℕ
+loadOf J palette k n = hits (subpaletteOf J palette) k n
+
+-- the lines of n subpalettes, with the loads that f gives
+unfoldable pub loadLines : (ℕ → ℕ) → ℕ → List ℕ
+loadLines f zero = []
+loadLines f (suc n) = loadLines f n ++ loadLine n (f n)
+
+unfoldable pub fitText : Job → List Float → List ℕ
+fitText J palette = headLine (J .T) (J .S) ++ tileLines J palette (J .T) ++ loadLines (λ k. loadOf J palette k (J .T)) (J .S)
+
+abbrev pub textOf : Answer Sheet → List ℕ
+textOf (refused n) = refusedLine n
+textOf (accepted x) = fitText (jobOf x) (floats (x .palette))
+
+-- ---- into lent bytes: none are written where there is too little room for any sheet's lines
+pub record FitOutcome : Type 0 where
+  pub bytes : ℕ
+  pub after : List ℕ
+
+abbrev pub fitOutcome : ℕ → List ℕ → FitOutcome
+fitOutcome n h = record { bytes = n; after = h }
+
+unfoldable pub fitDef : List ℕ → List ℕ → FitOutcome
+fitDef sheet found =
+    cond (leb 34060 (length found)) (fitOutcome (length (textOf (readSheet edition1 sheet))) (sets found 0 (textOf (readSheet edition1 sheet)))) (fitOutcome 0 found)
+
+-- ---- slices that begin with the lists of a job that passed its checks, and with its palette
+pub record Begins (tiles : List ℕ) (colours : List Float) (counts : List ℕ) (palette : List Float) (J : Job) (p : List Float) : Type 0 where
+  pub shown : Shown J p (J .S) (J .C)
+  pub tiled : (length (J .tiles) ≤ length tiles) × (take (length (J .tiles)) tiles ≡ J .tiles)
+  pub coloured : (length (J .colours) ≤ length colours) × (take (length (J .colours)) colours ≡ J .colours)
+  pub counted : (length (J .counts) ≤ length counts) × (take (length (J .counts)) counts ≡ J .counts)
+  pub given : (length p ≤ length palette) × (take (length p) palette ≡ p)
+
+-- a job of these sizes and this weight
+abbrev pub Holds : ℕ → ℕ → ℕ → Float → List ℕ → List Float → List ℕ → List Float → Type 0
+Holds s c t weight tiles colours counts palette =
+    (tb : List ℕ) × (f : List Float) × (cs : List ℕ) × (p : List Float) × Begins tiles colours counts palette (job s c t weight tb f cs) p
+
+-- its lines stand in the first places
+abbrev pub Prints : ℕ → ℕ → ℕ → Float → List ℕ → List Float → List ℕ → List Float → List ℕ → List ℕ → ℕ → Type 0
+Prints s c t weight tiles colours counts palette before after n =
+    (tb : List ℕ) (f : List Float) (cs : List ℕ) (p : List Float) → Begins tiles colours counts palette (job s c t weight tb f cs) p → Stored before after 0 n (fitText (job s c t weight tb f cs) p)
