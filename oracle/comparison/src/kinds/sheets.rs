@@ -1,6 +1,9 @@
 //! The fit sheet, against a reader, a writer and a fit that are written here: sheets of all sizes up to the limit, each bit of a
 //! small one changed, each cut of it, bytes after it, faults in pairs, and what is no number in each component's place.
 
+use std::io::Write;
+use std::process::{Command, Stdio};
+
 use terms::jobs::{self, Colours};
 use terms::rng::Rng;
 
@@ -16,7 +19,11 @@ pub const KINDS: &[Kind] = &[
     kind("sheet bits", 15, bits),
     kind("largest sheets", 30, largest),
     kind("sheet writing", 10_000, writing),
+    kind("program fit", 300, program),
 ];
+
+/// Where the gate leaves the program, seen from the folder that the comparison runs in.
+const FIT: &str = "../target/bin/fit";
 
 /// The room that a reading needs: tile entries of two numbers, colours of three, counts, palette numbers.
 const ROOM: [usize; 4] = [2048, 15_420, 5140, 768];
@@ -88,6 +95,26 @@ fn largest(rng: &mut Rng, case: u64, tally: &mut Tally) {
     compare(&bytes, tally);
     let size = rng.pick(&[sheet::MOST_BYTES, sheet::MOST_BYTES + 1, 2 * sheet::MOST_BYTES]);
     compare(&[bytes, vec![0; size]].concat()[..size], tally);
+}
+
+/// The program `fit` as a process: every line that it prints, for sheets whole and damaged, small and near the limit.
+fn program(rng: &mut Rng, case: u64, tally: &mut Tally) {
+    let mut bytes = sheet::written(&if rng.once_in(10) { large(rng, case as usize) } else { small(rng) });
+    for _ in 0..rng.pick(&[0, 0, 1, 2]) {
+        damage_bytes(rng, &mut bytes);
+    }
+    let ours = match printed(&bytes) {
+        Ok(lines) => lines,
+        Err(why) => format!("{FIT}: {why}").into_bytes(),
+    };
+    tally.same(ours, sheet::fitted(&bytes).into_bytes(), || format!("a sheet of {} bytes", bytes.len()));
+}
+
+fn printed(bytes: &[u8]) -> std::io::Result<Vec<u8>> {
+    let mut fit = Command::new(FIT).stdin(Stdio::piped()).stdout(Stdio::piped()).spawn()?;
+    // a program that has read enough may close its end first
+    let _ = fit.stdin.take().unwrap().write_all(bytes);
+    Ok(fit.wait_with_output()?.stdout)
 }
 
 /// A field of 32 bits or a byte replaced, a bit changed, a cut, bytes after.
