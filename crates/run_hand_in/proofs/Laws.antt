@@ -1,0 +1,182 @@
+-- What each step of a hand-in asks and leaves, and what the call leaves, refused or not. Assumes nothing.
+use Prim.Native.Nat.{ℕ, suc, _+_, _*_, _/_, _≤_, _<_}
+use mathlib.Core.Path.{_≡_, refl, sym, ap, subst⁻¹, _∙_}
+use mathlib.Core.Logic.{_≢_, _⊎_, inl, inr}
+use mathlib.Core.Bool.{true, false}
+use mathlib.Core.List.{List}
+use native.Mathlib.Nat.{le-refl, add-mul}
+use native.Mathlib.Omega.{arith}
+use lib.Dec.{eqb}
+use lib.Ieee.{Float}
+use lib.ListN.{length}
+use borrow.Author.Tests.{eq-eqb, ne-eqb, eqb-true}
+use Rattle.color.specs.Sizes.{bounded-wider}
+use Rattle.job.specs.Job.{two, tileSize}
+use Rattle.job.specs.Ready.{two-within, components-within}
+use Rattle.palette_tile.specs.Tiles.{Shown, hintsOf}
+use Rattle.palette_tile.specs.Hints.{length-hints}
+use Rattle.quantizer.specs.Course.{Course, b}
+use Rattle.quantizer.specs.Refining.{refined}
+use Rattle.quantizer.specs.Lengths.{length-refined}
+use Rattle.quantizer.specs.Refines.{refined-bounded}
+use Rattle.stages.specs.declared.Record.{Record}
+use Rattle.stages.specs.State.{State, stateWith, at}
+use Rattle.stages.specs.Stages.{finishRound, settle, refinedOnce, handIn}
+use Rattle.stages.specs.Calls.{Memory, memory, recordOf, wordsOf, stateOf, memoryOf, outcome, coloursRoom, handInAnswer, handInCall}
+use Rattle.calls.specs.Cases.{decide}
+use Rattle.calls.specs.Place.{Placed, finishing, made-at-3}
+use Rattle.calls.specs.Settling.{settle-done, settle-more, finish-placed}
+use Rattle.calls.specs.Sound.{Held}
+use Rattle.calls.specs.Accepted.{job-passed}
+use Rattle.calls.specs.Answers.{handIn-opened}
+use Rattle.calls.specs.Next as next
+use Rattle.run_hand_in.specs.Refines.{refinedTimes, placedAt, finalDraws, Refinable, Handed}
+
+-- ---- the final draws
+pub none-begin : (n : ℕ) (r : Record) → 10 * (n / 10) ≡ 0 → placedAt r 5 0 0 ≡ finalDraws n r
+unfolding finalDraws
+none-begin n r e = rw (eq-eqb (10 * (n / 10)) 0 e)
+
+pub some-begin : (n : ℕ) (r : Record) → 10 * (n / 10) ≢ 0 → placedAt r 4 0 (10 * (n / 10)) ≡ finalDraws n r
+unfolding finalDraws
+some-begin n r e = rw (ne-eqb (10 * (n / 10)) 0 e)
+
+-- ---- refinements
+pub shown-of : (K : Course) (s : State) → Refinable K s → Shown (K .job) (s .palette) (K .job .S) (K .job .C)
+shown-of K s A =
+    record {
+      size = A .size;
+      small = A .small;
+      ready = A .ready;
+      subs = A .ready .sizes .subs;
+      most = le-refl (K .job .S);
+      some = A .ready .sizes .some;
+      present = le-refl (K .job .C);
+      room = A .held .size;
+      near = A .held .bound;
+    }
+
+-- the loop, after i refinements of `from`
+pub record Refining (K : Course) (from s : State) (i : ℕ) : Type 0 where
+  pub most : i ≤ 4
+  pub refinable : Refinable K s
+  pub same : s ≡ refinedTimes K i from
+
+-- the record plays no part
+pub begun : (K : Course) (o h : List ℕ) (p l : List Float) (r : Record) → Refinable K (stateWith o h p l r) → (q : Record) → Refining K (stateWith o h p l q) (stateWith o h p l q) 0
+unfolding refinedTimes
+begun K o h p l r A q = record { most = omega arith; refinable = record { size = A .size; small = A .small; ready = A .ready; held = A .held; each = A .each }; same = refl }
+
+pub again : (K : Course) (o h : List ℕ) (p l : List Float) (r : Record) (from : State) (i : ℕ) → Refining K from (stateWith o h p l r) i → i < 4
+    → (h2 : List ℕ) (p2 : List Float) → p2 ≡ refined (K .job) p → h2 ≡ hintsOf (K .job) p (K .job .S) (K .job .C) h (K .job .T) → Refining K from (stateWith o h2 p2 l r) (i + 1)
+again K o h p l r from i A t h2 p2 ep eh =
+    record {
+      most = omega arith;
+      refinable = record {
+        size = A .refinable .size;
+        small = A .refinable .small;
+        ready = A .refinable .ready;
+        held = rw ep (record {
+          size = length-refined (K .job) p ∙ A .refinable .held .size;
+          bound = refined-bounded (K .job) p (shown-of K (stateWith o h p l r) (A .refinable)) 4 (omega arith) (A .refinable .held .bound);
+        });
+        each = rw eh (length-hints (K .job) p (K .job .S) (K .job .C) h (K .job .T) ∙ A .refinable .each);
+      };
+      same = once ∙ ap (refinedOnce K) (A .same) ∙ more i;
+    }
+  where
+    once : stateWith o h2 p2 l r ≡ refinedOnce K (stateWith o h p l r)
+    once = unfold refinedOnce in rw (ep, eh)
+
+    count : (j : ℕ) → j + 1 ≡ suc j
+    count j = omega arith
+
+    more : (j : ℕ) → refinedOnce K (refinedTimes K j from) ≡ refinedTimes K (j + 1) from
+    more j = rw (count j) (unfold refinedTimes in refl)
+
+pub ended : (K : Course) (from s : State) (i : ℕ) → Refining K from s i → 4 ≤ i → s ≡ refinedTimes K 4 from
+ended K from s i A t = let e : i ≡ 4 = omega (arith, A .most) in A .same ∙ ap (λ (j : ℕ). refinedTimes K j from) e
+
+-- ---- what follows a stop
+module _ (K : Course) (o h : List ℕ) (p l : List Float) (r : Record) (A : Handed K (stateWith o h p l r)) where
+  -- the final draws begin; where there are none their round is over
+  module _ (k : r .stage ≡ 3) where
+    subs : 1 ≤ K .job .S
+    subs = A .refinable .ready .sizes .subs
+
+    some : 1 ≤ K .job .C
+    some = A .refinable .ready .sizes .some
+
+    first-placed : Placed K (stateWith o h p l (placedAt r 4 0 (10 * b K)))
+    first-placed =
+        finishing refl refl (le-refl _) (rw (made-at-3 K subs some (stateWith o h p l r) (A .place) k, ← add-mul (K .job .S + K .job .C + 8) 10 (b K)) (ap (λ (x : ℕ). x * b K) (omega arith)))
+
+    settled : (eqb (10 * b K) 0 ≡ true) ⊎ (eqb (10 * b K) 0 ≡ false) → stateWith o h p l (finalDraws (K .n) r) ≡ settle K (stateWith o h p l (placedAt r 4 0 (10 * b K)))
+    unfolding finalDraws finishRound
+    settled (inl t) =
+        let s = stateWith o h p l (placedAt r 4 0 (10 * b K)) in
+        rw t (sym (settle-more K subs some s first-placed t ∙ settle-done K subs some (finishRound K s) (finish-placed K subs some s first-placed t) refl))
+    settled (inr t) = rw t (sym (settle-done K subs some (stateWith o h p l (placedAt r 4 0 (10 * b K))) first-placed t))
+
+    pub final : (x : Record) → x ≡ finalDraws (K .n) r → stateWith o h p l x ≡ handIn K p (stateWith o h p l r)
+    unfolding handIn
+    final x e = rw (eq-eqb (r .stage) 3 k) (ap (stateWith o h p l) e ∙ settled (decide (eqb (10 * b K) 0)))
+
+  pub refined-on : r .stage ≢ 3 → r .stage ≡ 5 → (h2 : List ℕ) (p2 : List Float) → stateWith o h2 p2 l r ≡ refinedTimes K 4 (stateWith o h p l r)
+      → stateWith o h2 p2 l (placedAt r 6 0 0) ≡ handIn K p (stateWith o h p l r)
+  unfolding handIn refinedTimes
+  refined-on a k h2 p2 e = rw (ne-eqb (r .stage) 3 a, eq-eqb (r .stage) 5 k) (ap (λ (s : State). at s 6 0 0) e)
+
+  pub last-on : r .stage ≢ 3 → r .stage ≢ 5 → stateWith o h p l (placedAt r 7 0 0) ≡ handIn K p (stateWith o h p l r)
+  unfolding handIn
+  last-on a k = rw (ne-eqb (r .stage) 3 a, ne-eqb (r .stage) 5 k)
+
+-- ---- the call
+pub few-pixels : tileSize ≤ 256
+few-pixels = omega arith
+
+module _ (size : ℕ) (small : size ≤ 256) (K : Course) (m : Memory) (reduced : List Float) (a : ℕ) (e : a ≡ handInAnswer size K m reduced) where
+  pub refused : (a ≡ 0 → ⊥) → outcome a 0 m ≡ handInCall size K m reduced
+  unfolding handInCall
+  refused h = rw (← e) (sym (next.refused a m 0 (handIn K reduced (stateOf m)) h))
+
+  module _ (z : a ≡ 0) where
+    sized : length reduced ≡ 3 * (K .job .S * K .job .C)
+    unfolding coloursRoom
+    sized = eqb-true (length reduced) (3 * (K .job .S * K .job .C)) (handIn-opened size K m reduced (sym e ∙ z) .2)
+
+    pub same-room : length (m .palette) ≡ length reduced
+    same-room = handIn-opened size K m reduced (sym e ∙ z) .0 .roomy .palette ∙ sym sized
+
+    pub six : length (m .words) ≡ 6
+    six = handIn-opened size K m reduced (sym e ∙ z) .0 .roomy .words
+
+    module _ (p : List Float) (ep : p ≡ reduced) (r : Record) (er : r ≡ recordOf (m .words)) where
+      pub handed : Handed K (stateWith (m .order) (m .hints) p (m .least) r)
+      unfolding stateOf
+      handed =
+          let o = handIn-opened size K m reduced (sym e ∙ z) in
+          let D = job-passed size K true (o .0 .passed) in
+          record {
+            refinable = record {
+              size = size;
+              small = small;
+              ready = D .ready;
+              held = subst⁻¹ (Held K) ep (record { size = sized; bound = bounded-wider reduced 2 4 (omega arith) (components-within two reduced 2 two-within (o .3)) });
+              each = o .0 .roomy .hints;
+            };
+            few = D .few;
+            place = subst⁻¹ (λ (q : Record). Placed K (stateWith (m .order) (m .hints) p (m .least) q)) er (o .0 .fit .rests .place);
+          }
+
+      same-call : handIn K p (stateWith (m .order) (m .hints) p (m .least) r) ≡ handIn K reduced (stateOf m)
+      unfolding handIn stateOf
+      same-call = rw (ep, er)
+
+      pub accepted : (h2 : List ℕ) (p2 : List Float) (x : Record) → stateWith (m .order) h2 p2 (m .least) x ≡ handIn K p (stateWith (m .order) (m .hints) p (m .least) r) → (w2 : List ℕ) → w2 ≡ wordsOf x
+          → outcome 0 0 (memory (m .order) h2 p2 (m .least) w2) ≡ handInCall size K m reduced
+      unfolding handInCall memoryOf
+      accepted h2 p2 x f w2 ew =
+          ap (λ (w : List ℕ). outcome 0 0 (memory (m .order) h2 p2 (m .least) w)) ew
+          ∙ ap (λ (s : State). outcome 0 0 (memoryOf s)) (f ∙ same-call)
+          ∙ sym (next.done (handInAnswer size K m reduced) m 0 (handIn K reduced (stateOf m)) (sym e ∙ z))
