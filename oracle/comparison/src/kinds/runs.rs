@@ -1,6 +1,7 @@
 //! The run's public calls: which number they get by document 01's table, on records of any stage and damaged copies; what result
 //! copies, and all lent memory before and after.
 
+use terms::Held;
 use terms::jobs::{self, Colours};
 use terms::rng::Rng;
 
@@ -11,7 +12,8 @@ use crate::ours::{self, Job, Memory};
 use crate::table::{self, Given};
 use crate::tally::Tally;
 
-pub const KINDS: &[Kind] = &[kind("run numbers", 15_000, numbers), kind("result", 15_000, result)];
+pub const KINDS: &[Kind] =
+    &[kind("run numbers", 15_000, numbers), kind("result", 15_000, result), kind("advance", 300, advance)];
 
 /// What the calls of a run are given, as a stranger may give it.
 #[derive(Clone, Debug)]
@@ -243,4 +245,63 @@ fn result(rng: &mut Rng, _: u64, tally: &mut Tally) {
     let right = if number == 0 { &call.palette } else { &call.colours };
     let bits = |all: &[f32]| all.iter().map(|x| x.to_bits()).collect::<Vec<_>>();
     tally.same((ours, bits(out.values()), kept), (number, bits(right), true), || format!("{call:?}"));
+}
+
+impl Call {
+    /// A run of the Rust's as it stands, with zeros where no colour is present.
+    fn standing(job: &terms::Job, held: &Held) -> Self {
+        let flat = |palette: &terms::Palette| {
+            let mut all = vec![[0.0; 3]; job.s * job.c];
+            for (i, sub) in palette.iter().enumerate() {
+                all[i * job.c..][..sub.len()].copy_from_slice(sub);
+            }
+            all.as_flattened().to_vec()
+        };
+        Call {
+            given: Given::new(&vec![vec![[0.0; 3]; job.c]; job.s], &job.tiles, job.weight),
+            n: job.samples.len(),
+            samples: job.samples.iter().flat_map(|s| [s.tile as u32, s.place as u32]).collect(),
+            order: held.order.clone(),
+            hints: held.hints.iter().map(|&hint| hint as u32).collect(),
+            palette: flat(&held.palette),
+            least: flat(&held.least),
+            record: held.words.to_vec(),
+            colours: Vec::new(),
+        }
+    }
+}
+
+/// Whole runs: from the Rust's start in calls of any size; at a stop the Rust takes what is handed in. After every call the number,
+/// the draws and every bit of the memory.
+fn advance(rng: &mut Rng, _: u64, tally: &mut Tally) {
+    let job = jobs::job(rng, 60);
+    let hints = jobs::hints(rng, job.tiles.len(), job.s);
+    let mut run = answers::probed(job.weight).start(&job, &hints, rng.bits());
+    loop {
+        let held = run.held();
+        match held.words[1] {
+            7 => break,
+            3 | 5 | 6 => {
+                run.hand_in(&jobs::reduced(rng, job.s, job.c));
+                continue;
+            }
+            _ => {}
+        }
+        let allotment = rng.pick(&[0, 1, 2, 3, 5, 11, 40, 300, u64::MAX]);
+        let before = Call::standing(&job, &held);
+        let (lent, mut memory) = before.lent();
+        let (number, draws) = ours::advance(&lent, &mut memory, allotment);
+        let kept = lent.untouched() && memory.guarded();
+        let ours = (vec![u64::from(number), draws, u64::from(kept)], memory_bits(&memory));
+        let draws = run.advance(allotment);
+        let right = Call::standing(&job, &run.held()).lent().1;
+        tally.same(ours, (vec![0, draws, 1], memory_bits(&right)), || format!("by {allotment} from {before:?}"));
+    }
+}
+
+/// All that a run is lent to write, as numbers.
+fn memory_bits(memory: &Memory) -> Vec<u64> {
+    let words = memory.order.values().iter().chain(memory.hints.values()).map(|&x| u64::from(x));
+    let floats = memory.palette.values().iter().chain(memory.least.values()).map(|x| u64::from(x.to_bits()));
+    words.chain(floats).chain(memory.record.values().iter().copied()).collect()
 }

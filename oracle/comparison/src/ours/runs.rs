@@ -108,6 +108,34 @@ unsafe extern "C" {
         out: *mut f32,
         out_len: usize,
     ) -> u32;
+    fn probe_advance(
+        s: usize,
+        c: usize,
+        t: usize,
+        n: usize,
+        weight: f32,
+        tiles: *const u32,
+        tiles_len: usize,
+        colours: *const f32,
+        colours_len: usize,
+        counts: *const u32,
+        counts_len: usize,
+        samples: *const u32,
+        samples_len: usize,
+        order: *mut u32,
+        order_len: usize,
+        hints: *mut u32,
+        hints_len: usize,
+        palette: *mut f32,
+        palette_len: usize,
+        least: *mut f32,
+        least_len: usize,
+        words: *mut u64,
+        words_len: usize,
+        allotment: u64,
+        drawn: *mut u64,
+        drawn_len: usize,
+    ) -> u32;
 }
 
 /// What a run is lent.
@@ -122,6 +150,12 @@ pub struct Memory {
 }
 
 impl Memory {
+    /// Nothing around the memory was written, and of it not the samples.
+    pub fn guarded(&self) -> bool {
+        let numbers = self.samples.untouched() && self.order.guarded() && self.hints.guarded();
+        numbers && self.palette.guarded() && self.least.guarded() && self.record.guarded()
+    }
+
     pub fn untouched(&self) -> bool {
         let numbers = self.samples.untouched() && self.order.untouched() && self.hints.untouched();
         numbers && self.palette.untouched() && self.least.untouched() && self.record.untouched()
@@ -176,4 +210,40 @@ pub fn refuses_hand_in(job: &Job, held: &Memory, reduced: &Lent<f32>) -> u32 {
 
 pub fn result(job: &Job, held: &Memory, out: &mut Lent<f32>) -> u32 {
     with_run!(probe_result, job, held, out.pointer_mut(), out.len())
+}
+
+/// The number and the draws.
+pub fn advance(job: &Job, held: &mut Memory, allotment: u64) -> (u32, u64) {
+    let mut drawn = [0];
+    let number = unsafe {
+        probe_advance(
+            job.s,
+            job.c,
+            job.t,
+            held.n,
+            job.weight,
+            job.tiles.pointer(),
+            job.tiles.len(),
+            job.colours.pointer(),
+            job.colours.len(),
+            job.counts.pointer(),
+            job.counts.len(),
+            held.samples.pointer(),
+            held.samples.len(),
+            held.order.pointer_mut(),
+            held.order.len(),
+            held.hints.pointer_mut(),
+            held.hints.len(),
+            held.palette.pointer_mut(),
+            held.palette.len(),
+            held.least.pointer_mut(),
+            held.least.len(),
+            held.record.pointer_mut(),
+            held.record.len(),
+            allotment,
+            drawn.as_mut_ptr(),
+            drawn.len(),
+        )
+    };
+    (number, drawn[0])
 }
