@@ -1,3 +1,2 @@
-pub mod Tiles
 pub mod Lists
 pub mod Sheets

@@ -10,7 +10,8 @@ use Rattle.lists.specs.Every.{sum}
 use Rattle.job.specs.Job.{Job, job, firstOf, sizeOf}
 use Rattle.palette_tile.specs.Tiles.{Shown}
 use Rattle.fit_lines.specs.Lines.{Stored}
-use Rattle.fit_text.specs.Text.{fitText, Begins}
+use Rattle.fit_tiles.specs.Text.{fitText}
+use Rattle.fit_text.specs.Fit.{Begins}
 
 module _ (s c t : ℕ) (w : Float) (tiles : List ℕ) (colours : List Float) (counts : List ℕ) (palette : List Float) (tb : List ℕ) (f : List Float) (cs : List ℕ) (p : List Float)
     (B : Begins tiles colours counts palette (job s c t w tb f cs) p) where

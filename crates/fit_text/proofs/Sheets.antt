@@ -24,8 +24,9 @@ use Rattle.sheet.specs.Sheets.{jobOf, Room, room, ReadOutcome, readOutcome, roo
 use Rattle.sheet.specs.Inverse.{sets-front, accepted-few, accepted-job}
 use Rattle.io.specs.Counts.{Counts}
 use Rattle.fit_lines.specs.Lines.{Stored, refusedLine}
-use Rattle.fit_text.specs.Text.{fitText, textOf, FitOutcome, fitOutcome, fitDef, Begins, Holds}
-use Rattle.fit_text.proofs.Tiles.{fit-most}
+use Rattle.fit_tiles.specs.Text.{fitText}
+use Rattle.fit_text.specs.Fit.{textOf, FitOutcome, fitOutcome, fitDef, Begins, Holds}
+use Rattle.fit_tiles.specs.Lengths.{fit-most}
 
 pub are-bytes : (s : List ℕ) → ((i : ℕ) → getD s i 0 < 256) → T (areBytes s)
 are-bytes [] b = tt
@@ -109,24 +110,24 @@ module _ (b : List ℕ) (h : Room) (L : Lengths h) (r : Reading) (after : Room) 
         })
 
     module _ (s c t : ℕ) (w : Float) (f : r ≡ reading.Sheet s c t w) where
-      R : Read s c t w
-      R = sheet-says s c t w f
+      was-read : Read s c t w
+      was-read = sheet-says s c t w f
 
-      x : Sheet
-      x = R .sheet
+      the-sheet : Sheet
+      the-sheet = was-read .sheet
 
-      renamed : jobOf x ≡ job s c t w (jobOf x .tiles) (jobOf x .colours) (jobOf x .counts)
-      unfolding x
+      renamed : jobOf the-sheet ≡ job s c t w (jobOf the-sheet .tiles) (jobOf the-sheet .colours) (jobOf the-sheet .counts)
+      unfolding the-sheet
       renamed =
-          ap₂ {C = Job} (λ i j. job i j (jobOf x .T) (jobOf x .weight) (jobOf x .tiles) (jobOf x .colours) (jobOf x .counts)) (R .sizes .0) (R .sizes .1)
-          ∙ ap₂ {C = Job} (λ i j. job s c i j (jobOf x .tiles) (jobOf x .colours) (jobOf x .counts)) (R .sizes .2) (R .sizes .3)
+          ap₂ {C = Job} (λ i j. job i j (jobOf the-sheet .T) (jobOf the-sheet .weight) (jobOf the-sheet .tiles) (jobOf the-sheet .colours) (jobOf the-sheet .counts)) (was-read .sizes .0) (was-read .sizes .1)
+          ∙ ap₂ {C = Job} (λ i j. job s c i j (jobOf the-sheet .tiles) (jobOf the-sheet .colours) (jobOf the-sheet .counts)) (was-read .sizes .2) (was-read .sizes .3)
 
-      named : Begins (after .tiles) (after .colours) (after .counts) (after .palette) (job s c t w (jobOf x .tiles) (jobOf x .colours) (jobOf x .counts)) (floats (x .palette))
-      unfolding x
-      named = subst (λ (J : Job). Begins (after .tiles) (after .colours) (after .counts) (after .palette) J (floats (x .palette))) renamed (begins x (R .is) (R .lists))
+      named : Begins (after .tiles) (after .colours) (after .counts) (after .palette) (job s c t w (jobOf the-sheet .tiles) (jobOf the-sheet .colours) (jobOf the-sheet .counts)) (floats (the-sheet .palette))
+      unfolding the-sheet
+      named = subst (λ (J : Job). Begins (after .tiles) (after .colours) (after .counts) (after .palette) J (floats (the-sheet .palette))) renamed (begins the-sheet (was-read .is) (was-read .lists))
 
       pub holds : Holds s c t w (after .tiles) (after .colours) (after .counts) (after .palette)
-      holds = (jobOf x .tiles, jobOf x .colours, jobOf x .counts, floats (x .palette), named)
+      holds = (jobOf the-sheet .tiles, jobOf the-sheet .colours, jobOf the-sheet .counts, floats (the-sheet .palette), named)
 
       -- its lines take little room
       pub within : (found out : List ℕ) (n : ℕ)
@@ -135,18 +136,18 @@ module _ (b : List ℕ) (h : Room) (L : Lengths h) (r : Reading) (after : Room) 
       within found out n P =
           omega (
             arith,
-            P (jobOf x .tiles) (jobOf x .colours) (jobOf x .counts) (floats (x .palette)) named .place,
-            fit-most (job s c t w (jobOf x .tiles) (jobOf x .colours) (jobOf x .counts)) (floats (x .palette)) (named .shown .ready .sizes .tiles) (named .shown .ready .sizes .few),
+            P (jobOf the-sheet .tiles) (jobOf the-sheet .colours) (jobOf the-sheet .counts) (floats (the-sheet .palette)) named .place,
+            fit-most (job s c t w (jobOf the-sheet .tiles) (jobOf the-sheet .colours) (jobOf the-sheet .counts)) (floats (the-sheet .palette)) (named .shown .ready .sizes .tiles) (named .shown .ready .sizes .few),
           )
 
       -- its lines are the text
       pub text-is : (found out : List ℕ) (n : ℕ)
           → ((tb : List ℕ) (g : List Float) (cs : List ℕ) (p : List Float) → Begins (after .tiles) (after .colours) (after .counts) (after .palette) (job s c t w tb g cs) p → Stored found out 0 n (fitText (job s c t w tb g cs) p))
           → Stored found out 0 n (textOf (readSheet edition1 b))
-      unfolding x
+      unfolding the-sheet
       text-is found out n P =
-          subst (λ (a : Answer Sheet). Stored found out 0 n (textOf a)) (sym (R .is))
-          (subst (λ (J : Job). Stored found out 0 n (fitText J (floats (x .palette)))) (sym renamed) (P (jobOf x .tiles) (jobOf x .colours) (jobOf x .counts) (floats (x .palette)) named))
+          subst (λ (a : Answer Sheet). Stored found out 0 n (textOf a)) (sym (was-read .is))
+          (subst (λ (J : Job). Stored found out 0 n (fitText J (floats (the-sheet .palette)))) (sym renamed) (P (jobOf the-sheet .tiles) (jobOf the-sheet .colours) (jobOf the-sheet .counts) (floats (the-sheet .palette)) named))
 
   pub refusal-is : (n : ℕ) → r ≡ reading.Refused n → (found out : List ℕ) (m : ℕ) → Stored found out 0 m (refusedLine n) → Stored found out 0 m (textOf (readSheet edition1 b))
   refusal-is n f found out m s = subst (λ (a : Answer Sheet). Stored found out 0 m (textOf a)) (sym (refused-says n f)) s

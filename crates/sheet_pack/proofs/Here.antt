@@ -21,16 +21,16 @@ unfolding sum
 none-before tb = refl
 
 module _ (t : ℕ) (tb : List ℕ) (f : List Float) (cs : List ℕ) (T : Tabled t tb f cs) (i : ℕ) (h : i < t) where
-  J : Job
-  J = job (T .0) (T .1) t (T .2) tb f cs
+  the-job : Job
+  the-job = job (T .0) (T .1) t (T .2) tb f cs
 
   pub counts-there : Placed 1 tb i (length cs)
-  unfolding J
-  counts-there = counts-placed tileSize J (T .3) i h
+  unfolding the-job
+  counts-there = counts-placed tileSize the-job (T .3) i h
 
   pub colours-there : Placed 3 tb i (length f)
-  unfolding J
-  colours-there = colours-placed tileSize J (T .3) i h
+  unfolding the-job
+  colours-there = colours-placed tileSize the-job (T .3) i h
 
   pub record Here (part : List ℕ) (xs : List Float) : Type 0 where
     pub three : length xs ≡ 3 * length part
@@ -43,12 +43,12 @@ module _ (t : ℕ) (tb : List ℕ) (f : List Float) (cs : List ℕ) (T : Tabled 
     pub next : coloursOf part xs ∷ tilesFrom tb f cs (suc i) (t - (i + 1)) ≡ tilesFrom tb f cs i (suc (t - (i + 1)))
 
   size : (part : List ℕ) → part ≡ countsPart tb cs i → length part ≡ sizeOf tb i
-  unfolding J
-  size part e = ap length e ∙ counts-length tileSize J (T .3) i h
+  unfolding the-job
+  size part e = ap length e ∙ counts-length tileSize the-job (T .3) i h
 
   spread : (part : List ℕ) (xs : List Float) → part ≡ countsPart tb cs i → xs ≡ coloursPart tb f i → length xs ≡ 3 * length part
-  unfolding J
-  spread part xs e g = ap length g ∙ tile-three tileSize J (T .3) i h ∙ ap (λ (l : List ℕ). 3 * length l) (sym e)
+  unfolding the-job
+  spread part xs e g = ap length g ∙ tile-three tileSize the-job (T .3) i h ∙ ap (λ (l : List ℕ). 3 * length l) (sym e)
 
   tile-bits : (part : List ℕ) (xs : List Float) → length xs ≡ 3 * length part → length (tileBits edition1 (coloursOf part xs)) ≡ 7 + 102 * length part
   tile-bits part xs e =
@@ -56,11 +56,11 @@ module _ (t : ℕ) (tb : List ℕ) (f : List Float) (cs : List ℕ) (T : Tabled 
       ∙ ap₂ (λ (a b : ℕ). a + b) (length-bitsOf 7 (length (coloursOf part xs))) (length-coloursBits part xs e)
 
   pub here : (part : List ℕ) (xs : List Float) → part ≡ countsPart tb cs i → xs ≡ coloursPart tb f i → Here part xs
-  unfolding J
+  unfolding the-job
   here part xs e g = record {
     three = spread part xs e g;
     counted = subst⁻¹ Counted e (λ k l. T .3 .low i k h l);
-    near = subst⁻¹ (λ (l : List Float). Bounded l 2) g (tile-near tileSize J (T .3) i h);
+    near = subst⁻¹ (λ (l : List Float). Bounded l 2) g (tile-near tileSize the-job (T .3) i h);
     few = omega (arith, size part e, T .3 .short i h);
     reach = omega (arith, size part e, T .3 .inside i h, T .3 .starts i h);
     after = sym (sum-more (sizeOf tb) i (sum (sizeOf tb) i) (length part) refl (size part e));

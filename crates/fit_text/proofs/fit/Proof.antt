@@ -2,7 +2,7 @@
 use native.Mathlib.Omega.{arith}
 use Rattle.sheet.specs.Sheets.{room}
 use Rattle.fit_text.proofs.Sheets.{are-bytes, no-place, printed, refusal-is, holds, within, text-is, counts}
-use Rattle.fit_text.proofs.Tiles.{refused-most}
+use Rattle.fit_tiles.specs.Lengths.{refused-most}
 use borrow.Author.Needs.{needs}
 use Rattle.fit_text.proofs.fit.Statement.{statement}
 use Rattle.fit_text.proofs.fit.Tie as tie

@@ -4,10 +4,11 @@ use mathlib.Core.Path.{_≡_, refl, _∙_, subst}
 use native.Mathlib.Omega.{arith}
 use lib.ListN.{length, getD}
 use Rattle.fit_lines.specs.Lines.{Stored}
-use Rattle.fit_text.specs.Text.{loadLines}
-use Rattle.fit_text.proofs.Tiles.{load-most, loads-none, loads-more}
-use Rattle.fit_text.proofs.put_loads.Statement.{statement}
-use Rattle.fit_text.proofs.put_loads.Tie as tie
+use Rattle.fit_tiles.specs.Text.{loadLines}
+use Rattle.fit_tiles.specs.Lengths.{load-most}
+use Rattle.fit_tiles.proofs.Tiles.{loads-none, loads-more}
+use Rattle.fit_tiles.proofs.put_loads.Statement.{statement}
+use Rattle.fit_tiles.proofs.put_loads.Tie as tie
 
 abbrev Inv-loop : tie.InvT-loop
 Inv-loop s loads out₀ at q₀ k₀ out q k =

@@ -7,10 +7,10 @@ use lib.Ieee.{Float, isNan}
 use Rattle.job.specs.Job.{job, sizeOf}
 use Rattle.stats.specs.declared.Near.{Near}
 use Rattle.palette_tile.specs.Present.{winner-below}
-use Rattle.fit_text.proofs.Tiles.{empty-sub, full-sub, not-empty, dist-real}
+use Rattle.fit_tiles.proofs.Tiles.{empty-sub, full-sub, not-empty, dist-real}
 use borrow.Author.Needs.{needs}
-use Rattle.fit_text.proofs.tile_found.Statement.{statement}
-use Rattle.fit_text.proofs.tile_found.Tie as tie
+use Rattle.fit_tiles.proofs.tile_found.Statement.{statement}
+use Rattle.fit_tiles.proofs.tile_found.Tie as tie
 
 is-empty-requires : tie.Need-is-empty-requires
 is-empty-requires c κs = search needs

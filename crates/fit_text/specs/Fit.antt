@@ -1,42 +1,20 @@
 -- What `fit` prints for a sheet. Definitions only. Assumes nothing.
-use Prim.Native.Nat.{ℕ, zero, suc, _+_, _*_, _≤_}
+use Prim.Native.Nat.{ℕ, _≤_}
 use mathlib.Core.Path.{_≡_}
-use mathlib.Core.Bool.{Bool, cond}
-use mathlib.Core.List.{List, [], _++_}
+use mathlib.Core.Bool.{cond}
+use mathlib.Core.List.{List}
 use lib.Dec.{leb}
 use lib.ListN.{length, take}
 use lib.Seq.{sets}
-use lib.Ieee.{Float, binary32, toBits}
-use Rattle.lists.specs.Firsts.{hits}
-use Rattle.assign.specs.Assign.{subpaletteOf}
+use lib.Ieee.{Float}
 use Rattle.format.specs.Format.{Answer, refused, accepted}
-use Rattle.job.specs.Job.{Job, job, isEmpty}
-use Rattle.palette_tile.specs.Tiles.{fitAt, Shown}
-use Rattle.fit_lines.specs.Lines.{Stored, headLine, tileLine, loadLine, refusedLine}
+use Rattle.job.specs.Job.{Job, job}
+use Rattle.palette_tile.specs.Tiles.{Shown}
+use Rattle.fit_lines.specs.Lines.{Stored, refusedLine}
+use Rattle.fit_tiles.specs.Text.{fitText}
 use Rattle.sheet_format.specs.Sheet.{Sheet, edition1, readSheet}
 use Rattle.sheet_format.specs.Lists.{floats}
 use Rattle.sheet.specs.Sheets.{jobOf}
-
--- the pattern of a tile's distance to the subpalette that fits it best; 0 of an empty one
-unfoldable pub distBits : Job → List Float → ℕ → ℕ
-distBits J palette t = cond (isEmpty J t) 0 (toBits binary32 (fitAt J palette (J .S) (J .C) t .dist))
-
--- the lines of the first n tiles
-unfoldable pub tileLines : Job → List Float → ℕ → List ℕ
-tileLines J palette zero = []
-tileLines J palette (suc n) = tileLines J palette n ++ tileLine n (subpaletteOf J palette n) (distBits J palette n)
-
--- how many of the first n tiles are assigned to subpalette k
-unfoldable pub loadOf : Job → List Float → ℕ → ℕ → ℕ
-loadOf J palette k n = hits (subpaletteOf J palette) k n
-
--- the lines of n subpalettes, with the loads that f gives
-unfoldable pub loadLines : (ℕ → ℕ) → ℕ → List ℕ
-loadLines f zero = []
-loadLines f (suc n) = loadLines f n ++ loadLine n (f n)
-
-unfoldable pub fitText : Job → List Float → List ℕ
-fitText J palette = headLine (J .T) (J .S) ++ tileLines J palette (J .T) ++ loadLines (λ k. loadOf J palette k (J .T)) (J .S)
 
 abbrev pub textOf : Answer Sheet → List ℕ
 textOf (refused n) = refusedLine n

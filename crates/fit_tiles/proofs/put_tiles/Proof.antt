@@ -5,10 +5,11 @@ use native.Mathlib.Omega.{arith}
 use lib.ListN.{length, getD, length-set}
 use Rattle.job.specs.Job.{job}
 use Rattle.fit_lines.specs.Lines.{Stored}
-use Rattle.fit_text.specs.Text.{tileLines, loadOf}
-use Rattle.fit_text.proofs.Tiles.{tile-most, sub-below, lines-none, lines-more, load-none, load-few, load-more}
-use Rattle.fit_text.proofs.put_tiles.Statement.{statement}
-use Rattle.fit_text.proofs.put_tiles.Tie as tie
+use Rattle.fit_tiles.specs.Text.{tileLines, loadOf}
+use Rattle.fit_tiles.specs.Lengths.{tile-most}
+use Rattle.fit_tiles.proofs.Tiles.{sub-below, lines-none, lines-more, load-none, load-few, load-more}
+use Rattle.fit_tiles.proofs.put_tiles.Statement.{statement}
+use Rattle.fit_tiles.proofs.put_tiles.Tie as tie
 
 abbrev Inv-loop : tie.InvT-loop
 Inv-loop s c t weight tiles colours counts palette hints₀ loads₀ out₀ at q₀ i₀ hints loads out q i =

@@ -27,38 +27,7 @@ use Rattle.io.specs.Digits.{digits}
 use Rattle.fit_lines.specs.Lines.{Stored, decimal, tileLine, loadLine, headLine, refusedLine, tileWord, subWord, distWord, lineEnd, loadWord, space, tilesWord, subpalettesWord, refusedWord}
 use Rattle.fit_lines.specs.Lengths.{field-most, length-digits}
 use Rattle.fit_lines.specs.Stores.{both-stored}
-use Rattle.fit_text.specs.Text.{distBits, tileLines, loadOf, loadLines, fitText}
-
--- ---- how long a line is, at most
-pub tile-most : (i k d : ℕ) → length (tileLine i k d) ≤ 33
-unfolding tileLine
-tile-most i k d =
-    let a : List ℕ = tileWord ++ decimal i in
-    let b : List ℕ = subWord ++ decimal k in
-    omega (
-      arith,
-      length-append (a ++ b ++ distWord ++ digits 16 8 d) lineEnd,
-      length-append (a ++ b ++ distWord) (digits 16 8 d),
-      length-append (a ++ b) distWord,
-      length-append a b,
-      field-most tileWord i,
-      field-most subWord k,
-      length-digits 16 8 d,
-    )
-
-pub load-most : (k n : ℕ) → length (loadLine k n) ≤ 15
-unfolding loadLine
-load-most k n =
-    let a : List ℕ = loadWord ++ decimal k in
-    let b : List ℕ = space ++ decimal n in
-    omega (arith, length-append (a ++ b) lineEnd, length-append a b, field-most loadWord k, field-most space n)
-
-pub head-most : (t s : ℕ) → length (headLine t s) ≤ 28
-unfolding headLine
-head-most t s =
-    let a : List ℕ = tilesWord ++ decimal t in
-    let b : List ℕ = subpalettesWord ++ decimal s in
-    omega (arith, length-append (a ++ b) lineEnd, length-append a b, field-most tilesWord t, field-most subpalettesWord s)
+use Rattle.fit_tiles.specs.Text.{distBits, tileLines, loadOf, loadLines, fitText}
 
 pub not-empty : (n : ℕ) (r : Bool) → r ≡ eqb n 0 → r ≡ false → 1 ≤ n
 not-empty zero r e h = absurd (true≢false (sym e ∙ h))
@@ -117,12 +86,6 @@ module _ (J : Job) (p : List Float) where
       go : (j : ℕ) → j ≡ suc i → Stored l n at r (tileLines J p i ++ tileLine i (subpaletteOf J p i) (distBits J p i)) → Stored l n at r (tileLines J p j)
       go j e s = record { text = s .text ∙ ap (λ (x : ℕ). sets l at (tileLines J p x)) (sym e); place = s .place ∙ ap (λ (x : ℕ). at + length (tileLines J p x)) (sym e) }
 
-  pub tile-lines-most : (n : ℕ) → length (tileLines J p n) ≤ 33 * n
-  unfolding tileLines
-  tile-lines-most zero = omega arith
-  tile-lines-most (suc n) =
-      omega (arith, length-append (tileLines J p n) (tileLine n (subpaletteOf J p n) (distBits J p n)), tile-most n (subpaletteOf J p n) (distBits J p n), tile-lines-most n)
-
   -- ---- loads
   pub load-none : (k : ℕ) → loadOf J p k 0 ≡ 0
   unfolding loadOf firsts count
@@ -168,29 +131,6 @@ pub loads-same : (f g : ℕ → ℕ) (n : ℕ) → ((k : ℕ) → f k ≡ g k) �
 unfolding loadLines
 loads-same f g zero h = refl
 loads-same f g (suc n) h = ap₂ (λ (a b : List ℕ). a ++ b) (loads-same f g n h) (ap (loadLine n) (h n))
-
-loads-most : (f : ℕ → ℕ) (n : ℕ) → length (loadLines f n) ≤ 15 * n
-unfolding loadLines
-loads-most f zero = omega arith
-loads-most f (suc n) = omega (arith, length-append (loadLines f n) (loadLine n (f n)), load-most n (f n), loads-most f n)
-
--- what any job's lines take, at most
-pub fit-most : (J : Job) (p : List Float) → J .T ≤ 1024 → J .S ≤ 16 → length (fitText J p) ≤ 34060
-unfolding fitText
-fit-most J p t s =
-    let f : ℕ → ℕ = λ k. loadOf J p k (J .T) in
-    omega (
-      arith,
-      length-append (headLine (J .T) (J .S) ++ tileLines J p (J .T)) (loadLines f (J .S)),
-      length-append (headLine (J .T) (J .S)) (tileLines J p (J .T)),
-      head-most (J .T) (J .S),
-      tile-lines-most J p (J .T),
-      loads-most f (J .S),
-    )
-
-pub refused-most : (n : ℕ) → length (refusedLine n) ≤ 13
-unfolding refusedLine
-refused-most n = omega (arith, length-append (refusedWord ++ decimal n) lineEnd, field-most refusedWord n)
 
 pub zero-at : (n k : ℕ) → _≡_ {A = ℕ} (getD (replicate n 0) k 0) 0
 zero-at zero k = refl
