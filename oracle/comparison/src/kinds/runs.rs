@@ -13,7 +13,7 @@ use crate::table::{self, Given};
 use crate::tally::Tally;
 
 pub const KINDS: &[Kind] =
-    &[kind("run numbers", 15_000, numbers), kind("result", 15_000, result), kind("advance", 300, advance)];
+    &[kind("run numbers", 15_000, numbers), kind("result", 15_000, result), kind("whole runs", 300, whole)];
 
 /// What the calls of a run are given, as a stranger may give it.
 #[derive(Clone, Debug)]
@@ -271,31 +271,43 @@ impl Call {
     }
 }
 
-/// Whole runs: from the Rust's start in calls of any size; at a stop the Rust takes what is handed in. After every call the number,
-/// the draws and every bit of the memory.
-fn advance(rng: &mut Rng, _: u64, tally: &mut Tally) {
+/// A whole run by our own calls alone: start in memory that holds anything, advances of any size, hand-ins at the stops. After every
+/// call the number, the draws and every bit of the memory, beside the Rust's run in steps.
+fn whole(rng: &mut Rng, _: u64, tally: &mut Tally) {
     let job = jobs::job(rng, 60);
-    let hints = jobs::hints(rng, job.tiles.len(), job.s);
-    let mut run = answers::probed(job.weight).start(&job, &hints, rng.bits());
+    let (hints, seed) = (jobs::hints(rng, job.tiles.len(), job.s), rng.bits());
+    let mut run = answers::probed(job.weight).start(&job, &hints, seed);
+    let mut call = Call::standing(&job, &run.held());
+    call.hints = hints.iter().map(|&hint| hint as u32).collect();
+    let waste = |all: &mut Vec<f32>| all.fill(f32::NAN);
+    waste(&mut call.palette);
+    waste(&mut call.least);
+    call.order.fill(u32::MAX);
+    call.record.fill(u64::MAX);
+    let (lent, mut memory) = call.lent();
+    let mut ours = (ours::start(&lent, &mut memory, seed), 0);
+    let mut draws = 0;
     loop {
-        let held = run.held();
-        match held.words[1] {
+        let right = Call::standing(&job, &run.held());
+        let kept = lent.untouched() && memory.guarded();
+        let told = vec![u64::from(ours.0), ours.1, u64::from(kept)];
+        tally.same((told, memory_bits(&memory)), (vec![0, draws, 1], memory_bits(&right.lent().1)), || {
+            format!("{call:?}")
+        });
+        match run.held().words[1] {
             7 => break,
             3 | 5 | 6 => {
-                run.hand_in(&jobs::reduced(rng, job.s, job.c));
-                continue;
+                let reduced = jobs::reduced(rng, job.s, job.c);
+                ours = (ours::hand_in(&lent, &mut memory, &lent::floats(reduced.as_flattened())), 0);
+                run.hand_in(&reduced);
+                draws = 0;
             }
-            _ => {}
+            _ => {
+                let allotment = rng.pick(&[0, 1, 2, 3, 5, 11, 40, 300, u64::MAX]);
+                ours = ours::advance(&lent, &mut memory, allotment);
+                draws = run.advance(allotment);
+            }
         }
-        let allotment = rng.pick(&[0, 1, 2, 3, 5, 11, 40, 300, u64::MAX]);
-        let before = Call::standing(&job, &held);
-        let (lent, mut memory) = before.lent();
-        let (number, draws) = ours::advance(&lent, &mut memory, allotment);
-        let kept = lent.untouched() && memory.guarded();
-        let ours = (vec![u64::from(number), draws, u64::from(kept)], memory_bits(&memory));
-        let draws = run.advance(allotment);
-        let right = Call::standing(&job, &run.held()).lent().1;
-        tally.same(ours, (vec![0, draws, 1], memory_bits(&right)), || format!("by {allotment} from {before:?}"));
     }
 }
 

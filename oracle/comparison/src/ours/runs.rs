@@ -136,6 +136,59 @@ unsafe extern "C" {
         drawn: *mut u64,
         drawn_len: usize,
     ) -> u32;
+    fn probe_start(
+        s: usize,
+        c: usize,
+        t: usize,
+        n: usize,
+        weight: f32,
+        seed: u64,
+        tiles: *const u32,
+        tiles_len: usize,
+        colours: *const f32,
+        colours_len: usize,
+        counts: *const u32,
+        counts_len: usize,
+        samples: *const u32,
+        samples_len: usize,
+        order: *mut u32,
+        order_len: usize,
+        hints: *mut u32,
+        hints_len: usize,
+        palette: *mut f32,
+        palette_len: usize,
+        least: *mut f32,
+        least_len: usize,
+        words: *mut u64,
+        words_len: usize,
+    ) -> u32;
+    fn probe_hand_in(
+        s: usize,
+        c: usize,
+        t: usize,
+        n: usize,
+        weight: f32,
+        tiles: *const u32,
+        tiles_len: usize,
+        colours: *const f32,
+        colours_len: usize,
+        counts: *const u32,
+        counts_len: usize,
+        samples: *const u32,
+        samples_len: usize,
+        order: *const u32,
+        order_len: usize,
+        hints: *mut u32,
+        hints_len: usize,
+        palette: *mut f32,
+        palette_len: usize,
+        least: *const f32,
+        least_len: usize,
+        words: *mut u64,
+        words_len: usize,
+        reduced: *const f32,
+        reduced_len: usize,
+    ) -> u32;
 }
 
 /// What a run is lent.
@@ -212,38 +265,51 @@ pub fn result(job: &Job, held: &Memory, out: &mut Lent<f32>) -> u32 {
     with_run!(probe_result, job, held, out.pointer_mut(), out.len())
 }
 
+/// Calls a function of the run's that writes the memory it is lent.
+macro_rules! with_memory {
+    ($call:ident, $job:ident, $held:ident, [$($first:expr),*] $(, $own:expr)*) => {
+        unsafe {
+            $call(
+                $job.s,
+                $job.c,
+                $job.t,
+                $held.n,
+                $job.weight,
+                $($first,)*
+                $job.tiles.pointer(),
+                $job.tiles.len(),
+                $job.colours.pointer(),
+                $job.colours.len(),
+                $job.counts.pointer(),
+                $job.counts.len(),
+                $held.samples.pointer(),
+                $held.samples.len(),
+                $held.order.pointer_mut(),
+                $held.order.len(),
+                $held.hints.pointer_mut(),
+                $held.hints.len(),
+                $held.palette.pointer_mut(),
+                $held.palette.len(),
+                $held.least.pointer_mut(),
+                $held.least.len(),
+                $held.record.pointer_mut(),
+                $held.record.len(),
+                $($own,)*
+            )
+        }
+    };
+}
+
+pub fn start(job: &Job, held: &mut Memory, seed: u64) -> u32 {
+    with_memory!(probe_start, job, held, [seed])
+}
+
 /// The number and the draws.
 pub fn advance(job: &Job, held: &mut Memory, allotment: u64) -> (u32, u64) {
     let mut drawn = [0];
-    let number = unsafe {
-        probe_advance(
-            job.s,
-            job.c,
-            job.t,
-            held.n,
-            job.weight,
-            job.tiles.pointer(),
-            job.tiles.len(),
-            job.colours.pointer(),
-            job.colours.len(),
-            job.counts.pointer(),
-            job.counts.len(),
-            held.samples.pointer(),
-            held.samples.len(),
-            held.order.pointer_mut(),
-            held.order.len(),
-            held.hints.pointer_mut(),
-            held.hints.len(),
-            held.palette.pointer_mut(),
-            held.palette.len(),
-            held.least.pointer_mut(),
-            held.least.len(),
-            held.record.pointer_mut(),
-            held.record.len(),
-            allotment,
-            drawn.as_mut_ptr(),
-            drawn.len(),
-        )
-    };
-    (number, drawn[0])
+    (with_memory!(probe_advance, job, held, [], allotment, drawn.as_mut_ptr(), drawn.len()), drawn[0])
+}
+
+pub fn hand_in(job: &Job, held: &mut Memory, reduced: &Lent<f32>) -> u32 {
+    with_memory!(probe_hand_in, job, held, [], reduced.pointer(), reduced.len())
 }
