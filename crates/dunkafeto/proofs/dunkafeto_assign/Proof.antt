@@ -1,0 +1,24 @@
+-- `dunkafeto_assign` tells what `assign::assign` ensures. Assumes nothing.
+use Rattle.dunkafeto.proofs.Forwards.{tiles-told}
+use borrow.Author.Needs.{needs}
+use Rattle.dunkafeto.proofs.dunkafeto_assign.Statement.{statement}
+use Rattle.dunkafeto.proofs.dunkafeto_assign.Tie as tie
+
+assign-requires : tie.Need-assign-requires
+assign-requires c κs = search needs
+
+cast-result : tie.Need-cast-result
+cast-result c = search needs
+
+same-length : tie.Need-same-length
+same-length c = search needs
+
+same-length-2 : tie.Need-same-length-2
+same-length-2 c = search needs
+
+returns : tie.Need-returns
+returns c = tiles-told _ _ _ (c .before .before .before .before .assign .ensures)
+
+pub dunkafeto-assign-spec : {M : Type 1} → statement M
+dunkafeto-assign-spec =
+    tie.close (tie.spec assign-requires cast-result same-length same-length-2 returns)

@@ -1,0 +1,20 @@
+-- `dunkafeto_result` tells what `run_result::result` ensures. Assumes nothing.
+use Rattle.dunkafeto.proofs.Forwards.{colours-told}
+use borrow.Author.Needs.{needs}
+use Rattle.dunkafeto.proofs.dunkafeto_result.Statement.{statement}
+use Rattle.dunkafeto.proofs.dunkafeto_result.Tie as tie
+
+result-requires : tie.Need-result-requires
+result-requires c κs = search needs
+
+cast-result : tie.Need-cast-result
+cast-result c = search needs
+
+same-length : tie.Need-same-length
+same-length c = search needs
+
+returns : tie.Need-returns
+returns c = colours-told _ _ _ (c .before .before .result .ensures)
+
+pub dunkafeto-result-spec : {M : Type 1} → statement M
+dunkafeto-result-spec = tie.close (tie.spec result-requires cast-result same-length returns)

@@ -1,0 +1,42 @@
+-- `dunkafeto_start` tells what `run_start::start` ensures. Assumes nothing.
+use Rattle.dunkafeto.proofs.Forwards.{run-told}
+use borrow.Author.Needs.{needs}
+use Rattle.dunkafeto.proofs.dunkafeto_start.Statement.{statement}
+use Rattle.dunkafeto.proofs.dunkafeto_start.Tie as tie
+
+start-requires : tie.Need-start-requires
+start-requires c κs = search needs
+
+cast-result : tie.Need-cast-result
+cast-result c = search needs
+
+same-length : tie.Need-same-length
+same-length c = search needs
+
+same-length-2 : tie.Need-same-length-2
+same-length-2 c = search needs
+
+same-length-3 : tie.Need-same-length-3
+same-length-3 c = search needs
+
+same-length-4 : tie.Need-same-length-4
+same-length-4 c = search needs
+
+same-length-5 : tie.Need-same-length-5
+same-length-5 c = search needs
+
+returns : tie.Need-returns
+returns c = run-told _ _ _ (c .before .before .before .before .before .before .before .before .before .before .start .ensures)
+
+pub dunkafeto-start-spec : {M : Type 1} → statement M
+dunkafeto-start-spec =
+    tie.close
+    (tie.spec
+    start-requires
+    cast-result
+    same-length
+    same-length-2
+    same-length-3
+    same-length-4
+    same-length-5
+    returns)

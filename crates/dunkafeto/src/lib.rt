@@ -1,0 +1,192 @@
+// The calls for C and Rust hosts: forwarders only, each with the contract of what it forwards to. Assumes nothing.
+// The answer is one number, draws times 256 and the answer number (specs/Told). A slice is a pointer and a length in C.
+ghost use mathlib.Core.Path.{_≡_};
+ghost use Rattle.job.specs.Job.{job, tileSize};
+ghost use Rattle.quantizer.specs.Course.{course};
+ghost use Rattle.stages.specs.Calls.{memory, startCall, advanceCall, handInCall, resultCall};
+ghost use Rattle.assign.specs.Assign.{held, assignDef};
+ghost use Rattle.dunkafeto.specs.Told.{told, toldRun, toldColours, toldTiles};
+
+// Starts a run, as `run_start::start`. It makes no draw.
+#[no_mangle]
+pub extern "C" fn dunkafeto_start(
+    s: usize,
+    c: usize,
+    t: usize,
+    n: usize,
+    weight: f32,
+    seed: u64,
+    tiles: &[u32],
+    colours: &[f32],
+    counts: &[u32],
+    samples: &[u32],
+    order: &mut [u32],
+    hints: &mut [u32],
+    palette: &mut [f32],
+    least: &mut [f32],
+    words: &mut [u64],
+) -> u64
+    ensures { λ r. ⌜ told r (memory (now (order .exit)) (now (hints .exit)) (now (palette .exit)) (now (least .exit)) (now (words .exit))) ≡ toldRun (startCall tileSize (course (job s c t weight (now (tiles .entry)) (now (colours .entry)) (now (counts .entry))) n (now (samples .entry))) (memory (now (order .entry)) (now (hints .entry)) (now (palette .entry)) (now (least .entry)) (now (words .entry))) seed) ⌝ }
+{
+    let number = run_start::start(
+        s,
+        c,
+        t,
+        n,
+        weight,
+        seed,
+        tiles,
+        colours,
+        counts,
+        samples,
+        order,
+        hints,
+        palette,
+        least,
+        words,
+    );
+    number as u64
+}
+
+// Makes the draws of a run, at most `allotment`, as `run_advance::advance`.
+#[no_mangle]
+pub extern "C" fn dunkafeto_advance(
+    s: usize,
+    c: usize,
+    t: usize,
+    n: usize,
+    weight: f32,
+    tiles: &[u32],
+    colours: &[f32],
+    counts: &[u32],
+    samples: &[u32],
+    order: &mut [u32],
+    hints: &mut [u32],
+    palette: &mut [f32],
+    least: &mut [f32],
+    words: &mut [u64],
+    allotment: u64,
+) -> u64
+    ensures { λ r. ⌜ told r (memory (now (order .exit)) (now (hints .exit)) (now (palette .exit)) (now (least .exit)) (now (words .exit))) ≡ toldRun (advanceCall tileSize (course (job s c t weight (now (tiles .entry)) (now (colours .entry)) (now (counts .entry))) n (now (samples .entry))) (memory (now (order .entry)) (now (hints .entry)) (now (palette .entry)) (now (least .entry)) (now (words .entry))) allotment) ⌝ }
+{
+    let a = run_advance::advance(
+        s,
+        c,
+        t,
+        n,
+        weight,
+        tiles,
+        colours,
+        counts,
+        samples,
+        order,
+        hints,
+        palette,
+        least,
+        words,
+        allotment,
+    );
+    a.draws * 256 + a.number as u64
+}
+
+// Hands in reduced colours at a stop, as `run_hand_in::hand_in`. It makes no draw.
+#[no_mangle]
+pub extern "C" fn dunkafeto_hand_in(
+    s: usize,
+    c: usize,
+    t: usize,
+    n: usize,
+    weight: f32,
+    tiles: &[u32],
+    colours: &[f32],
+    counts: &[u32],
+    samples: &[u32],
+    order: &[u32],
+    hints: &mut [u32],
+    palette: &mut [f32],
+    least: &[f32],
+    words: &mut [u64],
+    reduced: &[f32],
+) -> u64
+    ensures { λ r. ⌜ told r (memory (now (order .entry)) (now (hints .exit)) (now (palette .exit)) (now (least .entry)) (now (words .exit))) ≡ toldRun (handInCall tileSize (course (job s c t weight (now (tiles .entry)) (now (colours .entry)) (now (counts .entry))) n (now (samples .entry))) (memory (now (order .entry)) (now (hints .entry)) (now (palette .entry)) (now (least .entry)) (now (words .entry))) (now (reduced .entry))) ⌝ }
+{
+    let number = run_hand_in::hand_in(
+        s,
+        c,
+        t,
+        n,
+        weight,
+        tiles,
+        colours,
+        counts,
+        samples,
+        order,
+        hints,
+        palette,
+        least,
+        words,
+        reduced,
+    );
+    number as u64
+}
+
+// Copies the colours of a finished run to `out`, as `run_result::result`.
+#[no_mangle]
+pub extern "C" fn dunkafeto_result(
+    s: usize,
+    c: usize,
+    t: usize,
+    n: usize,
+    weight: f32,
+    tiles: &[u32],
+    colours: &[f32],
+    counts: &[u32],
+    samples: &[u32],
+    order: &[u32],
+    hints: &[u32],
+    palette: &[f32],
+    least: &[f32],
+    words: &[u64],
+    out: &mut [f32],
+) -> u64
+    ensures { λ r. ⌜ told r (now (out .exit)) ≡ toldColours (resultCall tileSize (course (job s c t weight (now (tiles .entry)) (now (colours .entry)) (now (counts .entry))) n (now (samples .entry))) (memory (now (order .entry)) (now (hints .entry)) (now (palette .entry)) (now (least .entry)) (now (words .entry))) (now (out .entry))) ⌝ }
+{
+    let number = run_result::result(
+        s,
+        c,
+        t,
+        n,
+        weight,
+        tiles,
+        colours,
+        counts,
+        samples,
+        order,
+        hints,
+        palette,
+        least,
+        words,
+        out,
+    );
+    number as u64
+}
+
+// For each tile the subpalette that fits it best, as `assign::assign`. It belongs to no run.
+#[no_mangle]
+pub extern "C" fn dunkafeto_assign(
+    s: usize,
+    c: usize,
+    t: usize,
+    weight: f32,
+    tiles: &[u32],
+    colours: &[f32],
+    counts: &[u32],
+    palette: &[f32],
+    hints: &mut [u32],
+    out: &mut [u32],
+) -> u64
+    ensures { λ r. ⌜ told r (held (now (hints .exit)) (now (out .exit))) ≡ toldTiles (assignDef tileSize (job s c t weight (now (tiles .entry)) (now (colours .entry)) (now (counts .entry))) (now (palette .entry)) (held (now (hints .entry)) (now (out .entry)))) ⌝ }
+{
+    let number = assign::assign(s, c, t, weight, tiles, colours, counts, palette, hints, out);
+    number as u64
+}

@@ -1,0 +1,237 @@
+/* dunkafeto.h: the palette trainer's five calls, for hosts in C99 or C++.
+ *
+ * Link with libdunkafeto.a (`rt staticlib dunkafeto`; x86-64 Linux). Nothing is allocated, nothing is kept between calls, no call
+ * reads or writes a file, a clock or memory that it was not lent. Every call answers every input that keeps to "What the caller
+ * owes" below: each checks all its arguments itself.
+ *
+ * A job is S subpalettes of C colours, and T tiles, each with its colours and how often each occurs. Colours are Oklab: three
+ * floats, l, a, b. Training draws n samples in an order of its own, and stops three times for the host to reduce the colours to
+ * those that its console has.
+ *
+ * Order of calls:
+ *
+ *     start, then as the stage (word 1 of the record) says:
+ *       0, 1, 2, 4      advance, as often as you like, with any allotment of draws
+ *       3, 5, 6         a stop: reduce the palette's colours, hand_in
+ *       7               finished: result, or read `palette`
+ *
+ * A whole run makes (S + C + 18) * (n / 10) draws, whatever the allotments. With n below 10 it makes none.
+ * To save a run, keep order, hints, palette, least and words (and the job) between two calls; to go on, lend them again.
+ *
+ * Example, a whole program:
+ *
+ *     #include <stdio.h>
+ *     #include "dunkafeto.h"
+ *
+ *     enum { S = 1, C = 2, T = 2, N = 10, CELLS = 3 * S * C };
+ *     static const uint32_t tiles[2 * T] = {0, 2, 2, 1}; // tile 0 has colours 0 and 1, tile 1 has colour 2
+ *     static const float colours[9] = {0.25f, 0, 0, 0.75f, 0, 0, 0.5f, 0.125f, 0};
+ *     static const uint32_t counts[3] = {4, 4, 2};
+ *     static const uint32_t samples[2 * N] = {0, 0, 0, 0, 0, 0, 0, 0, 0, 1, 0, 1, 0, 1, 0, 1, 1, 0, 1, 0};
+ *     static uint32_t order[N], hints[T];
+ *     static float palette[CELLS], least[CELLS], reduced[CELLS];
+ *     static uint64_t words[DUNKAFETO_WORDS];
+ *
+ *     #define JOB S, C, T, N, 1.0f
+ *     #define LENT tiles, 2 * T, colours, 9, counts, 3, samples, 2 * N, order, N, hints, T, palette, CELLS, least, CELLS, words, 6
+ *
+ *     int main(void) {
+ *         uint64_t answer = dunkafeto_start(JOB, 0, tiles, 2 * T, colours, 9, counts, 3, samples, 2 * N, order, N, hints, T,
+ *                                           palette, CELLS, least, CELLS, words, 6);
+ *         while (dunkafeto_number(answer) == DUNKAFETO_DONE && words[DUNKAFETO_STAGE] != DUNKAFETO_FINISHED) {
+ *             if (dunkafeto_draws_in(words[DUNKAFETO_STAGE])) {
+ *                 answer = dunkafeto_advance(JOB, LENT, 1000);
+ *             } else {
+ *                 for (int i = 0; i < CELLS; i++) // a console with 16 levels of each component
+ *                     reduced[i] = (float)(int)(palette[i] * 16.0f) / 16.0f;
+ *                 answer = dunkafeto_hand_in(JOB, LENT, reduced, CELLS);
+ *             }
+ *         }
+ *         if (dunkafeto_number(answer) != DUNKAFETO_DONE) {
+ *             printf("refused: %s\n", dunkafeto_says(dunkafeto_number(answer)));
+ *             return 1;
+ *         }
+ *         for (int i = 0; i < CELLS; i += 3)
+ *             printf("%g %g %g\n", palette[i], palette[i + 1], palette[i + 2]);
+ *         return 0;
+ *     }
+ */
+#ifndef DUNKAFETO_H
+#define DUNKAFETO_H
+
+#include <stddef.h>
+#include <stdint.h>
+
+#ifdef __cplusplus
+extern "C" {
+#endif
+
+/* ---- Limits. Outside them a call refuses with the number that stands beside. */
+#define DUNKAFETO_MOST_SUBPALETTES 16     /* S is 1 up to this, else 2 */
+#define DUNKAFETO_MOST_COLOURS 16         /* C is 1 up to this, else 2 */
+#define DUNKAFETO_MOST_TILES 1024         /* T is 1 up to this, else 2 */
+#define DUNKAFETO_MOST_SAMPLES 16384      /* n is 1 up to this, else 1 where it is 0 and 2 where it is above */
+#define DUNKAFETO_MOST_TILE_COLOURS 16384 /* of all tiles together, else 5 */
+#define DUNKAFETO_TILE_SIZE 64            /* colours of a tile are 0 up to this, else 5; its counts sum to at most this, else 6 */
+#define DUNKAFETO_MOST_COMPONENT 2.0f     /* magnitude of a component that the host gives, else 7; of one a run holds: 4 */
+#define DUNKAFETO_MOST_WEIGHT 16.0f       /* weight is above 0 and at most this, else 4 */
+#define DUNKAFETO_WORDS 6                 /* words of a run's record */
+
+/* ---- Numbers. Of several faults the first in the order 2, 3, 1, 4, 5, 6, 7 (job), 8, 10, 7 (working colours), 9, 11,
+ * 7 (handed-in colours) decides. These five calls give 0 to 11; 12 to 15 belong to other calls of the same table. */
+enum dunkafeto_numbers {
+    DUNKAFETO_DONE = 0,
+    DUNKAFETO_NO_SAMPLES = 1,    /* n is 0 */
+    DUNKAFETO_SIZES = 2,         /* S, C or T is outside its range, or n is above 16,384 */
+    DUNKAFETO_LENGTHS = 3,       /* a lent slice has a length other than the sizes imply */
+    DUNKAFETO_WEIGHT = 4,        /* the weight is not above 0, is above 16, or is NaN */
+    DUNKAFETO_TILES = 5,         /* tile table not consecutive, a tile above 64 colours, or a total above 16,384 or unlike the colours lent */
+    DUNKAFETO_COUNTS = 6,        /* a count of 0, or a tile's counts sum to more than 64 */
+    DUNKAFETO_COMPONENTS = 7,    /* a component given is above 2 in magnitude, or one that a run holds above 4, or either is not finite */
+    DUNKAFETO_SAMPLES = 8,       /* a sample names no tile, or no colour of its tile */
+    DUNKAFETO_ORDER = 9,         /* an entry of the order is n or more */
+    DUNKAFETO_RECORD = 10,       /* the record breaks one of its rules */
+    DUNKAFETO_MOMENT = 11,       /* advance at a stop or finish, hand_in elsewhere than at a stop, result before the finish */
+    DUNKAFETO_SHEET_HEAD = 12,   /* a sheet's opening or edition is wrong */
+    DUNKAFETO_SHEET_BYTES = 13,  /* a sheet is cut short, has a spare bit set, bytes after it, or more than 65,536 bytes */
+    DUNKAFETO_SAME_COLOUR = 14,  /* grouping: equal reduced colours with different Oklab bits */
+    DUNKAFETO_EMPTY_TILE = 15    /* single fit asked for an empty tile */
+};
+
+/* ---- The record: six words, which start writes and the others keep. Read them freely; write none. */
+enum dunkafeto_record {
+    DUNKAFETO_GENERATOR = 0, /* state of the generator */
+    DUNKAFETO_STAGE = 1,     /* 0 to 7, below */
+    DUNKAFETO_ROUNDS = 2,    /* rounds finished in the stage */
+    DUNKAFETO_LEFT = 3,      /* draws left in the round */
+    DUNKAFETO_MADE = 4,      /* draws made since the start */
+    DUNKAFETO_ERROR = 5      /* in stage 2 the least error so far, as the bits of a float; else 0 */
+};
+
+enum dunkafeto_stages {
+    DUNKAFETO_SEEDING = 0,
+    DUNKAFETO_GROWING = 1,
+    DUNKAFETO_REPLACING = 2,
+    DUNKAFETO_REDUCE_TRAINED = 3, /* a stop, before the final draws */
+    DUNKAFETO_FINAL_DRAWS = 4,
+    DUNKAFETO_REDUCE_DRAWN = 5,   /* a stop, before the refinement */
+    DUNKAFETO_REDUCE_REFINED = 6, /* a stop, after which the run is finished */
+    DUNKAFETO_FINISHED = 7
+};
+
+/* ---- The answer of a call: draws made, times 256, and the number. */
+
+/* The number: DUNKAFETO_DONE, or why the call refused. */
+static inline uint32_t dunkafeto_number(uint64_t answer) { return (uint32_t)(answer & 255u); }
+
+/* The draws that the call made: 0 for each refusal and for each call but advance. At most 81,900. */
+static inline uint64_t dunkafeto_draws(uint64_t answer) { return answer >> 8; }
+
+/* Whether a stage is one for advance. */
+static inline int dunkafeto_draws_in(uint64_t stage) { return stage < 3 || stage == 4; }
+
+/* Whether a stage is one for hand_in. */
+static inline int dunkafeto_stops_at(uint64_t stage) { return stage == 3 || stage == 5 || stage == 6; }
+
+/* The draws of a whole run. */
+static inline uint64_t dunkafeto_all_draws(size_t s, size_t c, size_t n) { return (uint64_t)(s + c + 18) * (n / 10); }
+
+/* A number in words. */
+static inline const char *dunkafeto_says(uint32_t number) {
+    static const char *const words[] = {
+        "done",
+        "there are no samples",
+        "too few or too many subpalettes, colours, tiles or samples",
+        "a lent slice has the wrong length",
+        "the weight is not above 0 and at most 16",
+        "the tile table is not consecutive, a tile has more than 64 colours, or the total is wrong",
+        "a count is 0, or a tile's counts sum to more than 64",
+        "a colour's component is too large or not finite",
+        "a sample names no tile or no colour of it",
+        "an entry of the order is too large",
+        "the run's record breaks its rules",
+        "the call does not belong to this moment of the run",
+        "the sheet's opening or edition is wrong",
+        "the sheet is cut short, has a spare bit set or bytes after it, or is too large",
+        "equal reduced colours have different Oklab bits",
+        "the tile is empty",
+    };
+    return number < sizeof words / sizeof words[0] ? words[number] : "no such number";
+}
+
+/* ---- The arguments that calls share. A slice is a pointer and, right after it, its length: the number of its elements, not bytes.
+ *
+ *     argument  elements          each is                                                  limits (number)
+ *     s, c, t                     subpalettes, colours of each, tiles                      see above (2)
+ *     n                           samples                                                  1 to 16,384 (1, 2)
+ *     weight                      of chroma against lightness in a squared distance        above 0, at most 16 (4)
+ *     tiles     2 * t             per tile its first colour, its number of colours         consecutive from 0; 0 to 64 colours (5)
+ *     colours   3 * counts_len    per colour l, a, b                                       finite, magnitude at most 2 (7)
+ *     counts    tiles' colours    pixels of the tile that have the colour                  at least 1, a tile's sum at most 64 (6)
+ *     samples   2 * n             per sample a tile, a colour by its place in that tile    both exist (8)
+ *
+ * The memory of a run, lent to every call of it:
+ *
+ *     order     n                 the order of the samples                                 below n (9)
+ *     hints     t                 per tile the subpalette that is tried first              any
+ *     palette   3 * s * c         the colours, subpalette by subpalette: l, a, b           finite, magnitude at most 4 (7)
+ *     least     3 * s * c         a second palette, in use in stage 2                      the same, in stage 2 only (7)
+ *     words     6                 the record                                               its rules (10)
+ *
+ * A length other than that in the second column is number 3.
+ *
+ * What the caller owes, since no call can check it: a pointer has at least as many elements behind it as the length says, aligned as
+ * C aligns them and readable, and writable where it is not const; what is written overlaps nothing else that is lent to the same
+ * call; no other thread touches it during the call. A length of 0 goes with any pointer, NULL too. Calls on memory of different runs
+ * share nothing and may go on at the same time. tiles, colours, counts and samples may be shared by any number of calls.
+ *
+ * Whatever the number, if it is not DUNKAFETO_DONE the call made no draws and wrote nothing. */
+
+/* Starts a run. Asks of hints only their length, and of order, palette, least and words too.
+ * Writes order, palette, least, words and hints. `seed` is any number: the same job and seed give the same run. */
+uint64_t dunkafeto_start(size_t s, size_t c, size_t t, size_t n, float weight, uint64_t seed,
+                         const uint32_t *tiles, size_t tiles_len, const float *colours, size_t colours_len,
+                         const uint32_t *counts, size_t counts_len, const uint32_t *samples, size_t samples_len,
+                         uint32_t *order, size_t order_len, uint32_t *hints, size_t hints_len,
+                         float *palette, size_t palette_len, float *least, size_t least_len,
+                         uint64_t *words, size_t words_len);
+
+/* Makes up to `allotment` draws, any number, 0 too; fewer only where a stop or the finish comes first. Only at stages 0, 1, 2, 4 (11).
+ * Writes order, hints, palette, least and words. How draws are divided into calls makes no difference to what they leave. */
+uint64_t dunkafeto_advance(size_t s, size_t c, size_t t, size_t n, float weight,
+                           const uint32_t *tiles, size_t tiles_len, const float *colours, size_t colours_len,
+                           const uint32_t *counts, size_t counts_len, const uint32_t *samples, size_t samples_len,
+                           uint32_t *order, size_t order_len, uint32_t *hints, size_t hints_len,
+                           float *palette, size_t palette_len, float *least, size_t least_len,
+                           uint64_t *words, size_t words_len, uint64_t allotment);
+
+/* Hands in the palette's colours as the console shows them: `reduced` has 3 * s * c components (3), finite and of magnitude at most
+ * 2 (7). Only at a stop, stages 3, 5, 6 (11). Writes hints, palette and words. */
+uint64_t dunkafeto_hand_in(size_t s, size_t c, size_t t, size_t n, float weight,
+                           const uint32_t *tiles, size_t tiles_len, const float *colours, size_t colours_len,
+                           const uint32_t *counts, size_t counts_len, const uint32_t *samples, size_t samples_len,
+                           const uint32_t *order, size_t order_len, uint32_t *hints, size_t hints_len,
+                           float *palette, size_t palette_len, const float *least, size_t least_len,
+                           uint64_t *words, size_t words_len, const float *reduced, size_t reduced_len);
+
+/* Copies the colours of a finished run, stage 7 (11), to `out`: 3 * s * c components (3). Writes nothing else. */
+uint64_t dunkafeto_result(size_t s, size_t c, size_t t, size_t n, float weight,
+                          const uint32_t *tiles, size_t tiles_len, const float *colours, size_t colours_len,
+                          const uint32_t *counts, size_t counts_len, const uint32_t *samples, size_t samples_len,
+                          const uint32_t *order, size_t order_len, const uint32_t *hints, size_t hints_len,
+                          const float *palette, size_t palette_len, const float *least, size_t least_len,
+                          const uint64_t *words, size_t words_len, float *out, size_t out_len);
+
+/* For each tile the subpalette that fits it best, the lowest of equals, to `out`: t numbers (3); 0 for an empty tile. It belongs to no
+ * run: `palette` is any palette of 3 * s * c components (3), finite and of magnitude at most 2 (7). Writes out, and the same into
+ * hints (t numbers, 3; any) except for empty tiles. */
+uint64_t dunkafeto_assign(size_t s, size_t c, size_t t, float weight,
+                          const uint32_t *tiles, size_t tiles_len, const float *colours, size_t colours_len,
+                          const uint32_t *counts, size_t counts_len, const float *palette, size_t palette_len,
+                          uint32_t *hints, size_t hints_len, uint32_t *out, size_t out_len);
+
+#ifdef __cplusplus
+}
+#endif
+
+#endif
