@@ -32,20 +32,15 @@ const ASKED_WEIGHT_LINE: &str = "const CHROMA_WEIGHT: terms::host::Weight = term
 fn main() {
     let tree = package().join("../tree");
     let out = PathBuf::from(env::var("OUT_DIR").unwrap()).join("src");
-    let rust = sources();
     let probed = env::var("CARGO_PKG_NAME").unwrap() == "probed";
 
     println!("cargo::rustc-check-cfg=cfg(probed)");
     if probed {
         println!("cargo::rustc-cfg=probed");
     }
-    println!("cargo::rerun-if-env-changed=DUNKAFETO_RUST");
     println!("cargo::rerun-if-changed={}", tree.display());
 
-    for file in FILES {
-        println!("cargo::rerun-if-changed={}", rust.join(file).display());
-        write(&out.join(file), &read(&rust.join(file)));
-    }
+    lay_out(&out);
     append(&out.join("quant/incremental/dither.rs"), "\npub(super) mod door;\n");
     write(&out.join("quant/incremental/dither/door.rs"), &read(&tree.join("door.rs")));
     if probed {
@@ -61,7 +56,17 @@ fn main() {
     modules(&tree, &out);
 }
 
-fn package() -> PathBuf {
+/// Copies the Rust's files.
+pub fn lay_out(out: &Path) {
+    let rust = sources();
+    println!("cargo::rerun-if-env-changed=DUNKAFETO_RUST");
+    for file in FILES {
+        println!("cargo::rerun-if-changed={}", rust.join(file).display());
+        write(&out.join(file), &read(&rust.join(file)));
+    }
+}
+
+pub fn package() -> PathBuf {
     PathBuf::from(env::var("CARGO_MANIFEST_DIR").unwrap())
 }
 
@@ -76,7 +81,7 @@ fn sources() -> PathBuf {
 }
 
 /// The file that lib.rs includes: the Rust's modules beside the shims.
-fn modules(tree: &Path, out: &Path) {
+pub fn modules(tree: &Path, out: &Path) {
     let shim =
         |name: &str| format!("#[path = {:?}]\npub mod {name};\n", tree.join("shims").join(name).with_extension("rs"));
     let own = |name: &str| format!("#[path = {:?}]\npub mod {name};\n", out.join(name).with_extension("rs"));
@@ -90,15 +95,15 @@ fn modules(tree: &Path, out: &Path) {
     write(&out.with_file_name("modules.rs"), &text);
 }
 
-fn read(path: &Path) -> String {
+pub fn read(path: &Path) -> String {
     fs::read_to_string(path).unwrap_or_else(|e| panic!("{}: {e}", path.display()))
 }
 
-fn write(path: &Path, text: &str) {
+pub fn write(path: &Path, text: &str) {
     fs::create_dir_all(path.parent().unwrap()).unwrap();
     fs::write(path, text).unwrap_or_else(|e| panic!("{}: {e}", path.display()));
 }
 
-fn append(path: &Path, line: &str) {
+pub fn append(path: &Path, line: &str) {
     write(path, &(read(path) + line));
 }

@@ -38,7 +38,9 @@ impl Sheet {
 fn main() {
     let mut sheet = Sheet { bytes: vec![0; 65_536], at: 0, state: 1 };
     let (s, c, t) = (16usize, 16usize, 1024usize);
-    for (value, width) in [(0x5446_4954, 32), (1, 4), (s as u32 - 1, 4), (c as u32 - 1, 4), (t as u32 - 1, 10), (2.15f32.to_bits(), 32)] {
+    for (value, width) in
+        [(0x5446_4954, 32), (1, 4), (s as u32 - 1, 4), (c as u32 - 1, 4), (t as u32 - 1, 10), (2.15f32.to_bits(), 32)]
+    {
         sheet.field(value, width);
     }
     for _ in 0..s * c {
