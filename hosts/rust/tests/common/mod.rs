@@ -1,0 +1,83 @@
+//! Jobs from a seed, for the tests.
+#![allow(dead_code)] // each test program uses some of it
+
+use dunkafeto::{console, Colour, Job, Moment, Sample, Tiles, Trainer};
+
+/// SplitMix64.
+pub struct Rng(pub u64);
+
+impl Rng {
+    pub fn bits(&mut self) -> u64 {
+        self.0 = self.0.wrapping_add(0x9E37_79B9_7F4A_7C15);
+        let z = (self.0 ^ self.0 >> 30).wrapping_mul(0xBF58_476D_1CE4_E5B9);
+        let z = (z ^ z >> 27).wrapping_mul(0x94D0_49BB_1331_11EB);
+        z ^ z >> 31
+    }
+
+    pub fn below(&mut self, n: usize) -> usize {
+        (self.bits() % n as u64) as usize
+    }
+
+    pub fn among(&mut self, least: usize, most: usize) -> usize {
+        least + self.below(most - least + 1)
+    }
+
+    /// As artwork has them; coarse ones tie.
+    pub fn colour(&mut self) -> Colour {
+        let mut step = |least: i32, steps: usize| (least + self.below(steps) as i32) as f32 / 64.0;
+        [step(0, 65), step(-26, 53), step(-26, 53)]
+    }
+}
+
+/// What a job borrows.
+pub struct Case {
+    pub subpalettes: usize,
+    pub colours_each: usize,
+    pub weight: f32,
+    pub tiles: Tiles,
+    pub samples: Vec<Sample>,
+    pub seed: u64,
+}
+
+impl Case {
+    pub fn any(rng: &mut Rng) -> Self {
+        let mut tiles = Tiles::new();
+        let t = rng.among(1, 12);
+        for i in 0..t {
+            // the last is never empty, so that there is a sample
+            let colours = if i + 1 < t { rng.below(9) } else { rng.among(1, 8) };
+            tiles.push((0..colours).map(|_| (rng.colour(), rng.among(1, 8) as u32)).collect::<Vec<_>>());
+        }
+        let samples = tiles.samples();
+        let (subpalettes, colours_each) = (rng.among(1, 5), rng.among(1, 5));
+        let weight = [2.15, 1.0, 16.0, 0.125][rng.below(4)];
+        Case { subpalettes, colours_each, weight, tiles, samples, seed: rng.bits() }
+    }
+
+    pub fn job(&self) -> Job<'_> {
+        self.tiles.job(self.subpalettes, self.colours_each, self.weight, &self.samples, self.seed)
+    }
+}
+
+/// S = C = 16, 1,024 tiles of 16 colours each with a count of 1, 16,384 samples.
+pub fn largest() -> Case {
+    let mut rng = Rng(16);
+    let mut tiles = Tiles::new();
+    for _ in 0..1_024 {
+        tiles.push((0..16).map(|_| (rng.colour(), 1)).collect::<Vec<_>>());
+    }
+    let samples = tiles.samples();
+    Case { subpalettes: 16, colours_each: 16, weight: 2.15, tiles, samples, seed: 1 }
+}
+
+/// What the console shows for the working colours.
+pub fn reduced(trainer: &Trainer) -> Vec<Colour> {
+    trainer.working().iter().map(|&colour| console::reduced(colour)).collect()
+}
+
+/// Goes on to the next stop or the finish.
+pub fn to_stop(trainer: &mut Trainer) {
+    if trainer.moment() == Moment::Draws {
+        trainer.advance(u64::MAX).unwrap();
+    }
+}

@@ -1,0 +1,136 @@
+//! The program `host`: killed and taken up again, its state file touched, its statuses.
+
+mod common;
+
+use std::fs;
+use std::path::PathBuf;
+use std::process::{Command, Output, Stdio};
+use std::time::Duration;
+
+use common::Rng;
+use dunkafeto::{console, Sheet, Tiles, Trainer};
+
+/// A folder of the test's own, removed at its end.
+struct Room(PathBuf);
+
+impl Room {
+    fn new(name: &str) -> Self {
+        let room = PathBuf::from(env!("CARGO_TARGET_TMPDIR")).join(format!("{name}-{}", std::process::id()));
+        fs::create_dir_all(&room).unwrap();
+        Room(room)
+    }
+
+    fn file(&self, name: &str) -> PathBuf {
+        self.0.join(name)
+    }
+
+    fn command(&self, words: &[&str]) -> Command {
+        let mut command = Command::new(env!("CARGO_BIN_EXE_host"));
+        command.current_dir(&self.0).args(words).stdin(Stdio::null());
+        command
+    }
+
+    fn run(&self, words: &[&str]) -> Output {
+        self.command(words).output().unwrap()
+    }
+}
+
+impl Drop for Room {
+    fn drop(&mut self) {
+        let _ = fs::remove_dir_all(&self.0);
+    }
+}
+
+fn sheet(t: usize, subpalettes: usize, colours_each: usize) -> Sheet {
+    let mut rng = Rng(41);
+    let mut tiles = Tiles::new();
+    for _ in 0..t {
+        tiles.push((0..16).map(|_| (rng.colour(), 4)).collect::<Vec<_>>());
+    }
+    let palette = vec![[0.0; 3]; subpalettes * colours_each];
+    Sheet { subpalettes, colours_each, weight: 2.15, palette, tiles }
+}
+
+fn trained(mut sheet: Sheet, seed: u64) -> Vec<u8> {
+    let samples = sheet.tiles.samples();
+    let colours = Trainer::start(sheet.job(&samples, seed)).unwrap().finish(console::reduced).unwrap();
+    sheet.palette = colours;
+    sheet.write().unwrap()
+}
+
+#[test]
+fn killed_at_any_moment_it_ends_the_same() {
+    let room = Room::new("killed");
+    let sheet = sheet(128, 16, 16);
+    fs::write(room.file("in"), sheet.write().unwrap()).unwrap();
+    let expected = trained(sheet, 5);
+    let words = ["in", "-o", "out", "--state", "state", "--every", "300", "--seed", "5"];
+    let mut rng = Rng(42);
+    let mut resumed = 0;
+    for kills in 0.. {
+        let mut host = room.command(&words).stderr(Stdio::piped()).spawn().unwrap();
+        if kills < 8 {
+            std::thread::sleep(Duration::from_millis(rng.among(1, 60) as u64));
+            host.kill().unwrap();
+        }
+        let said = host.wait_with_output().unwrap();
+        resumed += usize::from(String::from_utf8_lossy(&said.stderr).contains("resumed at draw"));
+        if said.status.success() {
+            break;
+        }
+    }
+    assert!(resumed > 0);
+    assert!(fs::read(room.file("out")).unwrap() == expected);
+    assert!(!room.file("state").exists() && !room.file("state.new").exists());
+}
+
+#[test]
+fn standard_input_and_output() {
+    let room = Room::new("standard");
+    let sheet = sheet(4, 2, 3);
+    fs::write(room.file("in"), sheet.write().unwrap()).unwrap();
+    let said = room.command(&[]).stdin(fs::File::open(room.file("in")).unwrap()).output().unwrap();
+    assert!(said.status.success());
+    let expected = trained(sheet, 0);
+    assert!(said.stdout == expected);
+    assert_eq!(String::from_utf8_lossy(&said.stderr), format!("checksum {:016x}\n", dunkafeto::checksum(&expected)));
+}
+
+#[test]
+fn statuses() {
+    let room = Room::new("statuses");
+    let status = |words: &[&str]| room.run(words).status.code();
+    let sheet = sheet(64, 4, 4);
+    fs::write(room.file("in"), sheet.write().unwrap()).unwrap();
+    fs::write(room.file("cut"), &sheet.write().unwrap()[..99]).unwrap();
+    let mut empty = Tiles::new();
+    empty.push([]);
+    fs::write(room.file("empty"), Sheet { tiles: empty, ..sheet }.write().unwrap()).unwrap();
+
+    assert_eq!(status(&["in", "-o", "out"]), Some(0));
+    assert_eq!(status(&["cut"]), Some(1));
+    assert_eq!(status(&["empty"]), Some(1));
+    for wrong in [&["--nothing", "1"][..], &["--every", "0"], &["--seed", "-1"], &["-o"], &["in", "in"]] {
+        assert_eq!(status(wrong), Some(2), "{wrong:?}");
+    }
+    assert_eq!(status(&["absent"]), Some(4));
+    assert_eq!(status(&["in", "-o", "absent/out"]), Some(4));
+    assert!(String::from_utf8_lossy(&room.run(&["cut"]).stderr).contains("(13)"));
+    assert!(String::from_utf8_lossy(&room.run(&["empty"]).stderr).contains("(1)"));
+}
+
+#[test]
+fn a_touched_state_file_is_refused_and_left() {
+    let room = Room::new("touched");
+    let sheet = sheet(64, 4, 4);
+    fs::write(room.file("in"), sheet.write().unwrap()).unwrap();
+    let samples = sheet.tiles.samples();
+    let mut trainer = Trainer::start(sheet.job(&samples, 0)).unwrap();
+    trainer.advance(50).unwrap();
+    let bytes = trainer.save(1); // the key of nothing that the program knows
+    fs::write(room.file("state"), &bytes).unwrap();
+    let said = room.run(&["in", "-o", "out", "--state", "state"]);
+    assert_eq!(said.status.code(), Some(3));
+    assert!(fs::read(room.file("state")).unwrap() == bytes);
+    assert!(!room.file("out").exists());
+}

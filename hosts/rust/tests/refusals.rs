@@ -1,0 +1,223 @@
+//! Each answer number through the safe calls, at its edge where it has one, and that a refusal leaves everything as it was.
+
+mod common;
+
+use common::{reduced, to_stop, Case, Rng};
+use dunkafeto::{assign, Job, Memory, Refusal, Sample, Sheet, Tile, Tiles, Trainer};
+
+const GREY: [f32; 3] = [0.5, 0.0, 0.0];
+
+fn tiles(each: &[&[u32]]) -> Tiles {
+    let mut tiles = Tiles::new();
+    each.iter().for_each(|counts| tiles.push(counts.iter().map(|&count| (GREY, count))));
+    tiles
+}
+
+fn started(job: Job) -> Result<(), Refusal> {
+    Trainer::start(job).map(drop)
+}
+
+/// A job that is accepted, changed by `change`.
+fn start_of<'a>(change: impl FnOnce(&mut Job<'a>)) -> Result<(), Refusal> {
+    let mut job = Job {
+        subpalettes: 2,
+        colours_each: 2,
+        weight: 1.0,
+        tiles: &[Tile { first: 0, colours: 2 }],
+        colours: &[GREY, [1.0, 0.0, 0.0]],
+        counts: &[10, 54],
+        samples: &[Sample { tile: 0, place: 1 }; 20],
+        seed: 7,
+    };
+    change(&mut job);
+    started(job)
+}
+
+#[test]
+fn an_accepted_job_starts() {
+    assert_eq!(start_of(|_| {}), Ok(()));
+}
+
+#[test]
+fn number_1_no_samples() {
+    assert_eq!(start_of(|job| job.samples = &[]), Err(Refusal::NoSamples));
+}
+
+#[test]
+fn number_2_sizes() {
+    for wrong in [0, 17, usize::MAX] {
+        assert_eq!(start_of(|job| job.subpalettes = wrong), Err(Refusal::Sizes));
+        assert_eq!(start_of(|job| job.colours_each = wrong), Err(Refusal::Sizes));
+    }
+    assert_eq!(start_of(|job| job.tiles = &[]), Err(Refusal::Sizes));
+    let full: Vec<&[u32]> = vec![&[16]; 1_024];
+    let most = tiles(&full);
+    let samples = most.samples();
+    assert_eq!(samples.len(), 16_384);
+    assert_eq!(started(most.job(1, 1, 1.0, &samples, 0)), Ok(()));
+    let more = tiles(&[&full[..], &[&[]]].concat());
+    assert_eq!(started(more.job(1, 1, 1.0, &samples, 0)), Err(Refusal::Sizes));
+    assert_eq!(assign(&more.job(1, 1, 1.0, &[], 0), &[GREY], &mut [0; 1_025]), Err(Refusal::Sizes));
+    let samples = [&samples[..], &samples[..1]].concat();
+    assert_eq!(started(most.job(1, 1, 1.0, &samples, 0)), Err(Refusal::Sizes));
+}
+
+#[test]
+fn number_3_lengths() {
+    assert_eq!(start_of(|job| job.counts = &[64]), Err(Refusal::Lengths));
+    assert_eq!(start_of(|job| job.colours = &job.colours[1..]), Err(Refusal::Lengths));
+    let case = Case::any(&mut Rng(3));
+    assert_eq!(Trainer::start_from(case.job(), vec![0; case.tiles.len() + 1]).err(), Some(Refusal::Lengths));
+    let palette = vec![GREY; case.job().palette_len()];
+    let mut hints = vec![0; case.tiles.len()];
+    assert_eq!(assign(&case.job(), &palette[1..], &mut hints), Err(Refusal::Lengths));
+    assert_eq!(assign(&case.job(), &palette, &mut hints[1..]), Err(Refusal::Lengths));
+    let mut trainer = Trainer::start(case.job()).unwrap();
+    to_stop(&mut trainer);
+    assert_eq!(trainer.hand_in(&palette[1..]), Err(Refusal::Lengths));
+}
+
+#[test]
+fn number_4_weight() {
+    for wrong in [0.0, -0.0, -1.0, 16.0f32.next_up(), f32::INFINITY, f32::NAN] {
+        assert_eq!(start_of(|job| job.weight = wrong), Err(Refusal::Weight), "{wrong}");
+    }
+    for right in [f32::from_bits(1), 2.15, 16.0] {
+        assert_eq!(start_of(|job| job.weight = right), Ok(()));
+    }
+}
+
+#[test]
+fn number_5_tiles() {
+    let wrong = [Tile { first: 1, colours: 1 }, Tile { first: 0, colours: 1 }, Tile { first: 0, colours: u32::MAX }];
+    for tile in wrong {
+        let table = [tile];
+        assert_eq!(start_of(|job| job.tiles = &table), Err(Refusal::Tiles), "{tile:?}");
+    }
+    let samples = [Sample::default()];
+    assert_eq!(started(tiles(&[&[1; 64]]).job(1, 1, 1.0, &samples, 0)), Ok(()));
+    assert_eq!(started(tiles(&[&[1; 65]]).job(1, 1, 1.0, &samples, 0)), Err(Refusal::Tiles));
+}
+
+#[test]
+fn number_6_counts() {
+    assert_eq!(start_of(|job| job.counts = &[0, 64]), Err(Refusal::Counts));
+    assert_eq!(start_of(|job| job.counts = &[11, 54]), Err(Refusal::Counts));
+    assert_eq!(start_of(|job| job.counts = &[u32::MAX, 2]), Err(Refusal::Counts));
+}
+
+#[test]
+fn number_7_components() {
+    for wrong in [2.0f32.next_up(), -3.0, f32::INFINITY, f32::NAN] {
+        let colours = [[0.5, wrong, 0.0], GREY];
+        assert_eq!(start_of(|job| job.colours = &colours), Err(Refusal::Components), "{wrong}");
+        let tiles = tiles(&[&[1]]);
+        assert_eq!(assign(&tiles.job(1, 1, 1.0, &[], 0), &colours[..1], &mut [0]), Err(Refusal::Components));
+    }
+    assert_eq!(start_of(|job| job.colours = &[[2.0, -2.0, 2.0], GREY]), Ok(()));
+    let case = Case::any(&mut Rng(7));
+    let mut trainer = Trainer::start(case.job()).unwrap();
+    to_stop(&mut trainer);
+    let (before, mut colours) = (trainer.memory().clone(), reduced(&trainer));
+    colours[0][2] = -2.0f32.next_up();
+    assert_eq!(trainer.hand_in(&colours), Err(Refusal::Components));
+    assert_eq!(trainer.memory(), &before);
+    colours[0][2] = -2.0;
+    assert!(trainer.hand_in(&colours).is_ok());
+}
+
+#[test]
+fn number_8_samples() {
+    for sample in [Sample { tile: 1, place: 0 }, Sample { tile: 0, place: 2 }, Sample { tile: u32::MAX, place: 0 }] {
+        let samples = [sample];
+        assert_eq!(start_of(|job| job.samples = &samples), Err(Refusal::Samples), "{sample:?}");
+    }
+}
+
+/// What resuming says of the memory of a run in the middle of stage 2, changed by `change`.
+fn resumed(change: impl FnOnce(&mut Memory)) -> Result<(), Refusal> {
+    let mut case = Case::any(&mut Rng(9));
+    case.samples = vec![case.samples[0]; 40];
+    let job = case.job();
+    let mut trainer = Trainer::start(job).unwrap();
+    trainer.advance(4 * (job.subpalettes + job.colours_each) as u64).unwrap();
+    let mut memory = trainer.into_memory();
+    assert_eq!(memory.record[1], 2);
+    change(&mut memory);
+    Trainer::resume(job, memory).map(drop)
+}
+
+#[test]
+fn a_run_s_own_memory_resumes() {
+    assert_eq!(resumed(|_| {}), Ok(()));
+    assert_eq!(resumed(|memory| memory.hints.fill(u32::MAX)), Ok(()));
+    assert_eq!(resumed(|memory| memory.record[0] ^= 1), Ok(()));
+}
+
+#[test]
+fn a_stranger_s_memory_is_checked_by_the_library() {
+    assert_eq!(resumed(|memory| memory.order[39] = 40), Err(Refusal::Order));
+    assert_eq!(resumed(|memory| memory.order[0] = u32::MAX), Err(Refusal::Order));
+    assert_eq!(resumed(|memory| memory.palette[0][0] = 4.0), Ok(()));
+    assert_eq!(resumed(|memory| memory.palette[0][0] = 4.0f32.next_up()), Err(Refusal::Components));
+    assert_eq!(resumed(|memory| memory.least[0][1] = f32::NAN), Err(Refusal::Components));
+    assert_eq!(resumed(|memory| memory.order.truncate(39)), Err(Refusal::Lengths));
+    assert_eq!(resumed(|memory| memory.hints.truncate(1)), Err(Refusal::Lengths));
+    assert_eq!(resumed(|memory| memory.palette.truncate(1)), Err(Refusal::Lengths));
+    assert_eq!(resumed(|memory| memory.least.truncate(1)), Err(Refusal::Lengths));
+}
+
+#[test]
+fn number_10_every_rule_of_the_record() {
+    let word = |at: usize, value: u64| resumed(|memory| memory.record[at] = value);
+    for (at, value) in [(1, 8), (1, u64::MAX), (1, 3), (2, 10), (2, u64::MAX), (3, 0), (3, 5), (3, u64::MAX)] {
+        assert_eq!(word(at, value), Err(Refusal::Record), "word {at} {value}");
+    }
+    assert_eq!(resumed(|memory| memory.record[4] += 1), Err(Refusal::Record));
+    assert_eq!(resumed(|memory| memory.record[4] -= 1), Err(Refusal::Record));
+    assert_eq!(word(5, f32::INFINITY.to_bits().into()), Err(Refusal::Record));
+    assert_eq!(word(5, 1 << 31), Err(Refusal::Record));
+    assert_eq!(word(5, 1 << 32), Err(Refusal::Record));
+    assert_eq!(word(5, f32::MAX.to_bits().into()), Ok(()));
+}
+
+#[test]
+fn number_11_the_moment() {
+    let mut case = Case::any(&mut Rng(11));
+    case.samples = vec![case.samples[0]; 30];
+    let mut trainer = Trainer::start(case.job()).unwrap();
+    let colours = reduced(&trainer);
+    for _ in 0..3 {
+        assert_eq!(trainer.result(), Err(Refusal::Moment));
+        if trainer.advance(0).is_ok() {
+            assert_eq!(trainer.hand_in(&colours), Err(Refusal::Moment));
+        }
+        to_stop(&mut trainer);
+        let before = trainer.memory().clone();
+        assert_eq!(trainer.advance(1), Err(Refusal::Moment));
+        assert_eq!(trainer.memory(), &before);
+        trainer.hand_in(&colours).unwrap();
+    }
+    assert_eq!(trainer.advance(0), Err(Refusal::Moment));
+    assert_eq!(trainer.hand_in(&colours), Err(Refusal::Moment));
+    assert_eq!(trainer.result(), Ok(colours));
+}
+
+#[test]
+fn numbers_12_and_13_sheets() {
+    let tiles = tiles(&[&[4]]);
+    let sheet = Sheet { subpalettes: 1, colours_each: 1, weight: 1.0, palette: vec![GREY], tiles };
+    let bytes = sheet.write().unwrap();
+    let read = |change: &dyn Fn(&mut Vec<u8>)| {
+        let mut bytes = bytes.clone();
+        change(&mut bytes);
+        Sheet::read(&bytes).map(drop)
+    };
+    assert_eq!(read(&|bytes| bytes[0] ^= 1), Err(Refusal::SheetOpening));
+    assert_eq!(read(&|bytes| bytes[4] ^= 0x10), Err(Refusal::SheetOpening));
+    assert_eq!(read(&|bytes| bytes.truncate(bytes.len() - 1)), Err(Refusal::SheetBytes));
+    assert_eq!(read(&|bytes| bytes.push(0)), Err(Refusal::SheetBytes));
+    assert_eq!(read(&|bytes| *bytes.last_mut().unwrap() |= 1), Err(Refusal::SheetBytes));
+    assert_eq!(read(&|bytes| bytes.resize(65_537, 0)), Err(Refusal::SheetBytes));
+    assert_eq!(read(&|bytes| bytes.truncate(3)), Err(Refusal::SheetBytes));
+}

@@ -1,0 +1,211 @@
+//! Whole runs: however they are divided, saved and taken up again, started or threaded, they end the same.
+
+mod common;
+
+use common::{largest, reduced, Case, Rng};
+use dunkafeto::{assign, console, Colour, Moment, RestoreError, Stage, Tiles, Trainer};
+
+/// Every state that a run shows at its stops and its finish, when each step is followed by `between`.
+fn states<'a>(
+    mut trainer: Trainer<'a>,
+    mut allotment: impl FnMut() -> u64,
+    between: impl Fn(Trainer<'a>) -> Trainer<'a>,
+) -> Vec<dunkafeto::Memory> {
+    let mut seen = Vec::new();
+    let mut draws = 0;
+    loop {
+        trainer = between(trainer);
+        if trainer.moment() == Moment::Draws {
+            let allotted = allotment();
+            let before = trainer.draws_made();
+            let advanced = trainer.advance(allotted).unwrap();
+            assert!(advanced.draws <= allotted);
+            assert!(advanced.draws == allotted || advanced.moment != Moment::Draws);
+            assert_eq!(trainer.draws_made(), before + advanced.draws);
+            draws += advanced.draws;
+            continue;
+        }
+        seen.push(trainer.memory().clone());
+        if trainer.moment() == Moment::Finished {
+            assert_eq!(draws, trainer.job().draws());
+            assert_eq!(trainer.result().unwrap(), trainer.working());
+            return seen;
+        }
+        trainer.hand_in(&reduced(&trainer)).unwrap();
+    }
+}
+
+#[test]
+fn any_division_into_calls_is_one() {
+    let mut rng = Rng(1);
+    for _ in 0..60 {
+        let case = Case::any(&mut rng);
+        let whole = states(Trainer::start(case.job()).unwrap(), || u64::MAX, |same| same);
+        assert_eq!(whole.len(), 4);
+        let parts = states(Trainer::start(case.job()).unwrap(), || [0, 1, 2, 3, 7, 40][rng.below(6)], |same| same);
+        assert!(whole == parts);
+        let single = states(Trainer::start(case.job()).unwrap(), || 1, |same| same);
+        assert!(whole == single);
+    }
+}
+
+#[test]
+fn saved_and_restored_after_every_call() {
+    let mut rng = Rng(2);
+    for _ in 0..40 {
+        let case = Case::any(&mut rng);
+        let key = rng.bits();
+        let whole = states(Trainer::start(case.job()).unwrap(), || u64::MAX, |same| same);
+        let again = |trainer: Trainer| Trainer::restore(case.job(), key, &trainer.save(key)).unwrap();
+        let parts = states(Trainer::start(case.job()).unwrap(), || rng.below(9) as u64, again);
+        assert!(whole == parts);
+    }
+}
+
+#[test]
+fn a_saved_run_that_was_touched_is_not_restored() {
+    let case = Case::any(&mut Rng(5));
+    let mut trainer = Trainer::start(case.job()).unwrap();
+    trainer.advance(3).unwrap();
+    let bytes = trainer.save(1);
+    let restored = |bytes: &[u8], key: u64| Trainer::restore(case.job(), key, bytes).err();
+    assert_eq!(restored(&bytes, 1), None);
+    assert_eq!(restored(&bytes, 2), Some(RestoreError::OtherKey));
+    for len in 0..bytes.len() {
+        let expected = if len < 8 { RestoreError::NotARun } else { RestoreError::Length };
+        assert_eq!(restored(&bytes[..len], 1), Some(expected), "cut to {len}");
+    }
+    assert_eq!(restored(&[&bytes[..], &[0]].concat(), 1), Some(RestoreError::Length));
+    for bit in 0..8 * bytes.len() {
+        let mut touched = bytes.clone();
+        touched[bit / 8] ^= 1 << (bit % 8);
+        let expected = match bit / 8 {
+            0..8 => RestoreError::NotARun,
+            8..16 => RestoreError::OtherKey,
+            _ => RestoreError::Damaged,
+        };
+        assert_eq!(restored(&touched, 1), Some(expected), "bit {bit}");
+    }
+    let mut other = Case::any(&mut Rng(6));
+    other.samples.pop();
+    assert!(Trainer::restore(other.job(), 1, &bytes).is_err());
+}
+
+#[test]
+fn document_01_s_numbers_of_draws() {
+    for (s, c, n, draws) in [(1, 1, 10, 20), (2, 2, 25, 44), (16, 16, 9, 0), (3, 4, 19, 25)] {
+        let mut tiles = Tiles::new();
+        tiles.push([([0.25, 0.0, 0.0], 2), ([0.75, 0.5, 0.0], n - 2)]);
+        let samples = tiles.samples();
+        let mut trainer = Trainer::start(tiles.job(s, c, 2.15, &samples, 0)).unwrap();
+        trainer.finish(console::reduced).unwrap();
+        assert_eq!((trainer.draws_made(), trainer.job().draws()), (draws, draws));
+        assert_eq!(trainer.stage(), Stage::Finished);
+    }
+}
+
+#[test]
+fn below_ten_samples_a_run_begins_at_its_first_stop() {
+    let mut tiles = Tiles::new();
+    tiles.push([([0.25, 0.0, 0.0], 9)]);
+    let samples = tiles.samples();
+    let trainer = Trainer::start(tiles.job(2, 3, 1.0, &samples, 0)).unwrap();
+    assert_eq!(trainer.stage(), Stage::ReduceTrained);
+    assert_eq!(trainer.working(), [[0.25, 0.0, 0.0]; 6]);
+}
+
+#[test]
+fn no_hint_changes_a_result() {
+    let mut rng = Rng(3);
+    for _ in 0..30 {
+        let case = Case::any(&mut rng);
+        let colours = Trainer::start(case.job()).unwrap().finish(console::reduced).unwrap();
+        let hints = (0..case.tiles.len()).map(|_| rng.bits() as u32 % 20).collect();
+        let hinted = Trainer::start_from(case.job(), hints).unwrap().finish(console::reduced).unwrap();
+        assert_eq!(colours, hinted);
+    }
+}
+
+/// The tile's distance, summed as document 01 says.
+fn distance(sub: &[Colour], colours: &[Colour], counts: &[u32], weight: f32) -> f32 {
+    let squared = |p: &Colour, q: &Colour| {
+        let [l, a, b] = [0, 1, 2].map(|i| p[i] - q[i]);
+        l * l + weight * (a * a + b * b)
+    };
+    let nearest = |q: &Colour| sub.iter().map(|p| squared(q, p)).fold(f32::INFINITY, f32::min);
+    colours.iter().zip(counts).fold(0.0, |sum, (q, &count)| sum + nearest(q) * count as f32)
+}
+
+#[test]
+fn assign_gives_the_first_of_least_distance() {
+    let mut rng = Rng(4);
+    let mut tied = 0;
+    for _ in 0..300 {
+        let case = Case::any(&mut rng);
+        let mut palette: Vec<Colour> = (0..case.job().palette_len()).map(|_| rng.colour()).collect();
+        if rng.below(2) == 0 {
+            let (from, to) = (rng.below(case.subpalettes), rng.below(case.subpalettes));
+            let c = case.colours_each;
+            palette.copy_within(from * c..(from + 1) * c, to * c);
+        }
+        let lent: Vec<u32> = (0..case.tiles.len()).map(|_| rng.below(9) as u32).collect();
+        let mut hints = lent.clone();
+        let subpalettes = assign(&case.job(), &palette, &mut hints).unwrap();
+        for (i, (colours, counts)) in case.tiles.iter().enumerate() {
+            if colours.is_empty() {
+                assert_eq!((subpalettes[i], hints[i]), (0, lent[i]));
+                continue;
+            }
+            let each = palette.chunks(case.colours_each).map(|sub| distance(sub, colours, counts, case.weight));
+            let each: Vec<f32> = each.collect();
+            let least = each.iter().copied().fold(f32::INFINITY, f32::min);
+            tied += usize::from(each.iter().filter(|&&one| one == least).count() > 1);
+            let first = each.iter().position(|&one| one == least).unwrap() as u32;
+            assert_eq!((subpalettes[i], hints[i]), (first, first));
+        }
+    }
+    assert!(tied > 100, "{tied} ties");
+}
+
+#[test]
+fn runs_on_threads_share_nothing() {
+    fn sent<T: Send + Sync>(_: &T) {}
+    let case = Case::any(&mut Rng(8));
+    let alone = Trainer::start(case.job()).unwrap().finish(console::reduced).unwrap();
+    std::thread::scope(|scope| {
+        for _ in 0..4 {
+            scope.spawn(|| {
+                let mut trainer = Trainer::start(case.job()).unwrap();
+                sent(&trainer);
+                while trainer.moment() == Moment::Draws {
+                    trainer.advance(1).unwrap();
+                }
+                assert_eq!(trainer.finish(console::reduced).unwrap(), alone);
+            });
+        }
+    });
+}
+
+/// The whole of the largest job, on a thread whose stack is small.
+#[test]
+fn the_largest_job() {
+    const STACK: usize = 64 * 1024;
+    let case = largest();
+    let run = || {
+        let mut trainer = Trainer::start(case.job()).unwrap();
+        let mut calls = 0;
+        while trainer.moment() != Moment::Finished {
+            if trainer.moment() == Moment::Draws {
+                trainer.advance(20_000).unwrap();
+            } else {
+                trainer.hand_in(&reduced(&trainer)).unwrap();
+            }
+            calls += 1;
+        }
+        (trainer.draws_made(), calls)
+    };
+    std::thread::scope(|scope| {
+        let thread = std::thread::Builder::new().stack_size(STACK).spawn_scoped(scope, run).unwrap();
+        assert_eq!(thread.join().unwrap(), (50 * 1_638, 8));
+    });
+}
