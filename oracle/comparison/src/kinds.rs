@@ -18,6 +18,8 @@ pub struct Kind {
     pub name: &'static str,
     /// How many cases at scale 1.
     pub cases: u64,
+    /// How many for the figures of docs/COMPARISON.md.
+    pub figures: u64,
     /// The cases are all there are, whatever the scale.
     pub whole: bool,
     /// Compares one case, which its number and the generator determine.
@@ -36,11 +38,12 @@ pub const KINDS: [&[Kind]; 9] = [
     sheets::KINDS,
 ];
 
-const fn kind(name: &'static str, cases: u64, compare: fn(&mut Rng, u64, &mut Tally)) -> Kind {
-    Kind { name, cases, whole: false, compare }
+/// Cases at scale 1, and for the figures.
+const fn kind(name: &'static str, cases: u64, figures: u64, compare: fn(&mut Rng, u64, &mut Tally)) -> Kind {
+    Kind { name, cases, figures, whole: false, compare }
 }
 
 /// All the cases there are.
 const fn whole(name: &'static str, cases: u64, compare: fn(&mut Rng, u64, &mut Tally)) -> Kind {
-    Kind { name, cases, whole: true, compare }
+    Kind { name, cases, figures: cases, whole: true, compare }
 }

@@ -1,11 +1,17 @@
 //! What was compared, and what differed.
 
+use std::collections::BTreeMap;
+
 use terms::Colour;
 
 #[derive(Default)]
 pub struct Tally {
     pub compared: u64,
     pub differ: u64,
+    /// What else a kind counts, by name.
+    pub counts: BTreeMap<&'static str, u64>,
+    /// How often each number but 0 was the right answer of a public call.
+    pub refusals: BTreeMap<u32, u64>,
     /// The case that is being compared.
     pub case: u64,
     /// The first difference: its case, and what was compared.
@@ -23,6 +29,44 @@ impl Tally {
         if self.first.is_none() {
             self.first = Some((self.case, format!("{}: ours {ours:x?}, the Rust's {rusts:x?}", asked())));
         }
+    }
+
+    pub fn add(&mut self, name: &'static str, number: u64) {
+        *self.counts.entry(name).or_default() += number;
+    }
+
+    /// A public call, and the number that is its right answer.
+    pub fn answered(&mut self, call: &'static str, number: u32) {
+        self.add(call, 1);
+        if number != 0 {
+            *self.refusals.entry(number).or_default() += 1;
+        }
+    }
+
+    /// Lines that say what was counted.
+    pub fn counted(&self) -> Vec<String> {
+        let counts: Vec<String> = self.counts.iter().map(|(name, number)| format!("{name} {number}")).collect();
+        let refused: Vec<String> = self.refusals.iter().map(|(number, times)| format!("{number}: {times}")).collect();
+        let all: u64 = self.refusals.values().sum();
+        let mut lines = Vec::new();
+        if !counts.is_empty() {
+            lines.push(counts.join(", "));
+        }
+        if all > 0 {
+            lines.push(format!("refused {all}, by number {}", refused.join(", ")));
+        }
+        lines
+    }
+
+    /// What another thread counted of the same kind; the first difference is that of the least case.
+    pub fn merge(&mut self, other: Tally) {
+        self.compared += other.compared;
+        self.differ += other.differ;
+        other.counts.into_iter().for_each(|(name, number)| self.add(name, number));
+        for (refusal, number) in other.refusals {
+            *self.refusals.entry(refusal).or_default() += number;
+        }
+        self.first = [self.first.take(), other.first].into_iter().flatten().min_by_key(|(case, _)| *case);
     }
 }
 

@@ -14,10 +14,10 @@ use crate::table::{self, Given};
 use crate::tally::Tally;
 
 pub const KINDS: &[Kind] = &[
-    kind("single fit", 20_000, single_fit),
-    kind("public best_two", 20_000, best_two),
-    kind("assign", 20_000, assign),
-    kind("largest jobs", 12, largest),
+    kind("single fit", 20_000, 200_000, single_fit),
+    kind("public best_two", 20_000, 200_000, best_two),
+    kind("assign", 20_000, 200_000, assign),
+    kind("largest jobs", 12, 120, largest),
 ];
 
 /// A call as a stranger may make it. `out` is assign's.

@@ -12,7 +12,7 @@ use crate::ours;
 use crate::tally::Tally;
 use crate::{damage, table};
 
-pub const KINDS: &[Kind] = &[kind("grouping", 20_000, grouping)];
+pub const KINDS: &[Kind] = &[kind("grouping", 20_000, 200_000, grouping)];
 
 /// A call of grouping as a stranger may make it.
 #[derive(Clone, Debug)]

@@ -9,35 +9,35 @@ use crate::ours;
 use crate::tally::Tally;
 
 pub const KINDS: &[Kind] = &[
-    kind("narrow", 500_000, |rng, _, tally| {
+    kind("narrow", 500_000, 5_000_000, |rng, _, tally| {
         let x = jobs::wide(rng);
         tally.same(ours::narrow(x), x as f32, || format!("{x:e}"));
     }),
-    kind("next", 100_000, |rng, _, tally| {
+    kind("next", 100_000, 1_000_000, |rng, _, tally| {
         let seed = if rng.once_in(4) { rng.bits() % 5 } else { rng.bits() };
         let (outputs, state) = probed(2.15).next(seed, 1);
         tally.same(ours::next(seed), (outputs[0], state), || format!("{seed:x}"));
     }),
-    kind("shuffle", 2_000, shuffle),
-    kind("cycle", 1_000, cycle),
+    kind("shuffle", 2_000, 20_000, shuffle),
+    kind("cycle", 1_000, 10_000, cycle),
     whole("tenth", 16_384, |_, case, tally| {
         let n = case as usize + 1;
         tally.same(ours::base_iterations(n), probed(2.15).base_iterations(n), || n.to_string());
     }),
-    kind("smallest_two", 50_000, |rng, _, tally| {
+    kind("smallest_two", 50_000, 500_000, |rng, _, tally| {
         let values = jobs::values(rng);
         tally.same(ours::smallest_two(&values), rust(2.15).smallest_two(&values), || format!("{values:?}"));
     }),
-    kind("argmax", 50_000, |rng, _, tally| {
+    kind("argmax", 50_000, 500_000, |rng, _, tally| {
         let values = jobs::values(rng);
         tally.same(ours::argmax(&values), rust(2.15).argmax(&values), || format!("{values:?}"));
     }),
-    kind("argmin", 50_000, |rng, _, tally| {
+    kind("argmin", 50_000, 500_000, |rng, _, tally| {
         let values = jobs::values(rng);
         tally.same(ours::argmin(&values), rust(2.15).argmin(&values), || format!("{values:?}"));
     }),
-    kind("sqdist", 500_000, sqdist),
-    kind("mean", 10_000, |rng, _, tally| {
+    kind("sqdist", 500_000, 5_000_000, sqdist),
+    kind("mean", 10_000, 100_000, |rng, _, tally| {
         let n = rng.pick(&[1, 2, 3, 10, 64, 1000]);
         let colours = Colours::any(rng, 2.0).many(rng, n, 2.0);
         tally.same(Some(ours::mean(&colours)), rust(2.15).mean(&colours), || format!("{colours:?}"));

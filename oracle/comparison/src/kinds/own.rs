@@ -11,8 +11,11 @@ use super::{Kind, kind, whole};
 use crate::sheet::{self, Sheet};
 use crate::tally::Tally;
 
-pub const KINDS: &[Kind] =
-    &[kind("oracle copies", 150, copies), kind("oracle steps", 150, steps), whole("oracle sheet", 1, example)];
+pub const KINDS: &[Kind] = &[
+    kind("oracle copies", 150, 1_500, copies),
+    kind("oracle steps", 150, 1_500, steps),
+    whole("oracle sheet", 1, example),
+];
 
 struct Case {
     job: Job,

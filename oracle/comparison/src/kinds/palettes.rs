@@ -10,14 +10,14 @@ use crate::ours::{self, Flat};
 use crate::tally::Tally;
 
 pub const KINDS: &[Kind] = &[
-    kind("nearest", 50_000, nearest),
-    kind("nearest_two", 50_000, nearest_two),
-    kind("tile distance", 20_000, distance),
-    kind("best_fit", 10_000, best_fit),
-    kind("best_two", 10_000, best_two),
-    kind("nudge", 50_000, nudge),
-    kind("one draw", 20_000, draw),
-    kind("edits", 20_000, edits),
+    kind("nearest", 50_000, 500_000, nearest),
+    kind("nearest_two", 50_000, 500_000, nearest_two),
+    kind("tile distance", 20_000, 200_000, distance),
+    kind("best_fit", 10_000, 100_000, best_fit),
+    kind("best_two", 10_000, 100_000, best_two),
+    kind("nudge", 50_000, 500_000, nudge),
+    kind("one draw", 20_000, 200_000, draw),
+    kind("edits", 20_000, 200_000, edits),
 ];
 
 /// A palette that a run may hold, a tile, and the weight.

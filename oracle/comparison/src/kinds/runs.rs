@@ -1,319 +1,209 @@
-//! The run's public calls: which number they get by document 01's table, on records of any stage and damaged copies; what result
-//! copies, and all lent memory before and after.
+//! The run's public calls: whole runs in calls of any size, some of them taken up by another process; and single calls on memory
+//! that a stranger made, damaged or not. Number, draws and all lent memory of each call by document 01 as reading/ has it; the
+//! runs also beside the Rust, each call beside its stages in steps, stops and result beside its whole run.
 
-use terms::Held;
+use answers::{probed, rust};
 use terms::jobs::{self, Colours};
 use terms::rng::Rng;
+use terms::{Colour, Job, Ran, Sample, Steps, Tile};
 
 use super::{Kind, kind};
-use crate::damage;
-use crate::lent;
-use crate::ours::{self, Job, Memory};
-use crate::table::{self, Given};
+use crate::call::{Ask, Call, Memory, Outcome};
+use crate::damage::runs as damage;
+use crate::reading::run::outcome;
 use crate::tally::Tally;
+use crate::{ours, saved};
 
-pub const KINDS: &[Kind] =
-    &[kind("run numbers", 15_000, numbers), kind("result", 15_000, result), kind("whole runs", 300, whole)];
+pub const KINDS: &[Kind] = &[
+    kind("run calls", 3_000, 40_000, calls),
+    kind("whole runs", 300, 12_000, whole),
+    kind("largest run", 1, 20, largest),
+];
 
-/// What the calls of a run are given, as a stranger may give it.
-#[derive(Clone, Debug)]
-struct Call {
-    given: Given,
-    n: usize,
-    samples: Vec<u32>,
-    order: Vec<u32>,
-    hints: Vec<u32>,
-    palette: Vec<f32>,
-    least: Vec<f32>,
-    record: Vec<u64>,
-    /// What is handed in, or the room for the result.
-    colours: Vec<f32>,
-}
-
-#[derive(Clone, Copy, Debug, PartialEq)]
-enum Name {
-    Start,
-    Advance,
-    HandIn,
-    Result,
-}
-
-/// Draws in a round of a stage, and rounds in it.
-fn round(given: &Given, n: usize, stage: u64) -> (u64, u64) {
-    let b = n as u64 / 10;
-    match stage {
-        0 => (b, given.s as u64 - 1),
-        1 => (b, given.c as u64 - 1),
-        2 => (b, 10),
-        4 => (10 * b, 1),
-        _ => (0, 0),
+/// Every call on one memory.
+fn calls(rng: &mut Rng, _: u64, tally: &mut Tally) {
+    let mut call = damage::good(rng);
+    let mut asks = damage::asks(rng, &call);
+    damage::damaged(rng, &mut call, &mut asks);
+    for ask in &asks {
+        let right = outcome(&call, ask);
+        tally.answered(ask.name(), right.number);
+        tally.add("draws", right.draws);
+        tally.same(ours::answer(&call, ask), right, || format!("{ask:?} {call:?}"));
     }
 }
 
-/// The draws of all stages before one.
-fn before(given: &Given, n: usize, stage: u64) -> u64 {
-    (0..stage).map(|past| round(given, n, past)).map(|(size, rounds)| size * rounds).sum()
+/// What a host hands in at a stop.
+enum Reduction {
+    /// Each component rounded to a multiple of a step, as a console's own colours are.
+    Round(f32),
+    /// The working colours, cut to what a job may hold.
+    Cut,
+    /// Any colours.
+    Any,
 }
 
-/// The record's rules, of a job that is accepted.
-fn record_passes(given: &Given, n: usize, record: &[u64]) -> bool {
-    let &[_, stage, rounds, left, made, error] = record else { return false };
-    if stage > 7 {
-        return false;
-    }
-    let (size, most) = round(given, n, stage);
-    let waits = matches!(stage, 3 | 5 | 6 | 7);
-    let placed = if waits { rounds == 0 && left == 0 } else { rounds < most && (1..=size).contains(&left) };
-    let finite = error <= u64::from(f32::MAX.to_bits());
-    placed
-        && made == before(given, n, stage) + rounds * size + (size - left)
-        && if stage == 2 { finite } else { error == 0 }
-}
-
-impl Call {
-    /// A job with a record of any stage that has one.
-    fn good(rng: &mut Rng) -> Self {
-        let job = jobs::job(rng, 60);
-        let (s, c, n, t) = (job.s, job.c, job.samples.len(), job.tiles.len());
-        let colours = Colours::any(rng, 2.0);
-        let palette = jobs::palette(rng, s, c, &colours, 2.0);
-        let given = Given::new(&palette, &job.tiles, job.weight);
-        let stage = loop {
-            let stage = rng.below(8) as u64;
-            let (size, rounds) = round(&given, n, stage);
-            if matches!(stage, 3 | 5 | 6 | 7) || (size > 0 && rounds > 0) {
-                break stage;
-            }
-        };
-        let (size, rounds) = round(&given, n, stage);
-        let (done, left) = if size > 0 && rounds > 0 {
-            (rng.below(rounds as usize) as u64, rng.among(1, size as usize) as u64)
-        } else {
-            (0, 0)
-        };
-        let error = if stage == 2 { u64::from(rng.word() % 0x7f80_0000) } else { 0 };
-        let made = before(&given, n, stage) + done * size + (size - left);
-        let working = |rng: &mut Rng| Colours::any(rng, 4.0).many(rng, s * c, 4.0).as_flattened().to_vec();
-        Call {
-            n,
-            samples: job.samples.iter().flat_map(|s| [s.tile as u32, s.place as u32]).collect(),
-            order: (0..n).map(|_| rng.below(n) as u32).collect(),
-            hints: jobs::hints(rng, t, s).into_iter().map(|hint| hint as u32).collect(),
-            palette: working(rng),
-            least: working(rng),
-            record: vec![rng.bits(), stage, done, left, made, error],
-            colours: jobs::reduced(rng, s, c).as_flattened().to_vec(),
-            given,
+impl Reduction {
+    fn any(rng: &mut Rng) -> Self {
+        match rng.below(8) {
+            0 => Reduction::Any,
+            1 => Reduction::Cut,
+            _ => Reduction::Round(rng.pick(&[1.0 / 31.0, 1.0 / 255.0, 0.125, 0.25, 0.5])),
         }
     }
 
-    fn damaged(mut self, rng: &mut Rng) -> Self {
-        for _ in 0..rng.pick(&[0, 1, 1, 2, 3]) {
-            match rng.below(12) {
-                0 => match rng.below(7) {
-                    0 => damage::length(rng, &mut self.samples),
-                    1 => damage::length(rng, &mut self.order),
-                    2 => damage::length(rng, &mut self.hints),
-                    3 => damage::length(rng, &mut self.palette),
-                    4 => damage::length(rng, &mut self.least),
-                    5 => damage::length(rng, &mut self.record),
-                    _ => damage::length(rng, &mut self.colours),
-                },
-                1 => self.n = rng.pick(&[0, self.n.wrapping_add(1), 16_385, usize::MAX, 1 << 63]),
-                2 | 3 => self.damage_record(rng),
-                4 => damage::component(rng, &mut self.palette, 4.0),
-                5 => damage::component(rng, &mut self.least, 4.0),
-                6 => damage::component(rng, &mut self.colours, 2.0),
-                7 => damage_entry(rng, &mut self.order, self.n),
-                8 => damage_entry(rng, &mut self.samples, 1),
-                9 if rng.once_in(4) => {
-                    self.n = 0;
-                    (self.samples, self.order) = Default::default();
-                }
-                _ => damage::damage(rng, &mut self.given, &mut Vec::new()),
-            }
-        }
-        self
-    }
-
-    fn damage_record(&mut self, rng: &mut Rng) {
-        if self.record.is_empty() {
-            return;
-        }
-        let place = rng.below(self.record.len());
-        let right = self.record[place];
-        let any = rng.below(10) as u64;
-        let pattern = rng.pick(&[0x7f7f_ffff, 0x7f80_0000, 0x8000_0000, 1 << 32, 0xffff_ffff, 0x7fc0_0000]);
-        self.record[place] =
-            rng.pick(&[right.wrapping_add(1), right.wrapping_sub(1), 0, any, u64::MAX, 1 << 63, pattern]);
-        // the draws made may follow, so that another test is left to see it
-        if rng.once_in(2)
-            && self.record.len() == 6
-            && self.record[1] < 8
-            && table::sizes(&self.given)
-            && self.n <= 16_384
-        {
-            let (size, _) = round(&self.given, self.n, self.record[1]);
-            let round = self.record[2].wrapping_mul(size).wrapping_add(size.wrapping_sub(self.record[3]));
-            self.record[4] = before(&self.given, self.n, self.record[1]).wrapping_add(round);
-        }
-    }
-
-    /// The number of a call by document 01's table.
-    fn answer(&self, name: Name) -> u32 {
-        let (given, n) = (&self.given, self.n);
-        let later = name != Name::Start;
-        let stage = self.record.get(1).copied().unwrap_or(0);
-        let more = name == Name::HandIn || name == Name::Result;
-        let room = |len: usize| len == 3 * given.s * given.c;
-        let there = |s: &[u32]| s[0] < given.t as u32 && s[1] < given.tiles[2 * s[0] as usize + 1];
-        table::first(&[
-            (2, &|| table::sizes(given) && n <= 16_384),
-            (3, &|| table::lengths(given) && self.samples.len() == 2 * n && self.order.len() == n),
-            (3, &|| self.hints.len() == given.t && room(self.palette.len()) && room(self.least.len())),
-            (3, &|| self.record.len() == 6 && (!more || room(self.colours.len()))),
-            (1, &|| n != 0),
-            (4, &|| table::weight(given.weight)),
-            (5, &|| table::table(given)),
-            (6, &|| table::counts(given)),
-            (7, &|| table::within(&given.colours, 2.0)),
-            (8, &|| self.samples.chunks(2).all(there)),
-            (10, &|| !later || record_passes(given, n, &self.record)),
-            (7, &|| !later || table::within(&self.palette, 4.0)),
-            (7, &|| !later || stage != 2 || table::within(&self.least, 4.0)),
-            (9, &|| !later || self.order.iter().all(|&entry| (entry as usize) < n)),
-            (11, &|| match name {
-                Name::Start => true,
-                Name::Advance => matches!(stage, 0 | 1 | 2 | 4),
-                Name::HandIn => matches!(stage, 3 | 5 | 6),
-                Name::Result => stage == 7,
-            }),
-            (7, &|| name != Name::HandIn || table::within(&self.colours, 2.0)),
-        ])
-    }
-
-    fn lent(&self) -> (Job, Memory) {
-        let memory = Memory {
-            n: self.n,
-            samples: lent::words(&self.samples),
-            order: lent::words(&self.order),
-            hints: lent::words(&self.hints),
-            palette: lent::floats(&self.palette),
-            least: lent::floats(&self.least),
-            record: lent::long_words(&self.record),
-        };
-        (Job::lent(&self.given), memory)
-    }
-}
-
-/// An entry at the limit or far past it.
-fn damage_entry(rng: &mut Rng, entries: &mut [u32], limit: usize) {
-    if !entries.is_empty() {
-        let place = rng.below(entries.len());
-        let right = entries[place];
-        let edge = limit as u32;
-        entries[place] =
-            rng.pick(&[edge, edge.wrapping_sub(1), u32::MAX, right.wrapping_add(1), right.wrapping_add(64) % 128]);
-    }
-}
-
-/// Of start, advance and hand-in.
-fn numbers(rng: &mut Rng, _: u64, tally: &mut Tally) {
-    let call = Call::good(rng).damaged(rng);
-    let ((job, memory), reduced) = (call.lent(), lent::floats(&call.colours));
-    let ours = (
-        ours::refuses_start(&job, &memory),
-        ours::refuses_advance(&job, &memory),
-        ours::refuses_hand_in(&job, &memory, &reduced),
-    );
-    let kept = job.untouched() && memory.untouched() && reduced.untouched();
-    let right = (call.answer(Name::Start), call.answer(Name::Advance), call.answer(Name::HandIn));
-    tally.same((ours, kept), (right, true), || format!("{call:?}"));
-}
-
-fn result(rng: &mut Rng, _: u64, tally: &mut Tally) {
-    let mut call = Call::good(rng);
-    if rng.once_in(2) {
-        // a finished run
-        call.record[1..].copy_from_slice(&[7, 0, 0, before(&call.given, call.n, 7), 0]);
-    }
-    let call = call.damaged(rng);
-    let ((job, memory), mut out) = (call.lent(), lent::floats(&call.colours));
-    let ours = ours::result(&job, &memory, &mut out);
-    let kept = job.untouched() && memory.untouched() && out.guarded();
-    let number = call.answer(Name::Result);
-    let right = if number == 0 { &call.palette } else { &call.colours };
-    let bits = |all: &[f32]| all.iter().map(|x| x.to_bits()).collect::<Vec<_>>();
-    tally.same((ours, bits(out.values()), kept), (number, bits(right), true), || format!("{call:?}"));
-}
-
-impl Call {
-    /// A run of the Rust's as it stands, with zeros where no colour is present.
-    fn standing(job: &terms::Job, held: &Held) -> Self {
-        let flat = |palette: &terms::Palette| {
-            let mut all = vec![[0.0; 3]; job.s * job.c];
-            for (i, sub) in palette.iter().enumerate() {
-                all[i * job.c..][..sub.len()].copy_from_slice(sub);
-            }
-            all.as_flattened().to_vec()
-        };
-        Call {
-            given: Given::new(&vec![vec![[0.0; 3]; job.c]; job.s], &job.tiles, job.weight),
-            n: job.samples.len(),
-            samples: job.samples.iter().flat_map(|s| [s.tile as u32, s.place as u32]).collect(),
-            order: held.order.clone(),
-            hints: held.hints.iter().map(|&hint| hint as u32).collect(),
-            palette: flat(&held.palette),
-            least: flat(&held.least),
-            record: held.words.to_vec(),
-            colours: Vec::new(),
+    fn reduced(&self, rng: &mut Rng, job: &Job, working: &[f32]) -> Vec<f32> {
+        match self {
+            Reduction::Round(step) => working.iter().map(|x| ((x / step).round() * step).clamp(-2.0, 2.0)).collect(),
+            Reduction::Cut => working.iter().map(|x| x.clamp(-2.0, 2.0)).collect(),
+            Reduction::Any => jobs::reduced(rng, job.s, job.c).into_flattened(),
         }
     }
 }
 
-/// A whole run by our own calls alone: start in memory that holds anything, advances of any size, hand-ins at the stops. After every
-/// call the number, the draws and every bit of the memory, beside the Rust's run in steps.
+/// A run by our calls alone, beside the Rust's.
+struct Whole {
+    job: Job,
+    hints: Vec<usize>,
+    seed: u64,
+    reduction: Reduction,
+    /// What was handed in at each stop.
+    handed: Vec<Vec<Colour>>,
+    /// Our run as it stands.
+    call: Call,
+    steps: Box<dyn Steps>,
+}
+
+/// A call, what document 01 says of it, and the Rust's memory after it.
+struct Planned {
+    ask: Ask,
+    right: Outcome,
+    rusts: (u64, Memory),
+}
+
 fn whole(rng: &mut Rng, _: u64, tally: &mut Tally) {
-    let job = jobs::job(rng, 60);
-    let (hints, seed) = (jobs::hints(rng, job.tiles.len(), job.s), rng.bits());
-    let mut run = answers::probed(job.weight).start(&job, &hints, seed);
-    let mut call = Call::standing(&job, &run.held());
-    call.hints = hints.iter().map(|&hint| hint as u32).collect();
-    let waste = |all: &mut Vec<f32>| all.fill(f32::NAN);
-    waste(&mut call.palette);
-    waste(&mut call.least);
-    call.order.fill(u32::MAX);
-    call.record.fill(u64::MAX);
-    let (lent, mut memory) = call.lent();
-    let mut ours = (ours::start(&lent, &mut memory, seed), 0);
-    let mut draws = 0;
-    loop {
-        let right = Call::standing(&job, &run.held());
-        let kept = lent.untouched() && memory.guarded();
-        let told = vec![u64::from(ours.0), ours.1, u64::from(kept)];
-        tally.same((told, memory_bits(&memory)), (vec![0, draws, 1], memory_bits(&right.lent().1)), || {
-            format!("{call:?}")
-        });
-        match run.held().words[1] {
-            7 => break,
-            3 | 5 | 6 => {
-                let reduced = jobs::reduced(rng, job.s, job.c);
-                ours = (ours::hand_in(&lent, &mut memory, &lent::floats(reduced.as_flattened())), 0);
-                run.hand_in(&reduced);
-                draws = 0;
-            }
-            _ => {
-                let allotment = rng.pick(&[0, 1, 2, 3, 5, 11, 40, 300, u64::MAX]);
-                ours = ours::advance(&lent, &mut memory, allotment);
-                draws = run.advance(allotment);
+    let most = rng.pick(&[60, 60, 250, 1_000]);
+    let job = jobs::job(rng, most);
+    Whole::of(rng, job).compare(rng, tally);
+}
+
+/// At the limits of all sizes: 16 subpalettes of 16 colours, 1,024 tiles, 16,384 tile colours and samples.
+fn largest(rng: &mut Rng, _: u64, tally: &mut Tally) {
+    let colours = Colours::any(rng, 2.0);
+    let tile = |rng: &mut Rng| Tile { colours: colours.many(rng, 16, 2.0), counts: vec![1; 16] };
+    let tiles: Vec<Tile> = (0..1024).map(|_| tile(rng)).collect();
+    let samples = (0..16_384).map(|i| Sample { tile: i / 16, place: i % 16 }).collect();
+    let job = Job { s: 16, c: 16, weight: 2.15, tiles, samples };
+    Whole::of(rng, job).compare(rng, tally);
+}
+
+impl Whole {
+    fn of(rng: &mut Rng, job: Job) -> Self {
+        let (hints, seed) = (jobs::hints(rng, job.tiles.len(), job.s), rng.bits());
+        let mut call = Call::of(&job);
+        call.memory.hints = hints.iter().map(|&hint| hint as u32).collect();
+        let steps = probed(job.weight).start(&job, &hints, seed);
+        Whole { hints, seed, reduction: Reduction::any(rng), handed: Vec::new(), call, steps, job }
+    }
+
+    fn compare(mut self, rng: &mut Rng, tally: &mut Tally) {
+        // one run in four changes processes now and then
+        let leaves = rng.once_in(4);
+        let mut stops = Vec::new();
+        let mut finished = false;
+        while !finished {
+            let leg = self.leg(rng);
+            let asks: Vec<Ask> = leg.iter().map(|planned| planned.ask.clone()).collect();
+            let ours = if leaves && rng.once_in(3) {
+                tally.add("taken up by another process", 1);
+                saved::taken_up(&self.call, &asks).unwrap_or_default()
+            } else {
+                ours::answers(&mut self.call.clone(), &asks)
+            };
+            tally.same(ours.len(), leg.len(), || "calls answered".to_string());
+            for (ours, planned) in ours.into_iter().zip(leg) {
+                finished |= matches!(planned.ask, Ask::Result(_)) && planned.right.number == 0;
+                if matches!(planned.ask, Ask::HandIn(_)) && planned.right.number == 0 {
+                    stops.push(self.call.memory.clone());
+                }
+                self.call.memory = planned.right.memory.clone();
+                self.same(ours, planned, tally);
             }
         }
+        self.ends(&stops, tally);
+    }
+
+    /// Some calls from here on, as document 01 and the Rust go on; the first of a run is start.
+    fn leg(&mut self, rng: &mut Rng) -> Vec<Planned> {
+        let mut call = self.call.clone();
+        let mut leg = Vec::new();
+        for _ in 0..rng.among(1, 8) {
+            let ask = self.next(rng, &call);
+            let right = outcome(&call, &ask);
+            let accepted = right.number == 0;
+            let draws = match &ask {
+                Ask::Advance(allotment) if accepted => self.steps.advance(*allotment),
+                Ask::HandIn(reduced) if accepted => {
+                    self.handed.push(crate::table::colours(reduced));
+                    self.steps.hand_in(self.handed.last().unwrap());
+                    0
+                }
+                _ => 0,
+            };
+            call.memory = right.memory.clone();
+            let ended = matches!(ask, Ask::Result(_)) && accepted;
+            leg.push(Planned { ask, right, rusts: (draws, Memory::standing(&self.job, &self.steps.held())) });
+            if ended {
+                break;
+            }
+        }
+        leg
+    }
+
+    /// The call that belongs to this moment, and now and then one that does not.
+    fn next(&self, rng: &mut Rng, call: &Call) -> Ask {
+        if call.stage() > 7 {
+            return Ask::Start(self.seed);
+        }
+        let stage = if rng.once_in(30) { rng.below(8) as u64 } else { call.stage() };
+        match stage {
+            7 => Ask::Result(vec![f32::NAN; call.memory.palette.len()]),
+            3 | 5 | 6 => Ask::HandIn(self.reduction.reduced(rng, &self.job, &call.memory.palette)),
+            _ => Ask::Advance(allotment(rng, call.n as u64 / 10)),
+        }
+    }
+
+    fn same(&self, ours: Outcome, planned: Planned, tally: &mut Tally) {
+        let Planned { ask, right, rusts } = planned;
+        tally.answered(ask.name(), right.number);
+        tally.add("draws", right.draws);
+        let shown = || format!("{ask:?} of seed {:x}, {:?}", self.seed, self.job);
+        tally.same((right.draws, right.memory.clone()), rusts, shown);
+        tally.same(ours, right, shown);
+    }
+
+    /// What is seen at the stops and at the end, beside the Rust's whole run.
+    fn ends(&self, stops: &[Memory], tally: &mut Tally) {
+        let handed = self.handed.clone();
+        let reduce = Box::new(move |stop: usize, place: usize, _| handed[stop][place]);
+        let Ran { stops: seen, result, hints } = rust(self.job.weight).run(&self.job, &self.hints, self.seed, reduce);
+        let narrow = |hints: &[usize]| hints.iter().map(|&hint| hint as u32).collect::<Vec<_>>();
+        let flat = |palette: terms::Palette| palette.into_iter().flatten().flatten().collect::<Vec<_>>();
+        let shown = || format!("seed {:x}, {:?}", self.seed, self.job);
+        tally.same(stops.len(), seen.len(), shown);
+        for (ours, rusts) in stops.iter().zip(seen) {
+            let rusts = (flat(rusts.palette), narrow(&rusts.hints));
+            tally.same((ours.palette.clone(), ours.hints.clone()), rusts, shown);
+        }
+        let last = &self.call.memory;
+        tally.same((last.palette.clone(), last.hints.clone()), (flat(result), narrow(&hints)), shown);
+        tally.add("runs", 1);
+        tally.add("runs at the Rust's own weight", u64::from(self.job.weight == 2.15));
     }
 }
 
-/// All that a run is lent to write, as numbers.
-fn memory_bits(memory: &Memory) -> Vec<u64> {
-    let words = memory.order.values().iter().chain(memory.hints.values()).map(|&x| u64::from(x));
-    let floats = memory.palette.values().iter().chain(memory.least.values()).map(|x| u64::from(x.to_bits()));
-    words.chain(floats).chain(memory.record.values().iter().copied()).collect()
+/// None, one, a few, about a round, or all there are.
+fn allotment(rng: &mut Rng, b: u64) -> u64 {
+    let any = rng.below(3 * b as usize + 2) as u64;
+    if rng.once_in(25) { u64::MAX } else { rng.pick(&[0, 1, 2, 3, 7, b.saturating_sub(1), b, b + 1, any, any]) }
 }

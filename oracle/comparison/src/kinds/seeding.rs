@@ -10,8 +10,11 @@ use crate::ours::{self, Cycle, Flat, Job};
 use crate::table::Given;
 use crate::tally::Tally;
 
-pub const KINDS: &[Kind] =
-    &[kind("seed mean", 5_000, mean), kind("seed choice", 10_000, choice), kind("seeding", 500, seeding)];
+pub const KINDS: &[Kind] = &[
+    kind("seed mean", 5_000, 50_000, mean),
+    kind("seed choice", 10_000, 100_000, choice),
+    kind("seeding", 500, 5_000, seeding),
+];
 
 /// The palette in a job's room; other numbers stand where none is present, to be left as they are.
 fn placed(rng: &mut Rng, palette: &Palette, c: usize, s: usize) -> Flat {

@@ -15,11 +15,11 @@ use crate::tally::Tally;
 use crate::{damage, lent, table};
 
 pub const KINDS: &[Kind] = &[
-    kind("sheet reading", 10_000, reading),
-    kind("sheet bits", 15, bits),
-    kind("largest sheets", 30, largest),
-    kind("sheet writing", 10_000, writing),
-    kind("program fit", 300, program),
+    kind("sheet reading", 10_000, 100_000, reading),
+    kind("sheet bits", 15, 150, bits),
+    kind("largest sheets", 30, 300, largest),
+    kind("sheet writing", 10_000, 100_000, writing),
+    kind("program fit", 300, 3_000, program),
 ];
 
 /// Where the gate leaves the program, seen from the folder that the comparison runs in.

@@ -11,11 +11,11 @@ use crate::table::Given;
 use crate::tally::Tally;
 
 pub const KINDS: &[Kind] = &[
-    kind("mse", 5_000, mse),
-    kind("grow", 5_000, grow),
-    kind("replace_weakest", 5_000, replace_weakest),
-    kind("refine", 5_000, refine),
-    kind("draws", 300, draws),
+    kind("mse", 5_000, 50_000, mse),
+    kind("grow", 5_000, 50_000, grow),
+    kind("replace_weakest", 5_000, 50_000, replace_weakest),
+    kind("refine", 5_000, 50_000, refine),
+    kind("draws", 300, 3_000, draws),
 ];
 
 /// Tiles with hints, and a palette that a run may hold, in room for more.

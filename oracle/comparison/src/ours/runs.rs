@@ -1,86 +1,34 @@
 //! The run's public calls, which take whatever a stranger lends.
 
 use super::Job;
-use crate::lent::Lent;
+use crate::call::{Ask, Call, Memory, Outcome};
+use crate::lent::{self, Lent};
+
+/// What comes of a call: lent between guards, made, and all of it looked at afterwards.
+pub fn answer(call: &Call, ask: &Ask) -> Outcome {
+    let (job, mut memory) = (Job::lent(&call.given), Lents::of(call));
+    let mut colours = lent::floats(ask.colours().unwrap_or_default());
+    let (number, draws) = match ask {
+        Ask::Start(seed) => (start(&job, &mut memory, *seed), 0),
+        Ask::Advance(allotment) => advance(&job, &mut memory, *allotment),
+        Ask::HandIn(_) => (hand_in(&job, &mut memory, &colours), 0),
+        Ask::Result(_) => (result(&job, &memory, &mut colours), 0),
+    };
+    let kept = job.untouched() && memory.guarded() && colours.guarded();
+    Outcome { number, draws, memory: memory.memory(), colours: colours.values().to_vec(), kept }
+}
+
+/// What comes of calls in a row, each on the memory that the one before left.
+pub fn answers(call: &mut Call, asks: &[Ask]) -> Vec<Outcome> {
+    let next = |ask: &Ask| {
+        let outcome = answer(call, ask);
+        call.memory = outcome.memory.clone();
+        outcome
+    };
+    asks.iter().map(next).collect()
+}
 
 unsafe extern "C" {
-    fn probe_refuses_start(
-        s: usize,
-        c: usize,
-        t: usize,
-        n: usize,
-        weight: f32,
-        tiles: *const u32,
-        tiles_len: usize,
-        colours: *const f32,
-        colours_len: usize,
-        counts: *const u32,
-        counts_len: usize,
-        samples: *const u32,
-        samples_len: usize,
-        order: *const u32,
-        order_len: usize,
-        hints: *const u32,
-        hints_len: usize,
-        palette: *const f32,
-        palette_len: usize,
-        least: *const f32,
-        least_len: usize,
-        words: *const u64,
-        words_len: usize,
-    ) -> u32;
-    fn probe_refuses_advance(
-        s: usize,
-        c: usize,
-        t: usize,
-        n: usize,
-        weight: f32,
-        tiles: *const u32,
-        tiles_len: usize,
-        colours: *const f32,
-        colours_len: usize,
-        counts: *const u32,
-        counts_len: usize,
-        samples: *const u32,
-        samples_len: usize,
-        order: *const u32,
-        order_len: usize,
-        hints: *const u32,
-        hints_len: usize,
-        palette: *const f32,
-        palette_len: usize,
-        least: *const f32,
-        least_len: usize,
-        words: *const u64,
-        words_len: usize,
-    ) -> u32;
-    fn probe_refuses_hand_in(
-        s: usize,
-        c: usize,
-        t: usize,
-        n: usize,
-        weight: f32,
-        tiles: *const u32,
-        tiles_len: usize,
-        colours: *const f32,
-        colours_len: usize,
-        counts: *const u32,
-        counts_len: usize,
-        samples: *const u32,
-        samples_len: usize,
-        order: *const u32,
-        order_len: usize,
-        hints: *const u32,
-        hints_len: usize,
-        palette: *const f32,
-        palette_len: usize,
-        least: *const f32,
-        least_len: usize,
-        words: *const u64,
-        words_len: usize,
-        reduced: *const f32,
-        reduced_len: usize,
-    ) -> u32;
     fn probe_result(
         s: usize,
         c: usize,
@@ -192,30 +140,47 @@ unsafe extern "C" {
 }
 
 /// What a run is lent.
-pub struct Memory {
-    pub n: usize,
-    pub samples: Lent<u32>,
-    pub order: Lent<u32>,
-    pub hints: Lent<u32>,
-    pub palette: Lent<f32>,
-    pub least: Lent<f32>,
-    pub record: Lent<u64>,
+struct Lents {
+    n: usize,
+    samples: Lent<u32>,
+    order: Lent<u32>,
+    hints: Lent<u32>,
+    palette: Lent<f32>,
+    least: Lent<f32>,
+    record: Lent<u64>,
 }
 
-impl Memory {
+impl Lents {
+    fn of(call: &Call) -> Self {
+        Lents {
+            n: call.n,
+            samples: lent::words(&call.samples),
+            order: lent::words(&call.memory.order),
+            hints: lent::words(&call.memory.hints),
+            palette: lent::floats(&call.memory.palette),
+            least: lent::floats(&call.memory.least),
+            record: lent::long_words(&call.memory.record),
+        }
+    }
+
+    fn memory(&self) -> Memory {
+        Memory {
+            order: self.order.values().to_vec(),
+            hints: self.hints.values().to_vec(),
+            palette: self.palette.values().to_vec(),
+            least: self.least.values().to_vec(),
+            record: self.record.values().to_vec(),
+        }
+    }
+
     /// Nothing around the memory was written, and of it not the samples.
-    pub fn guarded(&self) -> bool {
+    fn guarded(&self) -> bool {
         let numbers = self.samples.untouched() && self.order.guarded() && self.hints.guarded();
         numbers && self.palette.guarded() && self.least.guarded() && self.record.guarded()
     }
-
-    pub fn untouched(&self) -> bool {
-        let numbers = self.samples.untouched() && self.order.untouched() && self.hints.untouched();
-        numbers && self.palette.untouched() && self.least.untouched() && self.record.untouched()
-    }
 }
 
-/// Calls a function of the run's with all that every one of them is given, and what is its own.
+/// Calls a function of the run's that only reads the memory it is lent.
 macro_rules! with_run {
     ($call:ident, $job:ident, $held:ident $(, $own:expr)*) => {
         unsafe {
@@ -249,19 +214,7 @@ macro_rules! with_run {
     };
 }
 
-pub fn refuses_start(job: &Job, held: &Memory) -> u32 {
-    with_run!(probe_refuses_start, job, held)
-}
-
-pub fn refuses_advance(job: &Job, held: &Memory) -> u32 {
-    with_run!(probe_refuses_advance, job, held)
-}
-
-pub fn refuses_hand_in(job: &Job, held: &Memory, reduced: &Lent<f32>) -> u32 {
-    with_run!(probe_refuses_hand_in, job, held, reduced.pointer(), reduced.len())
-}
-
-pub fn result(job: &Job, held: &Memory, out: &mut Lent<f32>) -> u32 {
+fn result(job: &Job, held: &Lents, out: &mut Lent<f32>) -> u32 {
     with_run!(probe_result, job, held, out.pointer_mut(), out.len())
 }
 
@@ -300,16 +253,16 @@ macro_rules! with_memory {
     };
 }
 
-pub fn start(job: &Job, held: &mut Memory, seed: u64) -> u32 {
+fn start(job: &Job, held: &mut Lents, seed: u64) -> u32 {
     with_memory!(probe_start, job, held, [seed])
 }
 
 /// The number and the draws.
-pub fn advance(job: &Job, held: &mut Memory, allotment: u64) -> (u32, u64) {
+fn advance(job: &Job, held: &mut Lents, allotment: u64) -> (u32, u64) {
     let mut drawn = [0];
     (with_memory!(probe_advance, job, held, [], allotment, drawn.as_mut_ptr(), drawn.len()), drawn[0])
 }
 
-pub fn hand_in(job: &Job, held: &mut Memory, reduced: &Lent<f32>) -> u32 {
+fn hand_in(job: &Job, held: &mut Lents, reduced: &Lent<f32>) -> u32 {
     with_memory!(probe_hand_in, job, held, [], reduced.pointer(), reduced.len())
 }
