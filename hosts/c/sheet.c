@@ -1,0 +1,137 @@
+/* The fit sheet: fields packed most significant bit first. A fault is found in the order of the fields. */
+#include "sheet.h"
+
+#include <string.h>
+
+#include "bytes.h"
+
+#define OPENING 0x54464954u
+#define EDITION 1u
+
+/* Where a reader or a writer of bits stands. A fault stays once there is one. */
+typedef struct {
+    const unsigned char *from;
+    unsigned char *to;
+    size_t bits, at;
+    uint32_t fault;
+} Bits;
+
+static void refuse(Bits *b, uint32_t number) {
+    if (b->fault == DUNKAFETO_DONE)
+        b->fault = number;
+}
+
+/* A field of up to 32 bits; 0 where it is cut short. */
+static uint32_t take(Bits *b, unsigned width) {
+    uint32_t value = 0;
+    if (b->bits - b->at < width) {
+        refuse(b, DUNKAFETO_SHEET_BYTES);
+        return 0;
+    }
+    for (unsigned i = 0; i < width; i++, b->at++)
+        value = value << 1 | (b->from[b->at / 8] >> (7 - b->at % 8) & 1u);
+    return value;
+}
+
+static void give(Bits *b, uint32_t value, unsigned width) {
+    for (unsigned i = width; i-- > 0; b->at++)
+        if (value >> i & 1u)
+            b->to[b->at / 8] |= (unsigned char)(1u << (7 - b->at % 8));
+}
+
+/* A component is finite and of magnitude 2 at most; the comparison is false for NaN. */
+static float take_component(Bits *b) {
+    float x = float_of(take(b, 32));
+    if (!(x >= -DUNKAFETO_MOST_COMPONENT && x <= DUNKAFETO_MOST_COMPONENT))
+        refuse(b, DUNKAFETO_COMPONENTS);
+    return x;
+}
+
+static void take_colours(Bits *b, float *to, size_t components) {
+    for (size_t i = 0; i < components && b->fault == DUNKAFETO_DONE; i++)
+        to[i] = take_component(b);
+}
+
+/* Opening, edition, sizes, weight. */
+static void take_head(Bits *b, Sheet *sheet) {
+    if (take(b, 32) != OPENING)
+        refuse(b, DUNKAFETO_SHEET_HEAD);
+    if (take(b, 4) != EDITION)
+        refuse(b, DUNKAFETO_SHEET_HEAD);
+    sheet->s = take(b, 4) + 1;
+    sheet->c = take(b, 4) + 1;
+    sheet->t = take(b, 10) + 1;
+    sheet->weight = float_of(take(b, 32));
+    if (!(sheet->weight > 0 && sheet->weight <= DUNKAFETO_MOST_WEIGHT))
+        refuse(b, DUNKAFETO_WEIGHT);
+}
+
+static void take_tile(Bits *b, Sheet *sheet, size_t tile) {
+    uint32_t colours = take(b, 7), sum = 0;
+    if (colours > DUNKAFETO_TILE_SIZE)
+        refuse(b, DUNKAFETO_TILES);
+    sheet->tiles[2 * tile] = (uint32_t)sheet->colours_of_tiles;
+    sheet->tiles[2 * tile + 1] = colours;
+    for (uint32_t i = 0; i < colours && b->fault == DUNKAFETO_DONE; i++) {
+        uint32_t count = take(b, 6) + 1;
+        sum += count;
+        if (sum > DUNKAFETO_TILE_SIZE)
+            refuse(b, DUNKAFETO_COUNTS);
+        if (b->fault != DUNKAFETO_DONE)
+            return; /* so a count was read, and a sheet with that many bits has a place for it in ours */
+        sheet->counts[sheet->colours_of_tiles] = count;
+        take_colours(b, sheet->colours + 3 * sheet->colours_of_tiles, 3);
+        sheet->colours_of_tiles++;
+    }
+}
+
+/* The bits to the byte's end are 0, and no byte follows. */
+static void take_end(Bits *b) {
+    unsigned spare = (unsigned)(-b->at % 8);
+    if (take(b, spare) != 0 || b->at != b->bits)
+        refuse(b, DUNKAFETO_SHEET_BYTES);
+}
+
+uint32_t sheet_read(Sheet *sheet, const unsigned char *bytes, size_t len) {
+    Bits b = {bytes, NULL, 8 * len, 0, DUNKAFETO_DONE};
+    memset(sheet, 0, sizeof *sheet);
+    if (len > SHEET_MOST_BYTES)
+        return DUNKAFETO_SHEET_BYTES;
+    take_head(&b, sheet);
+    if (b.fault == DUNKAFETO_DONE)
+        take_colours(&b, sheet->palette, 3 * sheet->s * sheet->c);
+    for (size_t i = 0; i < sheet->t && b.fault == DUNKAFETO_DONE; i++)
+        take_tile(&b, sheet, i);
+    if (b.fault == DUNKAFETO_DONE)
+        take_end(&b);
+    return b.fault;
+}
+
+static void give_colours(Bits *b, const float *from, size_t components) {
+    for (size_t i = 0; i < components; i++)
+        give(b, bits_of(from[i]), 32);
+}
+
+static void give_tile(Bits *b, const Sheet *sheet, size_t tile) {
+    uint32_t first = sheet->tiles[2 * tile], colours = sheet->tiles[2 * tile + 1];
+    give(b, colours, 7);
+    for (uint32_t i = first; i < first + colours; i++) {
+        give(b, sheet->counts[i] - 1, 6);
+        give_colours(b, sheet->colours + 3 * i, 3);
+    }
+}
+
+size_t sheet_write(const Sheet *sheet, unsigned char *bytes) {
+    Bits b = {NULL, bytes, 0, 0, DUNKAFETO_DONE};
+    memset(bytes, 0, SHEET_MOST_BYTES);
+    give(&b, OPENING, 32);
+    give(&b, EDITION, 4);
+    give(&b, (uint32_t)sheet->s - 1, 4);
+    give(&b, (uint32_t)sheet->c - 1, 4);
+    give(&b, (uint32_t)sheet->t - 1, 10);
+    give(&b, bits_of(sheet->weight), 32);
+    give_colours(&b, sheet->palette, 3 * sheet->s * sheet->c);
+    for (size_t i = 0; i < sheet->t; i++)
+        give_tile(&b, sheet, i);
+    return (b.at + 7) / 8;
+}

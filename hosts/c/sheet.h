@@ -1,0 +1,31 @@
+/* The fit sheet: tiles with their colours, and a palette. */
+#ifndef SHEET_H
+#define SHEET_H
+
+#include <stddef.h>
+#include <stdint.h>
+
+#include "dunkafeto.h"
+
+#define SHEET_MOST_BYTES 65536
+/* A colour of a tile takes 102 bits. */
+#define SHEET_MOST_TILE_COLOURS (SHEET_MOST_BYTES * 8 / 102)
+#define MOST_CELLS (3 * DUNKAFETO_MOST_SUBPALETTES * DUNKAFETO_MOST_COLOURS)
+
+typedef struct {
+    size_t s, c, t; /* subpalettes, colours of each, tiles */
+    float weight;
+    size_t colours_of_tiles;
+    float palette[MOST_CELLS];                   /* 3 * s * c are in use */
+    uint32_t tiles[2 * DUNKAFETO_MOST_TILES];    /* per tile: first colour, number of colours */
+    float colours[3 * SHEET_MOST_TILE_COLOURS];  /* per colour: l, a, b */
+    uint32_t counts[SHEET_MOST_TILE_COLOURS];    /* pixels that have the colour */
+} Sheet;
+
+/* Reads a sheet: DUNKAFETO_DONE, or the number of its first fault. */
+uint32_t sheet_read(Sheet *sheet, const unsigned char *bytes, size_t len);
+
+/* Writes a sheet that was read, with any palette, and gives its length; there is room for SHEET_MOST_BYTES. */
+size_t sheet_write(const Sheet *sheet, unsigned char *bytes);
+
+#endif
