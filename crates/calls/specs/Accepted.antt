@@ -4,9 +4,11 @@ use mathlib.Core.Bool.{Bool, true, false}
 use mathlib.Core.Logic.{_⊎_, inl, inr}
 use Prim.Native.Nat.{ℕ, _*_, _≤_}
 use lib.ListN.{length, getD}
+use native.Mathlib.Omega.{arith}
 use lib.Dec.{eqb}
 use borrow.Author.Tests.{eq-eqb, ne-eqb, eqb-true, eqb-false, lt-ltb, ltb-true}
 use Rattle.lists.specs.Tests.{and-l, and-r}
+use Rattle.job.specs.Job.{tileSize}
 use Rattle.job.specs.Rules.{Passed}
 use Rattle.job.specs.Passing.{pass-all}
 use Rattle.job.specs.Checks.{sampledAnswer}
@@ -20,6 +22,10 @@ use Rattle.calls.specs.Words.{rests→words, words→rests}
 use Rattle.calls.specs.Limits.{fits-four, four-bounded, entries-fit, entries-below}
 use Rattle.calls.specs.Sound.{Second, in2, out2}
 use Rattle.calls.specs.Fit.{Fit}
+
+-- the pixels of a tile in the public calls are few enough for every law
+pub few-pixels : tileSize ≤ 256
+few-pixels = omega arith
 
 -- the lengths of the memory lent
 pub record Roomy (K : Course) (m : Memory) : Type 0 where

@@ -1,6 +1,6 @@
 -- The run's own draws are the cycle's: whatever the division into calls, after t draws each sample has been drawn t / n times, rounded down or up, and
 -- none waits past 2 · n - 1 draws. Assumes nothing.
-use mathlib.Core.Path.{_≡_, refl, sym, ap, subst, subst⁻¹, _∙_}
+use mathlib.Core.Path.{_≡_, refl, sym, ap, subst⁻¹, _∙_}
 use mathlib.Core.Bool.{Bool, cond}
 use mathlib.Core.Logic.{inl, inr}
 use mathlib.Core.List.{List, [], _∷_, _++_, append-assoc, append-nil}
@@ -21,14 +21,14 @@ use Rattle.cycle.specs.Follow.{follow-sample, follow-next}
 use Rattle.cycle.specs.Even.{Even, even, waits}
 use Rattle.quantizer.specs.Course.{Course, b}
 use Rattle.stages.specs.State.{State, at, painted}
-use Rattle.stages.specs.Stages.{openSeeding, enterGrowing, settle, cycleOf, draw, drawWith, going, step, advance, drawsOf, fresh, start, refinedOnce, handIn}
-use Rattle.stages.specs.Calls.{Memory, stateOf, Outcome, startAnswer, advanceAnswer, handInAnswer, startCall, advanceCall, handInCall}
+use Rattle.stages.specs.Stages.{openSeeding, enterGrowing, settle, cycleOf, draw, drawWith, going, step, advance, fresh, start, refinedOnce, handIn}
+use Rattle.stages.specs.Calls.{Memory, stateOf}
 use Rattle.stages.specs.History.{sampleAt, sampled, Run, started, advanced, handedIn}
 use Rattle.calls.specs.Cases.{both, decide}
 use Rattle.calls.specs.Whilsts.{whilst-keeps, whilst-zero, whilst-step, whilst-stop}
 use Rattle.calls.specs.Made.{Same, settle-same, enterGrowing-same, step-made, start-made, handIn-made}
 use Rattle.calls.specs.Accepted.{Accepted}
-use Rattle.calls.specs.Next.{done, held-state, start-leaves, advance-leaves, handIn-leaves, accepted-made-at-end}
+use Rattle.calls.specs.Next.{started-state, advanced-state, handed-state, start-leaves, advance-leaves, handIn-leaves, accepted-made-at-end}
 
 -- ---- a state at its place in the cycle of a seed
 pub record Follows (K : Course) (seed : ℕ) (s : State) : Type 0 where
@@ -134,36 +134,23 @@ pub record Followed (K : Course) (seed : ℕ) (m : Memory) (ds : List ℕ) : Typ
   pub samples : ds ≡ firsts (drawAt (K .n) seed) (stateOf m .made)
 
 module _ (size : ℕ) (K : Course) (seed : ℕ) where
-  -- the state after an accepted call
-  started-state : (m : Memory) → startAnswer size K m ≡ 0 → stateOf (startCall size K m seed .after) ≡ start K seed (m .hints)
-  unfolding startCall
-  started-state m h = ap (λ (x : Outcome). stateOf (x .after)) (done (startAnswer size K m) m 0 (start K seed (m .hints)) h) ∙ held-state (start K seed (m .hints))
-
-  advanced-state : (m : Memory) (a : ℕ) → advanceAnswer size K m ≡ 0 → stateOf (advanceCall size K m a .after) ≡ advance K a (stateOf m)
-  unfolding advanceCall
-  advanced-state m a h = ap (λ (x : Outcome). stateOf (x .after)) (done (advanceAnswer size K m) m (drawsOf K a (stateOf m)) (advance K a (stateOf m)) h) ∙ held-state (advance K a (stateOf m))
-
-  handed-state : (m : Memory) (reduced : List Float) → handInAnswer size K m reduced ≡ 0 → stateOf (handInCall size K m reduced .after) ≡ handIn K reduced (stateOf m)
-  unfolding handInCall
-  handed-state m reduced h = ap (λ (x : Outcome). stateOf (x .after)) (done (handInAnswer size K m reduced) m 0 (handIn K reduced (stateOf m)) h) ∙ held-state (handIn K reduced (stateOf m))
-
   pub run-follows : {m : Memory} {ds : List ℕ} → Run size K seed m ds → Followed K seed m ds
   run-follows (started m h) =
-      let e = started-state m h in
+      let e = started-state size K m seed h in
       record {
         follows = subst⁻¹ (Follows K seed) e (start-follows K seed (m .hints));
         samples = unfold firsts in sym (ap (firsts (drawAt (K .n) seed)) (ap (λ (z : State). z .made) e ∙ start-made K seed (m .hints)));
       }
   run-follows (advanced {m} {ds} r a h) =
       let F = run-follows r in
-      let e = advanced-state m a h in
+      let e = advanced-state size K m a h in
       record {
         follows = subst⁻¹ (Follows K seed) e (advance-follows K seed a (stateOf m) (F .follows));
         samples = ap (λ (l : List ℕ). l ++ sampled K a (stateOf m)) (F .samples) ∙ advance-samples K seed a (stateOf m) (F .follows) ∙ sym (ap (λ (z : State). firsts (drawAt (K .n) seed) (z .made)) e);
       }
   run-follows (handedIn {m} {ds} r reduced h) =
       let F = run-follows r in
-      let e = handed-state m reduced h in
+      let e = handed-state size K m reduced h in
       record {
         follows = subst⁻¹ (Follows K seed) e (handIn-follows K seed reduced (stateOf m) (F .follows));
         samples = F .samples ∙ sym (ap (firsts (drawAt (K .n) seed)) (ap (λ (z : State). z .made) e ∙ handIn-made K reduced (stateOf m)));

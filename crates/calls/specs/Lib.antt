@@ -5,6 +5,7 @@ pub mod Place
 pub mod Settling
 pub mod Words
 pub mod Made
+pub mod HandIns
 pub mod Presence
 pub mod Limits
 pub mod Sound

@@ -1,20 +1,20 @@
 -- The draws that a call reports are the growth of word 4, and only a draw touches the order and the generator. Nothing of a leaf is opened. Assumes nothing.
-use mathlib.Core.Path.{_≡_, refl, sym, ap, _∙_, subst}
+use mathlib.Core.Path.{_≡_, refl, sym, ap, _∙_}
 use mathlib.Core.Logic.{inl, inr, _≢_}
-use mathlib.Core.Bool.{Bool, true, false, cond, _&&_, true≢false}
+use mathlib.Core.Bool.{true, false, cond, true≢false}
 use mathlib.Core.List.{List}
 use Prim.Native.Nat.{ℕ, _+_, _-_, _*_, _≤_}
 use native.Mathlib.Nat.{mul-le-mul-right}
 use native.Mathlib.Omega.{arith}
 use lib.Dec.{ltb, eqb}
 use lib.Ieee.{Float, binary32, lt, ofBits}
-use borrow.Author.Tests.{eqb-true, eqb-false}
+use borrow.Author.Tests.{eqb-true}
 use Rattle.calls.specs.Cases.{by-test, both, decide, all-stages}
 use Rattle.quantizer.specs.Course.{Course, b}
 use Rattle.stages.specs.State.{State, at, painted, draws}
 use Rattle.stages.specs.Stages.{openSeeding, openGrowing, openReplacing, noticed, errorOf, keep, enterGrowing, enterReplacing, enterReducing, closeSeeding, closeGrowing, judged, closeReplacing, finishRound, due, settle, draw, drawWith, going, step, advance, drawsOf, fresh, start, refinedOnce, handIn}
 use Rattle.calls.specs.Whilsts.{whilst-keeps, times-grows, times-all}
-use Rattle.calls.specs.Place.{seeding, growing, replacing, reducing, finishing, over, Placed, Rests, advance-rests, start-rests}
+use Rattle.calls.specs.Place.{seeding, growing, replacing, reducing, finishing, over, Placed, Rests, some-left, advance-rests, start-rests}
 
 -- what only a draw changes
 pub record Same (s z : State) : Type 0 where
@@ -127,10 +127,6 @@ module _ (K : Course) where
 
 -- ---- the run's ends
 module _ (K : Course) (S1 : 1 ≤ K .job .S) (C1 : 1 ≤ K .job .C) where
-  -- a stage that draws has draws left, so a run of no draws stands at none
-  pub some-left : (s : State) → Rests K s → draws (s .stage) ≡ true → 1 ≤ s .left
-  some-left s R D = let z : s .left ≢ 0 = eqb-false (s .left) 0 (subst (λ (t : Bool). t && eqb (s .left) 0 ≡ false) D (R .done)) in omega arith
-
   -- up to stage 3, what is made and left is no more than the draws before the stop
   bounded : (s : State) → Placed K s → Early K s → s .made + s .left ≤ (K .job .S + K .job .C + 8) * b K
   bounded s (seeding k r l e) h = rw e (mul-le-mul-right (b K) (omega arith))
@@ -168,7 +164,7 @@ module _ (K : Course) (S1 : 1 ≤ K .job .S) (C1 : 1 ≤ K .job .C) where
     where
       go : {s : State} → Rests K s → Early K s → s .stage ≡ 3
       go {s} R h = elim (decide (draws (s .stage))) [
-        | inl t ↦ absurd (omega (arith, some-left s R t, left-le s (R .place) h))
+        | inl t ↦ absurd (omega (arith, some-left K s R t, left-le s (R .place) h))
         | inr t ↦ stopped s (R .place) h t
       ]
 
@@ -178,6 +174,6 @@ module _ (K : Course) (S1 : 1 ≤ K .job .S) (C1 : 1 ≤ K .job .C) where
     where
       go : (z : State) → z ≡ advance K a s → Rests K z → Early K z → advance K a s .stage ≡ 3
       go z q Z k = ap (λ (x : State). x .stage) (sym q) ∙ (elim (decide (draws (z .stage))) [
-        | inl t ↦ absurd (omega (arith, some-left z Z t, bounded z (Z .place) k, ap (λ (x : State). x .made) q, advance-made K a s, all-spent K a s (ap (λ (x : State). draws (x .stage)) (sym q) ∙ t)))
+        | inl t ↦ absurd (omega (arith, some-left K z Z t, bounded z (Z .place) k, ap (λ (x : State). x .made) q, advance-made K a s, all-spent K a s (ap (λ (x : State). draws (x .stage)) (sym q) ∙ t)))
         | inr t ↦ stopped z (Z .place) k t
       ])

@@ -41,6 +41,20 @@ pub refused : (e : ℕ) (m : Memory) (drew : ℕ) (s : State) → e ≢ 0 → an
 unfolding answered
 refused e m drew s h = rw (ne-eqb e 0 h)
 
+-- ---- the state after an accepted call
+module _ (size : ℕ) (K : Course) (m : Memory) where
+  pub started-state : (seed : ℕ) → startAnswer size K m ≡ 0 → stateOf (startCall size K m seed .after) ≡ start K seed (m .hints)
+  unfolding startCall
+  started-state seed h = ap (λ (x : Outcome). stateOf (x .after)) (done (startAnswer size K m) m 0 (start K seed (m .hints)) h) ∙ held-state (start K seed (m .hints))
+
+  pub advanced-state : (a : ℕ) → advanceAnswer size K m ≡ 0 → stateOf (advanceCall size K m a .after) ≡ advance K a (stateOf m)
+  unfolding advanceCall
+  advanced-state a h = ap (λ (x : Outcome). stateOf (x .after)) (done (advanceAnswer size K m) m (drawsOf K a (stateOf m)) (advance K a (stateOf m)) h) ∙ held-state (advance K a (stateOf m))
+
+  pub handed-state : (reduced : List Float) → handInAnswer size K m reduced ≡ 0 → stateOf (handInCall size K m reduced .after) ≡ handIn K reduced (stateOf m)
+  unfolding handInCall
+  handed-state reduced h = ap (λ (x : Outcome). stateOf (x .after)) (done (handInAnswer size K m reduced) m 0 (handIn K reduced (stateOf m)) h) ∙ held-state (handIn K reduced (stateOf m))
+
 -- at a stop no draw is due, and the stage is no 2
 quiet-at : (k : ℕ) → stops k ≡ true → (draws k ≡ false) × (k ≤ 6) × (k ≢ 2)
 quiet-at k e =

@@ -1,7 +1,7 @@
 -- Where a run stands, words 1 to 4 of its record: every step keeps the record's rules, whatever the leaves do to the palette. Assumes nothing.
 use mathlib.Core.Path.{_≡_, refl, sym, ap, _∙_, subst}
 use mathlib.Core.Logic.{_≢_}
-use mathlib.Core.Bool.{Bool, true, false, _&&_, true≢false}
+use mathlib.Core.Bool.{Bool, true, false, cond, _&&_, true≢false}
 use Prim.Native.Nat.{ℕ, zero, suc, _+_, _-_, _*_, _≤_, _<_}
 use native.Mathlib.Nat.{le-refl, suc-mul, add-mul}
 use native.Mathlib.Omega.{arith}
@@ -14,7 +14,7 @@ use Rattle.calls.specs.Cases.{by-test, both, stage0, stage1, stage2, sta
 use Rattle.stages.specs.Whilst.{whilst}
 use Rattle.calls.specs.Whilsts.{whilst-keeps}
 use Rattle.quantizer.specs.Course.{Course, b}
-use Rattle.stages.specs.State.{State, at, draws, byStage}
+use Rattle.stages.specs.State.{State, at, painted, draws, byStage}
 use Rattle.stages.specs.Stages.{openSeeding, openGrowing, openReplacing, noticed, keep, enterGrowing, enterReplacing, enterReducing, closeSeeding, closeGrowing, judged, closeReplacing, errorOf, finishRound, due, settle, draw, drawWith, going, step, advance, fresh, start, refinedOnce, handIn}
 
 -- ---- the draws of whole rounds
@@ -53,6 +53,10 @@ pub record Ahead (K : Course) (f : ℕ) (s : State) : Type 0 where
 pub record Rests (K : Course) (s : State) : Type 0 where
   pub place : Placed K s
   pub done : due K s ≡ false
+
+-- a stage that draws has draws left then
+pub some-left : (K : Course) (s : State) → Rests K s → draws (s .stage) ≡ true → 1 ≤ s .left
+some-left K s R D = let z : s .left ≢ 0 = eqb-false (s .left) 0 (subst (λ (t : Bool). t && eqb (s .left) 0 ≡ false) D (R .done)) in omega arith
 
 module _ (K : Course) (S1 : 1 ≤ K .job .S) (C1 : 1 ≤ K .job .C) where
   -- ---- entering a stage
@@ -157,15 +161,12 @@ module _ (K : Course) (S1 : 1 ≤ K .job .S) (C1 : 1 ≤ K .job .C) where
   pub draw-place : (s : State) → Rests K s → draws (s .stage) ≡ true → Placed K (draw K s)
   draw-place s R D = go (R .place)
     where
-      some-left : 1 ≤ s .left
-      some-left = let z : s .left ≢ 0 = eqb-false (s .left) 0 (subst (λ (t : Bool). t && eqb (s .left) 0 ≡ false) D (R .done)) in omega arith
-
       go : Placed K s → Placed K (draw K s)
-      go (seeding k r l e) = unfold draw drawWith in seeding k r (omega arith) (omega (arith, some-left))
-      go (growing k r l e) = unfold draw drawWith in growing k r (omega arith) (omega (arith, some-left))
-      go (replacing k r l e) = unfold draw drawWith in replacing k r (omega arith) (omega (arith, some-left))
+      go (seeding k r l e) = unfold draw drawWith in seeding k r (omega arith) (omega (arith, some-left K s R D))
+      go (growing k r l e) = unfold draw drawWith in growing k r (omega arith) (omega (arith, some-left K s R D))
+      go (replacing k r l e) = unfold draw drawWith in replacing k r (omega arith) (omega (arith, some-left K s R D))
       go (reducing k r l e) = absurd (true≢false (sym D ∙ ap draws k))
-      go (finishing k r l e) = unfold draw drawWith in finishing k r (omega arith) (omega (arith, some-left))
+      go (finishing k r l e) = unfold draw drawWith in finishing k r (omega arith) (omega (arith, some-left K s R D))
       go (over k past r l e) = absurd (true≢false (sym D ∙ quiet (s .stage) k))
 
   pub step-rests : (s : State) → Rests K s → draws (s .stage) ≡ true → Rests K (step K s)
@@ -176,12 +177,18 @@ module _ (K : Course) (S1 : 1 ≤ K .job .S) (C1 : 1 ≤ K .job .C) where
   advance-rests a s R = whilst-keeps (going K) (step K) (Rests K) step-rests a s R
 
   -- ---- the start, and a hand-in at a stop
-  pub start-rests : (seed : ℕ) (hints : List ℕ) → Rests K (start K seed hints)
-  unfolding start
-  start-rests seed hints = settle-rests _ (by-test (Placed K) (ltb 1 (K .job .S))
+  pub first-placed : (seed : ℕ) (hints : List ℕ) → Placed K (cond (ltb 1 (K .job .S)) (openSeeding K 0 0 (fresh K seed hints)) (enterGrowing K (fresh K seed hints)))
+  first-placed seed hints = by-test (Placed K) (ltb 1 (K .job .S))
       (λ t. let c : 1 < K .job .S = ltb-true 1 (K .job .S) t in unfold openSeeding fresh in seeding refl (omega arith) (le-refl (b K)) (omega arith))
       (λ t. let c : K .job .S ≤ 1 = ltb-false 1 (K .job .S) t in
-      enterGrowing-ahead (K .job .C - 1 + 10) (fresh K seed hints) (unfold fresh in same-rounds 0 _ 0 (b K) (omega arith) (omega arith)) (le-refl _) .place))
+      enterGrowing-ahead (K .job .C - 1 + 10) (fresh K seed hints) (unfold fresh in same-rounds 0 _ 0 (b K) (omega arith) (omega arith)) (le-refl _) .place)
+
+  pub start-rests : (seed : ℕ) (hints : List ℕ) → Rests K (start K seed hints)
+  unfolding start
+  start-rests seed hints = settle-rests _ (first-placed seed hints)
+
+  pub final-placed : (s : State) → s .made ≡ (K .job .S + K .job .C + 8) * b K → Placed K (at s 4 0 (10 * b K))
+  final-placed s e = finishing refl refl (le-refl _) (rw (e, ← add-mul (K .job .S + K .job .C + 8) 10 (b K)) (ap (λ (x : ℕ). x * b K) (omega arith)))
 
   pub handIn-rests : (h : List Float) (s : State) → Rests K s → draws (s .stage) ≡ false → s .stage ≤ 6 → Rests K (handIn K h s)
   handIn-rests h s R D Z = go (R .place)
@@ -193,7 +200,7 @@ module _ (K : Course) (S1 : 1 ≤ K .job .S) (C1 : 1 ≤ K .job .C) where
       go (seeding k r l e) = drawn k refl
       go (growing k r l e) = drawn k refl
       go (replacing k r l e) = drawn k refl
-      go (reducing k r l e) = unfold handIn in rw (eq-eqb (s .stage) 3 k) (settle-rests _ (finishing refl refl (le-refl _) (rw (e, ← add-mul (K .job .S + K .job .C + 8) 10 (b K)) (ap (λ (x : ℕ). x * b K) (omega arith)))))
+      go (reducing k r l e) = unfold handIn in rw (eq-eqb (s .stage) 3 k) (settle-rests _ (final-placed (painted s (s .hints) h) e))
       go (finishing k r l e) = drawn k refl
       go (over k past r l e) = unfold handIn refinedOnce noticed in
           rw (ne-eqb (s .stage) 3 (λ (q : s .stage ≡ 3). omega arith))

@@ -72,11 +72,3 @@ module _ (K : Course) where
     where
       fewer : (n : ℕ) → n + 0 ≤ n
       fewer n = omega arith
-
-  pub rounds-few : (s : State) → Placed K s → s .rounds ≤ K .job .S + K .job .C + 10
-  rounds-few s (seeding k r l e) = omega arith
-  rounds-few s (growing k r l e) = omega arith
-  rounds-few s (replacing k r l e) = omega arith
-  rounds-few s (reducing k r l e) = omega arith
-  rounds-few s (finishing k r l e) = omega arith
-  rounds-few s (over k past r l e) = omega arith

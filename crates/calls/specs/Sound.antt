@@ -1,8 +1,8 @@
 -- Every step keeps what the calls check of a run's memory, beside the record's words 1 to 4: lengths, components within 4, order entries below n,
 -- hints for all tiles, and the least palette with its error. Assumes nothing.
-use mathlib.Core.Path.{_≡_, refl, subst, subst⁻¹, _∙_}
+use mathlib.Core.Path.{_≡_, refl, subst⁻¹, _∙_}
 use mathlib.Core.Logic.{_≢_}
-use mathlib.Core.Bool.{Bool}
+use mathlib.Core.Bool.{Bool, cond}
 use mathlib.Core.List.{List}
 use Prim.Native.Nat.{ℕ, _+_, _-_, _*_, _≤_, _<_}
 use native.Mathlib.Nat.{le-refl}
@@ -74,7 +74,7 @@ module _ (size : ℕ) (small : size ≤ 256) (K : Course) (R : Ready size (K .jo
   shown : (pal : List Float) → Held K pal → (n have : ℕ) → 1 ≤ n → n ≤ K .job .S → 1 ≤ have → have ≤ K .job .C → Shown (K .job) pal n have
   shown pal H n have n1 nS h1 hC = record { size = size; small = small; ready = R; subs = n1; most = nS; some = h1; present = hC; room = H .size; near = H .bound }
 
-  all-shown : (pal : List Float) → Held K pal → Shown (K .job) pal (K .job .S) (K .job .C)
+  pub all-shown : (pal : List Float) → Held K pal → Shown (K .job) pal (K .job .S) (K .job .C)
   all-shown pal H = shown pal H (K .job .S) (K .job .C) (R .sizes .subs) (le-refl (K .job .S)) (R .sizes .some) (le-refl (K .job .C))
 
   -- ---- a palette through each stage boundary
@@ -100,14 +100,14 @@ module _ (size : ℕ) (small : size ≤ 256) (K : Course) (R : Ready size (K .jo
       let r = replaced-kept (K .job) pal (all-shown pal H) 4 (H .bound) in
       record { size = r .size ∙ H .size; bound = r .bound }
 
-  refined-held : (pal : List Float) → Held K pal → Held K (refined (K .job) pal)
+  pub refined-held : (pal : List Float) → Held K pal → Held K (refined (K .job) pal)
   refined-held pal H = record { size = length-refined (K .job) pal ∙ H .size; bound = refined-bounded (K .job) pal (all-shown pal H) 4 (omega arith) (H .bound) }
 
   error-finite : (pal : List Float) → Held K pal → (s : State) → s .palette ≡ pal → toBits binary32 (errorOf K s) < 0x7f800000
   unfolding errorOf
   error-finite pal H s e = error-bits (errorOf K s) (mse-error (K .job) (s .palette) (K .job .S) (K .job .C) (all-shown (s .palette) (subst⁻¹ (Held K) e H)))
 
-  hinted : (pal : List Float) (n have : ℕ) (h : List ℕ) → length h ≡ K .job .T → length (hintsOf (K .job) pal n have h (K .job .T)) ≡ K .job .T
+  pub hinted : (pal : List Float) (n have : ℕ) (h : List ℕ) → length h ≡ K .job .T → length (hintsOf (K .job) pal n have h (K .job .T)) ≡ K .job .T
   hinted pal n have h e = length-hints (K .job) pal n have h (K .job .T) ∙ e
 
   -- ---- opening a round, and entering a stage
@@ -277,7 +277,7 @@ module _ (size : ℕ) (small : size ≤ 256) (K : Course) (given : Bool) (D : Sa
         dealt = drawn-dealt s (A .dealt);
       }
 
-  fresh-sound : (seed : ℕ) (hints : List ℕ) → length hints ≡ K .job .T → Sound K (fresh K seed hints)
+  pub fresh-sound : (seed : ℕ) (hints : List ℕ) → length hints ≡ K .job .T → Sound K (fresh K seed hints)
   unfolding fresh
   fresh-sound seed hints h =
       let z = zeros-held size small K (D .ready) in
@@ -293,13 +293,16 @@ module _ (size : ℕ) (small : size ≤ 256) (K : Course) (given : Bool) (D : Sa
         dealt = unfold after roundAt in record { size = round-size (K .n) seed 0; below = λ i l. round-below (K .n) seed 0 i (omega (arith, round-size (K .n) seed 0)) };
       }
 
-  pub start-sound : (seed : ℕ) (hints : List ℕ) → length hints ≡ K .job .T → Sound K (start K seed hints)
-  unfolding start
-  start-sound seed hints h =
-      settle-sound size small K (D .ready) _
-      (by-test (Sound K) (ltb 1 (K .job .S))
+  -- the first round of a start
+  pub first-sound : (seed : ℕ) (hints : List ℕ) → length hints ≡ K .job .T → Sound K (cond (ltb 1 (K .job .S)) (openSeeding K 0 0 (fresh K seed hints)) (enterGrowing K (fresh K seed hints)))
+  first-sound seed hints h =
+      by-test (Sound K) (ltb 1 (K .job .S))
       (λ t. let l : 1 < K .job .S = ltb-true 1 (K .job .S) t in openSeeding-sound size small K (D .ready) 0 0 (fresh K seed hints) (omega arith) (omega arith) (fresh-sound seed hints h) zero-error)
-      (λ t. enterGrowing-sound size small K (D .ready) (fresh K seed hints) (fresh-sound seed hints h) zero-error))
+      (λ t. enterGrowing-sound size small K (D .ready) (fresh K seed hints) (fresh-sound seed hints h) zero-error)
     where
       zero-error : fresh K seed hints .error ≡ 0
       zero-error = unfold fresh in refl
+
+  pub start-sound : (seed : ℕ) (hints : List ℕ) → length hints ≡ K .job .T → Sound K (start K seed hints)
+  unfolding start
+  start-sound seed hints h = settle-sound size small K (D .ready) _ (first-sound seed hints h)

@@ -3,11 +3,9 @@ use mathlib.Core.Path.{_≡_, sym, _∙_}
 use mathlib.Core.Bool.{true}
 use mathlib.Core.List.{List}
 use Prim.Native.Nat.{ℕ, _≤_}
-use native.Mathlib.Omega.{arith}
 use lib.Ieee.{Float}
 use lib.ListN.{length}
 use borrow.Author.Tests.{eq-eqb, ne-eqb}
-use Rattle.job.specs.Job.{tileSize}
 use Rattle.quantizer.specs.Course.{Course}
 use Rattle.stages.specs.State.{stateWith}
 use Rattle.stages.specs.Stages.{advance, drawsOf}
@@ -15,9 +13,6 @@ use Rattle.stages.specs.Calls.{Outcome, recordOf, stateOf, memory, memoryOf, ou
 use Rattle.calls.specs.Accepted.{job-passed}
 use Rattle.calls.specs.Answers.{advance-opened}
 use Rattle.run_advance.specs.Running.{Running}
-
-pub tile-small : tileSize ≤ 256
-tile-small = omega arith
 
 module _ (size : ℕ) (K : Course) (o h : List ℕ) (p l : List Float) (w : List ℕ) (a : ℕ) (e : a ≡ advanceAnswer size K (memory o h p l w)) where
   pub refused : (allotment : ℕ) → (a ≡ 0 → ⊥) → outcome a 0 (memory o h p l w) ≡ advanceCall size K (memory o h p l w) allotment

@@ -1,21 +1,19 @@
 -- A state between calls at a stage that draws can be drawn from; and a draw passes the second palette by. Assumes nothing.
-use Prim.Native.Nat.{ℕ, suc, _+_, _*_, _-_, _≤_}
-use mathlib.Core.Path.{_≡_, ap, subst}
-use mathlib.Core.Logic.{_≢_}
-use mathlib.Core.Bool.{Bool, true, false, _&&_}
+use Prim.Native.Nat.{ℕ, _+_, _*_, _-_, _≤_}
+use mathlib.Core.Path.{_≡_, ap}
+use mathlib.Core.Bool.{Bool, true}
 use mathlib.Core.List.{List, []}
 use native.Mathlib.Nat.{mul-le-mul, div-le-of-le-mul, lt-of-le-of-lt}
 use native.Mathlib.Omega.{arith}
-use lib.Dec.{eqb, lit<}
+use lib.Dec.{lit<}
 use lib.Ieee.{Float}
-use lib.ListN.{length}
-use borrow.Author.Tests.{eqb-false}
 use Rattle.job.specs.Gives.{Sampled}
 use Rattle.quantizer.specs.Course.{Course, b}
 use Rattle.stages.specs.declared.Record.{Record}
 use Rattle.stages.specs.State.{State, stateWith, draws}
 use Rattle.stages.specs.Stages.{subsOf, haveOf, alphaOf, draw, drawWith}
-use Rattle.calls.specs.Place.{Placed, Rests, seeding, growing, replacing, reducing, finishing, over}
+use Rattle.calls.specs.Place.{Placed, Rests, seeding, growing, replacing, reducing, finishing, over, some-left}
+use Rattle.calls.specs.Settling.{made-few}
 use Rattle.calls.specs.Presence.{draw-shown}
 use Rattle.calls.specs.Sound.{Sound}
 use Rattle.run_draw.specs.Drawable.{Drawable}
@@ -44,16 +42,7 @@ module _ (K : Course) (few : K .job .S ≤ 16) (cap : K .job .C ≤ 16) (short :
   few-rounds (over k past r l e) = omega arith
 
   pub few-made : Placed K s → s .made ≤ 81950
-  few-made (seeding k r l e) = omega (arith, product (suc (s .rounds)) (omega arith))
-  few-made (growing k r l e) = omega (arith, product (K .job .S - 1 + suc (s .rounds)) (omega arith))
-  few-made (replacing k r l e) = omega (arith, product (K .job .S - 1 + (K .job .C - 1) + suc (s .rounds)) (omega arith))
-  few-made (reducing k r l e) = omega (arith, product (K .job .S + K .job .C + 8) (omega arith))
-  few-made (finishing k r l e) = omega (arith, product (K .job .S + K .job .C + 18) (omega arith))
-  few-made (over k past r l e) = omega (arith, product (K .job .S + K .job .C + 18) (omega arith))
-
--- a stage that draws has a draw left between calls
-pub some-left : (K : Course) (s : State) → Rests K s → draws (s .stage) ≡ true → 1 ≤ s .left
-some-left K s R D = let z : s .left ≢ 0 = eqb-false (s .left) 0 (subst (λ (t : Bool). t && eqb (s .left) 0 ≡ false) D (R .done)) in omega arith
+  few-made p = omega (arith, made-few K s p, product (K .job .S + K .job .C + 18) (omega arith))
 
 -- what a draw asks holds between calls
 pub drawable : (size : ℕ) → size ≤ 256 → (K : Course) (room : Bool) → Sampled size (K .job) (K .n) (K .samples) room → (s : State) → Rests K s → Sound K s → draws (s .stage) ≡ true → Drawable K s

@@ -4,29 +4,25 @@ use mathlib.Core.Path.{_≡_, refl, sym, ap, subst⁻¹, _∙_}
 use mathlib.Core.Logic.{_≢_, _⊎_, inl, inr}
 use mathlib.Core.Bool.{true, false}
 use mathlib.Core.List.{List}
-use native.Mathlib.Nat.{le-refl, add-mul}
 use native.Mathlib.Omega.{arith}
 use lib.Dec.{eqb}
 use lib.Ieee.{Float}
 use lib.ListN.{length}
 use borrow.Author.Tests.{eq-eqb, ne-eqb, eqb-true}
 use Rattle.color.specs.Sizes.{bounded-wider}
-use Rattle.job.specs.Job.{two, tileSize}
+use Rattle.job.specs.Job.{two}
 use Rattle.job.specs.Ready.{two-within, components-within}
 use Rattle.palette_tile.specs.Tiles.{Shown, hintsOf}
-use Rattle.palette_tile.specs.Hints.{length-hints}
 use Rattle.quantizer.specs.Course.{Course, b}
 use Rattle.quantizer.specs.Refining.{refined}
-use Rattle.quantizer.specs.Lengths.{length-refined}
-use Rattle.quantizer.specs.Refines.{refined-bounded}
 use Rattle.stages.specs.declared.Record.{Record}
 use Rattle.stages.specs.State.{State, stateWith, at}
 use Rattle.stages.specs.Stages.{finishRound, settle, refinedOnce, handIn}
 use Rattle.stages.specs.Calls.{Memory, memory, recordOf, wordsOf, stateOf, memoryOf, outcome, coloursRoom, handInAnswer, handInCall}
 use Rattle.calls.specs.Cases.{decide}
-use Rattle.calls.specs.Place.{Placed, finishing, made-at-3}
+use Rattle.calls.specs.Place.{Placed, final-placed, made-at-3}
 use Rattle.calls.specs.Settling.{settle-done, settle-more, finish-placed}
-use Rattle.calls.specs.Sound.{Held}
+use Rattle.calls.specs.Sound.{Held, all-shown, refined-held, hinted}
 use Rattle.calls.specs.Accepted.{job-passed}
 use Rattle.calls.specs.Answers.{handIn-opened}
 use Rattle.calls.specs.Next as next
@@ -43,18 +39,7 @@ some-begin n r e = rw (ne-eqb (10 * (n / 10)) 0 e)
 
 -- ---- refinements
 pub shown-of : (K : Course) (s : State) → Refinable K s → Shown (K .job) (s .palette) (K .job .S) (K .job .C)
-shown-of K s A =
-    record {
-      size = A .size;
-      small = A .small;
-      ready = A .ready;
-      subs = A .ready .sizes .subs;
-      most = le-refl (K .job .S);
-      some = A .ready .sizes .some;
-      present = le-refl (K .job .C);
-      room = A .held .size;
-      near = A .held .bound;
-    }
+shown-of K s A = all-shown (A .size) (A .small) K (A .ready) (s .palette) (A .held)
 
 -- the loop, after i refinements of `from`
 pub record Refining (K : Course) (from s : State) (i : ℕ) : Type 0 where
@@ -76,11 +61,8 @@ again K o h p l r from i A t h2 p2 ep eh =
         size = A .refinable .size;
         small = A .refinable .small;
         ready = A .refinable .ready;
-        held = rw ep (record {
-          size = length-refined (K .job) p ∙ A .refinable .held .size;
-          bound = refined-bounded (K .job) p (shown-of K (stateWith o h p l r) (A .refinable)) 4 (omega arith) (A .refinable .held .bound);
-        });
-        each = rw eh (length-hints (K .job) p (K .job .S) (K .job .C) h (K .job .T) ∙ A .refinable .each);
+        held = rw ep (refined-held (A .refinable .size) (A .refinable .small) K (A .refinable .ready) p (A .refinable .held));
+        each = rw eh (hinted (A .refinable .size) (A .refinable .small) K (A .refinable .ready) p (K .job .S) (K .job .C) h (A .refinable .each));
       };
       same = once ∙ ap (refinedOnce K) (A .same) ∙ more i;
     }
@@ -108,8 +90,7 @@ module _ (K : Course) (o h : List ℕ) (p l : List Float) (r : Record) (A : Hand
     some = A .refinable .ready .sizes .some
 
     first-placed : Placed K (stateWith o h p l (placedAt r 4 0 (10 * b K)))
-    first-placed =
-        finishing refl refl (le-refl _) (rw (made-at-3 K subs some (stateWith o h p l r) (A .place) k, ← add-mul (K .job .S + K .job .C + 8) 10 (b K)) (ap (λ (x : ℕ). x * b K) (omega arith)))
+    first-placed = final-placed K subs some (stateWith o h p l r) (made-at-3 K subs some (stateWith o h p l r) (A .place) k)
 
     settled : (eqb (10 * b K) 0 ≡ true) ⊎ (eqb (10 * b K) 0 ≡ false) → stateWith o h p l (finalDraws (K .n) r) ≡ settle K (stateWith o h p l (placedAt r 4 0 (10 * b K)))
     unfolding finalDraws finishRound
@@ -132,9 +113,6 @@ module _ (K : Course) (o h : List ℕ) (p l : List Float) (r : Record) (A : Hand
   last-on a k = rw (ne-eqb (r .stage) 3 a, ne-eqb (r .stage) 5 k)
 
 -- ---- the call
-pub few-pixels : tileSize ≤ 256
-few-pixels = omega arith
-
 module _ (size : ℕ) (small : size ≤ 256) (K : Course) (m : Memory) (reduced : List Float) (a : ℕ) (e : a ≡ handInAnswer size K m reduced) where
   pub refused : (a ≡ 0 → ⊥) → outcome a 0 m ≡ handInCall size K m reduced
   unfolding handInCall

@@ -1,14 +1,12 @@
 -- What each closing asks holds where a round is to be closed; what it leaves is the round's end; and the settling loop goes on, or is done. Assumes nothing.
-use Prim.Native.Nat.{ℕ, _+_, _*_, _≤_, _<_}
+use Prim.Native.Nat.{ℕ, _≤_, _<_}
 use mathlib.Core.Path.{_≡_, refl, sym, ap, subst⁻¹, _∙_}
 use mathlib.Core.Logic.{_≢_}
 use mathlib.Core.Bool.{Bool, true, false, _&&_, true≢false}
 use mathlib.Core.List.{List, []}
-use native.Mathlib.Nat.{le-refl}
 use native.Mathlib.Omega.{arith}
 use lib.Dec.{eqb}
 use lib.Ieee.{Float}
-use lib.ListN.{length}
 use borrow.Author.Tests.{eq-eqb, ne-eqb}
 use Rattle.lists.specs.Tests.{and-l}
 use Rattle.quantizer.specs.Course.{Course, course}
@@ -19,7 +17,7 @@ use Rattle.calls.specs.Cases.{stage0, stage1, stage2, stage4}
 use Rattle.calls.specs.Place.{Placed, seeding, growing, replacing, reducing, finishing, over, quiet, togo}
 use Rattle.calls.specs.Settling.{settle-done, settle-more, finish-placed, togo-less}
 use Rattle.calls.specs.Presence.{seeding-rounds, growing-rounds}
-use Rattle.calls.specs.Sound.{Second, Sound, in2, out2, finish-sound}
+use Rattle.calls.specs.Sound.{Second, all-shown, in2, out2, finish-sound}
 use Rattle.run_replacing.specs.Closing.{Lent, Judging}
 use Rattle.run_growing.specs.Grows.{Grown}
 use Rattle.run_seeding.specs.Seeds.{Seeded}
@@ -32,17 +30,7 @@ module _ (K : Course) (o h : List ℕ) (p l : List Float) (r : Record) (A : Clos
       let B = A .standing in
       record {
         whole = record {
-          shown = record {
-            size = B .size;
-            small = B .small;
-            ready = B .ready;
-            subs = B .ready .sizes .subs;
-            most = le-refl (K .job .S);
-            some = B .ready .sizes .some;
-            present = le-refl (K .job .C);
-            room = B .sound .held .size;
-            near = B .sound .held .bound;
-          };
+          shown = all-shown (B .size) (B .small) K (B .ready) p (B .sound .held);
           each = B .sound .hints;
         };
         room = B .sound .room;

@@ -11,7 +11,6 @@ use lib.ListN.{length}
 use borrow.Author.Tests.{lt-ltb, le-ltb}
 use Rattle.prng.specs.Shuffle.{deck}
 use Rattle.cycle.specs.Cycle.{Cycle, cycle, after}
-use Rattle.job.specs.Job.{tileSize}
 use Rattle.quantizer.specs.Course.{Course, course}
 use Rattle.quantizer.specs.Sums.{zeros}
 use Rattle.quantizer.specs.Seeding.{seeded}
@@ -22,6 +21,7 @@ use Rattle.stages.specs.State.{State, stateWith}
 use Rattle.stages.specs.Stages.{openSeeding, enterGrowing, settle, fresh, start}
 use Rattle.stages.specs.Calls.{Memory, memory, wordsOf, memoryOf, outcome, startAnswer, startCall}
 use Rattle.calls.specs.Accepted.{job-passed}
+use Rattle.calls.specs.Sound.{all-shown}
 use Rattle.calls.specs.Answers.{start-opened}
 use Rattle.calls.specs.Next as next
 use Rattle.run_record.specs.Sized.{sized}
@@ -61,17 +61,7 @@ module _ (K : Course) (o h : List ℕ) (p l : List Float) (r : Record) (B : Begi
       let A = sound K (stateWith o h p l r) B in
       record {
         whole = record {
-          shown = record {
-            size = B .size;
-            small = B .small;
-            ready = B .passed .ready;
-            subs = B .passed .ready .sizes .subs;
-            most = le-refl (K .job .S);
-            some = B .passed .ready .sizes .some;
-            present = le-refl (K .job .C);
-            room = A .held .size;
-            near = A .held .bound;
-          };
+          shown = all-shown (B .size) (B .small) K (B .passed .ready) p (A .held);
           each = B .each;
         };
         room = A .room;
@@ -92,9 +82,6 @@ pub set-on : (K : Course) (s x y : State) → y ≡ settle K x → x ≡ firstRo
 set-on K s x y e f = e ∙ ap (settle K) f
 
 -- ---- the call
-pub few-pixels : tileSize ≤ 256
-few-pixels = omega arith
-
 module _ (size : ℕ) (small : size ≤ 256) (K : Course) (m : Memory) (seed : ℕ) (a : ℕ) (e : a ≡ startAnswer size K m) where
   pub refused : (a ≡ 0 → ⊥) → outcome a 0 m ≡ startCall size K m seed
   unfolding startCall

@@ -1,5 +1,6 @@
 -- `run_advance::advance` meets its contract, refused or not. Assumes nothing.
-use Rattle.run_advance.proofs.Answered.{tile-small, refused, work-asks, advanced}
+use Rattle.calls.specs.Accepted.{few-pixels}
+use Rattle.run_advance.proofs.Answered.{refused, work-asks, advanced}
 use borrow.Author.Needs.{needs}
 use Rattle.run_advance.proofs.advance.Statement.{statement}
 use Rattle.run_advance.proofs.advance.Tie as tie
@@ -26,7 +27,7 @@ returns : tie.Need-returns
 returns c = refused _ _ _ _ _ _ _ _ (c .before .refuses-advance .ensures) _ (c .if1 .taken)
 
 advance-work-requires : tie.Need-advance-work-requires
-advance-work-requires c κs = work-asks _ _ _ _ _ _ _ _ (c .before .before .before .before .before .before .refuses-advance .ensures) tile-small (c .before .before .before .before .before .if1 .left)
+advance-work-requires c κs = work-asks _ _ _ _ _ _ _ _ (c .before .before .before .before .before .before .refuses-advance .ensures) few-pixels (c .before .before .before .before .before .if1 .left)
 
 same-length-6 : tie.Need-same-length-6
 same-length-6 c = search needs

@@ -1,5 +1,6 @@
 -- `run_hand_in::hand_in` meets its contract, refused or not. Assumes nothing.
-use Rattle.run_hand_in.proofs.Laws.{few-pixels, refused, same-room, six, handed, accepted}
+use Rattle.calls.specs.Accepted.{few-pixels}
+use Rattle.run_hand_in.proofs.Laws.{refused, same-room, six, handed, accepted}
 use borrow.Author.Needs.{needs}
 use Rattle.run_hand_in.proofs.hand_in.Statement.{statement}
 use Rattle.run_hand_in.proofs.hand_in.Tie as tie

@@ -1,5 +1,6 @@
 -- `run_start::start` meets its contract, refused or not. Assumes nothing.
-use Rattle.run_start.proofs.Laws.{few-pixels, refused, can-blank, can-deal, six, beginning, accepted}
+use Rattle.calls.specs.Accepted.{few-pixels}
+use Rattle.run_start.proofs.Laws.{refused, can-blank, can-deal, six, beginning, accepted}
 use borrow.Author.Needs.{needs}
 use Rattle.run_start.proofs.start.Statement.{statement}
 use Rattle.run_start.proofs.start.Tie as tie
