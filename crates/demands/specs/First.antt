@@ -90,7 +90,7 @@ pub grouping : (size : ℕ) (q : Pixels) (m : Lent)
 unfolding groups.grouping
 grouping size q m = decides groups.Outcome (λ x. groups.numberOf (x .answer)) (λ k. groups.outcome (grouped.Refused k) m) (λ k. refl) _ refl (refusal size q m)
 
--- ---- the sheet's reader: 3 for room, then 13 for size, then the first fault in field order
+-- ---- the sheet's reader: 3 for room, then 13 for size, then the first fault in field order (Sheets: 0, 3, 12 and 13 exactly when)
 abbrev pub numberOfReading : Reading → ℕ
 numberOfReading (reading.Refused k) = k
 numberOfReading (reading.Sheet s c t weight) = 0
