@@ -1,10 +1,12 @@
 //! The kinds of comparison.
 
 mod calls;
+mod edges;
 mod groups;
 mod leaves;
 mod own;
 mod palettes;
+mod programs;
 mod runs;
 mod seeding;
 mod sheets;
@@ -26,7 +28,7 @@ pub struct Kind {
     pub compare: fn(&mut Rng, u64, &mut Tally),
 }
 
-pub const KINDS: [&[Kind]; 9] = [
+pub const KINDS: [&[Kind]; 11] = [
     own::KINDS,
     leaves::KINDS,
     palettes::KINDS,
@@ -36,6 +38,8 @@ pub const KINDS: [&[Kind]; 9] = [
     calls::KINDS,
     runs::KINDS,
     sheets::KINDS,
+    edges::KINDS,
+    programs::KINDS,
 ];
 
 /// Cases at scale 1, and for the figures.

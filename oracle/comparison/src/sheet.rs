@@ -145,3 +145,13 @@ pub fn fitted(bytes: &[u8]) -> String {
     }
     text
 }
+
+/// Document 01's example.
+pub fn example() -> Sheet {
+    let tile = |l: f32, count: u32| Tile { colours: vec![[l, 0.0, 0.0]], counts: vec![count] };
+    Sheet {
+        weight: 1.0,
+        palette: vec![vec![[0.0; 3]], vec![[1.0, 0.0, 0.0]]],
+        tiles: vec![tile(0.25, 4), Tile::default(), tile(0.5, 2), tile(1.0, 1)],
+    }
+}

@@ -128,6 +128,15 @@ pub struct Held {
     pub words: [u64; 6],
 }
 
+/// What seeding leaves: the palette, the hints, the order of draws and the generator's state.
+#[derive(Clone, Debug)]
+pub struct Seeded {
+    pub palette: Palette,
+    pub hints: Vec<usize>,
+    pub order: Vec<u32>,
+    pub state: u64,
+}
+
 /// A run that can be stopped anywhere, put together from the Rust's private stage functions.
 pub trait Steps {
     fn held(&self) -> Held;
@@ -152,8 +161,8 @@ pub trait Probed: Rust {
     /// One round of growing without draws.
     fn grow(&self, palette: &Palette, tiles: &[Tile], hints: &mut [usize]) -> Palette;
     fn refine(&self, palette: &Palette, tiles: &[Tile], hints: &mut [usize]) -> Palette;
-    /// The seeding of s subpalettes, draws included. Gives the palette and the hints left behind.
-    fn seed(&self, job: &Job, hints: &[usize], seed: u64) -> (Palette, Vec<usize>);
+    /// The seeding of s subpalettes, draws included.
+    fn seed(&self, job: &Job, hints: &[usize], seed: u64) -> Seeded;
     /// The subpalette that seeding splits next.
     fn worst(&self, palette: &Palette, tiles: &[Tile], hints: &mut [usize]) -> usize;
     fn start(&self, job: &Job, hints: &[usize], seed: u64) -> Box<dyn Steps>;

@@ -4,7 +4,7 @@
 
 use std::rc::Rc;
 
-use terms::{Colour, Held, Job, Probed, Steps, Tile};
+use terms::{Colour, Held, Job, Probed, Seeded, Steps, Tile};
 
 use super::super::dither::door::{colours_of, hints_of, palette_of, samples_data, settings, tile_data, tiles_data};
 use super::super::palette::{Palette, Subpalette, SubpaletteView};
@@ -97,13 +97,18 @@ impl Probed for crate::Door {
         over(palette, tiles, hints, refine)
     }
 
-    fn seed(&self, job: &Job, hints: &[usize], seed: u64) -> (terms::Palette, Vec<usize>) {
+    fn seed(&self, job: &Job, hints: &[usize], seed: u64) -> Seeded {
         let tiles = tiles_data(&job.tiles, hints);
         let samples = samples_data(job);
         let mut cycle = SampleCycle::new(samples.len(), seed);
         let b = base_iterations(samples.len());
         let palette = seed_palette(&tiles, &samples, &mut cycle, job.s, REPLACE_ALPHA, b, settings());
-        (colours_of(&palette), hints_of(&tiles))
+        Seeded {
+            palette: colours_of(&palette),
+            hints: hints_of(&tiles),
+            order: cycle.order.iter().map(|&i| i as u32).collect(),
+            state: cycle.prng.state(),
+        }
     }
 
     fn worst(&self, palette: &terms::Palette, tiles: &[Tile], hints: &mut [usize]) -> usize {

@@ -10,6 +10,7 @@ use super::{Kind, kind};
 use crate::damage;
 use crate::lent;
 use crate::ours;
+use crate::reading::fits::Present;
 use crate::table::{self, Given};
 use crate::tally::Tally;
 
@@ -17,20 +18,21 @@ pub const KINDS: &[Kind] = &[
     kind("single fit", 20_000, 200_000, single_fit),
     kind("public best_two", 20_000, 200_000, best_two),
     kind("assign", 20_000, 200_000, assign),
+    kind("fits", 500, 64_000, fits),
     kind("largest jobs", 12, 120, largest),
 ];
 
 /// A call as a stranger may make it. `out` is assign's.
 #[derive(Clone, Debug)]
-struct Call {
-    given: Given,
-    palette: Vec<f32>,
-    hints: Vec<u32>,
-    out: Vec<u32>,
+pub struct Call {
+    pub given: Given,
+    pub palette: Vec<f32>,
+    pub hints: Vec<u32>,
+    pub out: Vec<u32>,
 }
 
 impl Call {
-    fn new(rng: &mut Rng, palette: &Palette, tiles: &[Tile], weight: f32) -> Self {
+    pub fn new(rng: &mut Rng, palette: &Palette, tiles: &[Tile], weight: f32) -> Self {
         let (s, t) = (palette.len(), tiles.len());
         Call {
             given: Given::new(palette, tiles, weight),
@@ -73,6 +75,16 @@ impl Call {
     fn lent(&self) -> ours::Job {
         ours::Job::lent(&self.given)
     }
+
+    /// The fits of a call that is accepted, and those among them in which more than one subpalette has the least distance.
+    fn count_fits(&self, tally: &mut Tally) {
+        let colours = table::colours(&self.palette);
+        let (subs, have) = (self.given.s, self.given.c);
+        let present = Present { palette: &colours, room: have, subs, have, weight: self.given.weight };
+        let full: Vec<Tile> = self.given.tiles().into_iter().filter(|tile| !tile.counts.is_empty()).collect();
+        tally.add("fits", full.len() as u64);
+        tally.add("tied fits", full.iter().filter(|tile| present.tied(tile)).count() as u64);
+    }
 }
 
 fn one_tile(rng: &mut Rng) -> Call {
@@ -81,7 +93,11 @@ fn one_tile(rng: &mut Rng) -> Call {
 }
 
 fn single_fit(rng: &mut Rng, _: u64, tally: &mut Tally) {
-    let call = one_tile(rng);
+    fitted(&one_tile(rng), tally);
+}
+
+/// Gives the number by document 01's table.
+pub fn fitted(call: &Call, tally: &mut Tally) -> u32 {
     let mut number = call.number(call.given.t == 1, true);
     if number == 0 && call.given.counts.is_empty() {
         number = 15;
@@ -90,31 +106,52 @@ fn single_fit(rng: &mut Rng, _: u64, tally: &mut Tally) {
     if number == 0 {
         let fit = rust(call.given.weight).best_fit(&call.subs(), &call.given.tiles()[0], &[call.hints[0] as usize])[0];
         right = (0, (fit.index, fit.dist), vec![fit.hint as u32], true);
+        call.count_fits(tally);
     }
     let (job, palette, mut hints) = (call.lent(), lent::floats(&call.palette), lent::words(&call.hints));
     let (answer, index, dist) = ours::single_fit(&job, &palette, &mut hints);
     let kept = job.untouched() && palette.untouched() && hints.guarded();
+    tally.answered("single fit", number);
     tally.same((answer, (index, dist), hints.values().to_vec(), kept), right, || format!("{call:?}"));
+    number
 }
 
 fn best_two(rng: &mut Rng, _: u64, tally: &mut Tally) {
-    let call = one_tile(rng);
+    paired(&one_tile(rng), tally);
+}
+
+/// Gives the number by document 01's table.
+pub fn paired(call: &Call, tally: &mut Tally) -> u32 {
     let number = call.number(call.given.t == 1, true);
     let mut right = (number, (0, 0.0, 0.0), call.hints.clone(), true);
     if number == 0 {
         let fit = rust(call.given.weight).best_two(&call.subs(), &call.given.tiles()[0], &[call.hints[0] as usize])[0];
         right = (0, (fit.index, fit.dist, fit.second), vec![fit.hint as u32], true);
+        call.count_fits(tally);
     }
     let (job, palette, mut hints) = (call.lent(), lent::floats(&call.palette), lent::words(&call.hints));
     let (answer, index, dist, second) = ours::public_best_two(&job, &palette, &mut hints);
     let kept = job.untouched() && palette.untouched() && hints.guarded();
+    tally.answered("best_two", number);
     tally.same((answer, (index, dist, second), hints.values().to_vec(), kept), right, || format!("{call:?}"));
+    number
+}
+
+/// Every tile of a job by each of the three calls, each time from another hint.
+fn fits(rng: &mut Rng, _: u64, tally: &mut Tally) {
+    let job = Call::good(rng, 8);
+    let (palette, weight) = (job.subs(), job.given.weight);
+    for tile in job.given.tiles().iter().filter(|tile| !tile.counts.is_empty()) {
+        let alone = std::slice::from_ref(tile);
+        fitted(&Call::new(rng, &palette, alone, weight), tally);
+        paired(&Call::new(rng, &palette, alone, weight), tally);
+    }
+    assigned(&job, tally);
 }
 
 fn assign(rng: &mut Rng, _: u64, tally: &mut Tally) {
     let t = rng.among(1, 8);
-    let call = Call::good(rng, t).damaged(rng);
-    assigned(&call, tally);
+    assigned(&Call::good(rng, t).damaged(rng), tally);
 }
 
 /// At the limits of the sizes: 1,024 and 1,025 tiles, 16,384 and 16,385 tile colours.
@@ -135,7 +172,8 @@ fn largest(rng: &mut Rng, case: u64, tally: &mut Tally) {
     assigned(&Call::new(rng, &palette, &tiles, 2.15), tally);
 }
 
-fn assigned(call: &Call, tally: &mut Tally) {
+/// Gives the number by document 01's table.
+pub fn assigned(call: &Call, tally: &mut Tally) -> u32 {
     let number = call.number(true, call.out.len() == call.given.t);
     let mut right = (number, call.hints.clone(), call.out.clone(), true);
     if number == 0 {
@@ -143,10 +181,13 @@ fn assigned(call: &Call, tally: &mut Tally) {
         let subs = rust(call.given.weight).assign(&call.subs(), &call.given.tiles(), &mut hints);
         let narrow = |all: Vec<usize>| all.into_iter().map(|x| x as u32).collect();
         right = (0, narrow(hints), narrow(subs), true);
+        call.count_fits(tally);
     }
     let (job, palette) = (call.lent(), lent::floats(&call.palette));
     let (mut hints, mut out) = (lent::words(&call.hints), lent::words(&call.out));
     let answer = ours::assign(&job, &palette, &mut hints, &mut out);
     let kept = job.untouched() && palette.untouched() && hints.guarded() && out.guarded();
+    tally.answered("assign", number);
     tally.same((answer, hints.values().to_vec(), out.values().to_vec(), kept), right, || format!("{call:?}"));
+    number
 }

@@ -16,11 +16,11 @@ pub const KINDS: &[Kind] = &[kind("grouping", 20_000, 200_000, grouping)];
 
 /// A call of grouping as a stranger may make it.
 #[derive(Clone, Debug)]
-struct Call {
-    p: usize,
-    pixels: Vec<u8>,
-    oklab: Vec<f32>,
-    zero: Option<[u8; 3]>,
+pub struct Call {
+    pub p: usize,
+    pub pixels: Vec<u8>,
+    pub oklab: Vec<f32>,
+    pub zero: Option<[u8; 3]>,
     entry_bytes: Vec<u8>,
     entry_oklab: Vec<f32>,
     entry_counts: Vec<u32>,
@@ -30,6 +30,10 @@ struct Call {
 impl Call {
     fn good(rng: &mut Rng) -> Self {
         let p = rng.pick(&[0, 1, 2, 16, 63, 64, 64]);
+        Call::of(rng, p)
+    }
+
+    pub fn of(rng: &mut Rng, p: usize) -> Self {
         let most = rng.pick(&[1, 2, 255]);
         let bytes = |rng: &mut Rng| [0; 4].map(|_| rng.below(most + 1) as u8);
         let colours = Colours::any(rng, 2.0);
@@ -145,6 +149,11 @@ fn grouping(rng: &mut Rng, _: u64, tally: &mut Tally) {
     for _ in 0..rng.pick(&[0, 1, 1, 2]) {
         call.damage(rng);
     }
+    grouped(&call, tally);
+}
+
+/// Gives the number by document 01's table.
+pub fn grouped(call: &Call, tally: &mut Tally) -> u32 {
     let number = call.number();
     let (entries, after) = if number == 0 { call.grouped() } else { (0, call.clone()) };
 
@@ -162,7 +171,9 @@ fn grouping(rng: &mut Rng, _: u64, tally: &mut Tally) {
         guarded(&pixels, &oklab, &room),
     );
     let right = ((after.entry_bytes, after.entry_oklab), (after.entry_counts, after.index), true);
+    tally.answered("grouping", number);
     tally.same((answer, left), ((number, entries), right), || format!("{call:?}"));
+    number
 }
 
 /// What is only read is untouched, and so is all around what is written.

@@ -5,10 +5,10 @@ use answers::requests::flat;
 use answers::{probed, rust};
 use terms::jobs;
 use terms::rng::Rng;
-use terms::{Colour, Job, Ran, Tile};
+use terms::{Colour, Job, Ran};
 
 use super::{Kind, kind, whole};
-use crate::sheet::{self, Sheet};
+use crate::sheet;
 use crate::tally::Tally;
 
 pub const KINDS: &[Kind] = &[
@@ -81,13 +81,7 @@ fn steps(rng: &mut Rng, _: u64, tally: &mut Tally) {
 
 /// Document 01's example of a sheet, and what `fit` prints of it.
 fn example(_: &mut Rng, _: u64, tally: &mut Tally) {
-    let tile = |l: f32, count: u32| Tile { colours: vec![[l, 0.0, 0.0]], counts: vec![count] };
-    let sheet = Sheet {
-        weight: 1.0,
-        palette: vec![vec![[0.0; 3]], vec![[1.0, 0.0, 0.0]]],
-        tiles: vec![tile(0.25, 4), Tile::default(), tile(0.5, 2), tile(1.0, 1)],
-    };
-    let bytes = sheet::written(&sheet);
+    let bytes = sheet::written(&sheet::example());
     let begin = [0x54, 0x46, 0x49, 0x54, 0x11, 0x00, 0x0c, 0xfe];
     tally.same((bytes.len(), bytes[..8].to_vec()), (77, begin.to_vec()), || "the example's bytes".to_string());
     let lines = [

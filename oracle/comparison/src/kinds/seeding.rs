@@ -17,7 +17,7 @@ pub const KINDS: &[Kind] = &[
 ];
 
 /// The palette in a job's room; other numbers stand where none is present, to be left as they are.
-fn placed(rng: &mut Rng, palette: &Palette, c: usize, s: usize) -> Flat {
+pub fn placed(rng: &mut Rng, palette: &Palette, c: usize, s: usize) -> Flat {
     let mut flat = Flat::with_places(palette, c, s);
     let others = Colours::any(rng, 4.0);
     for number in flat.numbers.iter_mut().filter(|number| number.is_nan()) {
@@ -49,9 +49,9 @@ fn mean(rng: &mut Rng, _: u64, tally: &mut Tally) {
 
     let hints = jobs::hints(rng, job.tiles.len(), job.s);
     job.s = 1;
-    let (palette, left) = probed(job.weight).seed(&job, &hints, rng.bits());
-    after[..3].copy_from_slice(&palette[0][0]);
-    tally.same((flat.numbers, hints, lent.untouched()), (after, left, true), || format!("{job:?}"));
+    let seeded = probed(job.weight).seed(&job, &hints, rng.bits());
+    after[..3].copy_from_slice(&seeded.palette[0][0]);
+    tally.same((flat.numbers, hints, lent.untouched()), (after, seeded.hints, true), || format!("{job:?}"));
 }
 
 /// Makes the second half of the subpalettes the first one's mirror images, and has each tile's beside it somewhere: equal
@@ -94,7 +94,7 @@ fn choice(rng: &mut Rng, _: u64, tally: &mut Tally) {
     tally.same((ours, left, flat.numbers, lent.untouched()), (rusts, narrow(&hints), before, true), || shown);
 }
 
-/// After each round, beside the Rust's seeding of as many subpalettes.
+/// After each round, beside the Rust's seeding of as many subpalettes; the order of draws and the generator too.
 fn seeding(rng: &mut Rng, _: u64, tally: &mut Tally) {
     let mut job = jobs::job(rng, 300);
     let (s, c, n, seed) = (job.s, job.c, job.samples.len(), rng.bits());
@@ -102,7 +102,7 @@ fn seeding(rng: &mut Rng, _: u64, tally: &mut Tally) {
     let (lent, samples) = (lent(&job.tiles, job.weight, s, c), pairs(&job));
     let (mut cycle, mut left, mut split) = (Cycle::new(n, seed), narrow(&hints), 0);
     let mut flat = placed(rng, &vec![vec![[0.0; 3]]], c, s);
-    let mut after = flat.numbers.clone();
+    let mut after = flat.clone();
     ours::seed(&lent, &samples, &mut flat);
     for subs in 1..=s {
         if subs > 1 {
@@ -114,12 +114,12 @@ fn seeding(rng: &mut Rng, _: u64, tally: &mut Tally) {
             split = ours::worst(&lent, &flat, &mut left);
         }
         job.s = subs;
-        let (palette, rusts) = probed(job.weight).seed(&job, &hints, seed);
-        for (i, sub) in palette.iter().enumerate() {
-            after[3 * c * i..][..3].copy_from_slice(&sub[0]);
-        }
-        tally.same((flat.numbers.clone(), left.clone()), (after.clone(), narrow(&rusts)), || {
-            format!("seed {seed:x}, hints {hints:?}, {job:?}")
-        });
+        let seeded = probed(job.weight).seed(&job, &hints, seed);
+        after.put(&seeded.palette);
+        tally.same(
+            (flat.numbers.clone(), left.clone(), cycle.order.clone(), cycle.state),
+            (after.numbers.clone(), narrow(&seeded.hints), seeded.order, seeded.state),
+            || format!("seed {seed:x}, hints {hints:?}, {job:?}"),
+        );
     }
 }

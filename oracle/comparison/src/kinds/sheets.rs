@@ -1,13 +1,10 @@
-//! The fit sheet, against a reader, a writer and a fit that are written here: sheets of all sizes up to the limit, each bit of a
-//! small one changed, each cut of it, bytes after it, faults in pairs, and what is no number in each component's place.
-
-use std::io::Write;
-use std::process::{Command, Stdio};
+//! The fit sheet, against a reader and a writer that are written here: sheets of all sizes up to the limit, each bit of small ones
+//! changed, each cut of them, each byte added to them, faults in pairs, and what is no number in each component's place.
 
 use terms::jobs::{self, Colours};
 use terms::rng::Rng;
 
-use super::{Kind, kind};
+use super::{Kind, kind, whole};
 use crate::ours::{self, Job};
 use crate::sheet::{self, Sheet};
 use crate::table::Given;
@@ -16,20 +13,18 @@ use crate::{damage, lent, table};
 
 pub const KINDS: &[Kind] = &[
     kind("sheet reading", 10_000, 100_000, reading),
-    kind("sheet bits", 15, 150, bits),
+    whole("sheet example", 1, example),
+    kind("sheet bits", 5, 50, bits),
+    kind("sheets", 20, 1_000, sheets),
     kind("largest sheets", 30, 300, largest),
     kind("sheet writing", 10_000, 100_000, writing),
-    kind("program fit", 300, 3_000, program),
 ];
 
-/// Where the gate leaves the program, seen from the folder that the comparison runs in.
-const FIT: &str = "../target/bin/fit";
-
 /// The room that a reading needs: tile entries of two numbers, colours of three, counts, palette numbers.
-const ROOM: [usize; 4] = [2048, 15_420, 5140, 768];
+pub const ROOM: [usize; 4] = [2048, 15_420, 5140, 768];
 
 /// A sheet of a few tiles.
-fn small(rng: &mut Rng) -> Sheet {
+pub fn small(rng: &mut Rng) -> Sheet {
     let colours = Colours::any(rng, 2.0);
     let (s, c) = (rng.pick(&[1, 2, 3, 16]), rng.pick(&[1, 2, 16]));
     let t = rng.among(1, 5);
@@ -54,28 +49,84 @@ fn reading(rng: &mut Rng, _: u64, tally: &mut Tally) {
     read_into(&bytes, room, tally);
 }
 
-/// Every bit of one sheet changed, every cut of it, and bytes after it.
+/// A sheet of at most two subpalettes of two colours and three tiles, damaged.
 fn bits(rng: &mut Rng, _: u64, tally: &mut Tally) {
     let mut sheet = small(rng);
     sheet.palette.truncate(2);
     sheet.palette.iter_mut().for_each(|sub| sub.truncate(2));
     sheet.tiles.truncate(3);
     let bytes = sheet::written(&sheet);
-    for bit in 0..8 * bytes.len() {
-        let mut changed = bytes.clone();
+    damages(&bytes).chain(added(&bytes, bytes.len())).for_each(|damaged| compare(&damaged, tally));
+}
+
+/// Document 01's example, damaged, and with every byte put in at every place.
+fn example(_: &mut Rng, _: u64, tally: &mut Tally) {
+    let bytes = sheet::written(&sheet::example());
+    damages(&bytes).for_each(|damaged| compare(&damaged, tally));
+    (0..=bytes.len()).flat_map(|place| added(&bytes, place)).for_each(|damaged| compare(&damaged, tally));
+}
+
+/// Every bit of a sheet changed, and every cut of it.
+pub fn damages(bytes: &[u8]) -> impl Iterator<Item = Vec<u8>> {
+    let changed = |bit: usize| {
+        let mut changed = bytes.to_vec();
         changed[bit / 8] ^= 128 >> (bit % 8);
-        compare(&changed, tally);
+        changed
+    };
+    (0..8 * bytes.len()).map(changed).chain((0..=bytes.len()).map(|cut| bytes[..cut].to_vec()))
+}
+
+/// Every byte put in at a place.
+pub fn added(bytes: &[u8], place: usize) -> impl Iterator<Item = Vec<u8>> {
+    (0..=255).map(move |byte| [&bytes[..place], &[byte], &bytes[place..]].concat())
+}
+
+/// Of any size up to the limit: read, and written again.
+fn sheets(rng: &mut Rng, _: u64, tally: &mut Tally) {
+    let colours = Colours::any(rng, 2.0);
+    let (s, c, t) = (jobs::sixteen(rng), jobs::sixteen(rng), rng.among(1, 1024));
+    let mut sheet = Sheet {
+        weight: jobs::weight(rng),
+        palette: jobs::palette(rng, s, c, &colours, 2.0),
+        tiles: jobs::tiles(rng, t, &colours),
+    };
+    while sheet::written(&sheet).len() > sheet::MOST_BYTES {
+        sheet.tiles.truncate(sheet.tiles.len() * 3 / 4);
     }
-    for cut in 0..=bytes.len() {
-        compare(&bytes[..cut], tally);
-    }
-    for after in 1..4 {
-        compare(&[bytes.clone(), vec![rng.word() as u8 % 2; after]].concat(), tally);
-    }
+    let bytes = sheet::written(&sheet);
+    tally.add("sheets", 1);
+    tally.add("bytes of sheets", bytes.len() as u64);
+    compare(&bytes, tally);
+    written_again(&bytes, tally);
+}
+
+/// What our reader makes of a sheet, by our writer: the same bytes.
+fn written_again(bytes: &[u8], tally: &mut Tally) {
+    let found = Given::new(&vec![vec![[0.0; 3]]], &[], 1.0);
+    let room = Given { tiles: vec![0; ROOM[0]], colours: vec![0.0; ROOM[1]], counts: vec![0; ROOM[2]], ..found };
+    let (mut job, mut palette) = (Job::lent(&room), lent::floats(&vec![0.0; ROOM[3]]));
+    let number = ours::sheet_read(&lent::bytes(bytes), &mut job, &mut palette);
+    let tiles = &job.tiles.values()[..2 * job.t];
+    let colours = tiles.chunks(2).map(|entry| entry[1] as usize).sum::<usize>();
+    let given = Given {
+        s: job.s,
+        c: job.c,
+        t: job.t,
+        weight: job.weight,
+        tiles: tiles.to_vec(),
+        colours: job.colours.values()[..3 * colours].to_vec(),
+        counts: job.counts.values()[..colours].to_vec(),
+    };
+    let numbers = &palette.values()[..3 * job.s * job.c];
+    let mut dst = lent::bytes(&vec![0; bytes.len()]);
+    let wrote = ours::sheet_write(&Job::lent(&given), &lent::floats(numbers), &mut dst);
+    tally.same((number, wrote, dst.values().to_vec()), (0, (0, bytes.len()), bytes.to_vec()), || {
+        format!("{} bytes", bytes.len())
+    });
 }
 
 /// Near 65,536 bytes: a colour takes 102 bits, so that many are filled in that the sheet is just below, at or above.
-fn large(rng: &mut Rng, more: usize) -> Sheet {
+pub fn large(rng: &mut Rng, more: usize) -> Sheet {
     let colours = Colours::any(rng, 2.0);
     let t = rng.pick(&[81, 100, 1024]);
     let fit = (8 * sheet::MOST_BYTES - 182 - 7 * t) / 102;
@@ -97,28 +148,8 @@ fn largest(rng: &mut Rng, case: u64, tally: &mut Tally) {
     compare(&[bytes, vec![0; size]].concat()[..size], tally);
 }
 
-/// The program `fit` as a process: every line that it prints, for sheets whole and damaged, small and near the limit.
-fn program(rng: &mut Rng, case: u64, tally: &mut Tally) {
-    let mut bytes = sheet::written(&if rng.once_in(10) { large(rng, case as usize) } else { small(rng) });
-    for _ in 0..rng.pick(&[0, 0, 1, 2]) {
-        damage_bytes(rng, &mut bytes);
-    }
-    let ours = match printed(&bytes) {
-        Ok(lines) => lines,
-        Err(why) => format!("{FIT}: {why}").into_bytes(),
-    };
-    tally.same(ours, sheet::fitted(&bytes).into_bytes(), || format!("a sheet of {} bytes", bytes.len()));
-}
-
-fn printed(bytes: &[u8]) -> std::io::Result<Vec<u8>> {
-    let mut fit = Command::new(FIT).stdin(Stdio::piped()).stdout(Stdio::piped()).spawn()?;
-    // a program that has read enough may close its end first
-    let _ = fit.stdin.take().unwrap().write_all(bytes);
-    Ok(fit.wait_with_output()?.stdout)
-}
-
 /// A field of 32 bits or a byte replaced, a bit changed, a cut, bytes after.
-fn damage_bytes(rng: &mut Rng, bytes: &mut Vec<u8>) {
+pub fn damage_bytes(rng: &mut Rng, bytes: &mut Vec<u8>) {
     let end = 8 * bytes.len();
     match rng.below(8) {
         0 => bytes.truncate(rng.below(bytes.len() + 1)),
@@ -168,8 +199,8 @@ fn compare(bytes: &[u8], tally: &mut Tally) {
     read_into(bytes, ROOM, tally);
 }
 
-/// Reads into room of these sizes: what is filled, and what stays.
-fn read_into(bytes: &[u8], room: [usize; 4], tally: &mut Tally) {
+/// Reads into room of these sizes: what is filled, and what stays. Gives the number by the reading here.
+pub fn read_into(bytes: &[u8], room: [usize; 4], tally: &mut Tally) -> u32 {
     let found = Given {
         s: 77,
         c: 78,
@@ -193,17 +224,20 @@ fn read_into(bytes: &[u8], room: [usize; 4], tally: &mut Tally) {
         right_palette[..numbers.len()].copy_from_slice(&numbers);
     }
 
+    let right_number = read.err().unwrap_or(0);
     let (lent_bytes, mut job, mut palette) = (lent::bytes(bytes), Job::lent(&found), lent::floats(&found_palette));
     let number = ours::sheet_read(&lent_bytes, &mut job, &mut palette);
+    tally.answered("sheet reader", right_number);
     let kept = lent_bytes.untouched() && job.guarded() && palette.guarded();
     let sizes = (job.s, job.c, job.t, job.weight);
     let ours = (job.tiles.values().to_vec(), job.colours.values().to_vec(), job.counts.values().to_vec());
     let right_sizes = (right.s, right.c, right.t, right.weight);
     tally.same(
         (number, sizes, ours, palette.values().to_vec(), kept),
-        (read.err().unwrap_or(0), right_sizes, (right.tiles, right.colours, right.counts), right_palette, true),
+        (right_number, right_sizes, (right.tiles, right.colours, right.counts), right_palette, true),
         || format!("{bytes:02x?}"),
     );
+    right_number
 }
 
 /// A job with its palette, damaged or not, into bytes of any number.
@@ -214,31 +248,41 @@ fn writing(rng: &mut Rng, case: u64, tally: &mut Tally) {
     for _ in 0..rng.pick(&[0, 0, 1, 2]) {
         damage::damage(rng, &mut given, &mut numbers);
     }
-    let mut number = table::plain(&given, &numbers, true, true);
-    let mut bytes = Vec::new();
-    if number == 0 {
-        let sheet = Sheet { weight: given.weight, palette: table::subs(&given, &numbers), tiles: given.tiles() };
-        bytes = sheet::written(&sheet);
-        number = if bytes.len() > sheet::MOST_BYTES { 13 } else { 0 };
-    }
+    let size = sheet_of(&given, &numbers).map_or(0, |bytes| bytes.len());
     let room = match rng.below(4) {
-        0 => bytes.len().saturating_sub(1),
-        1 => bytes.len() + rng.below(40),
-        2 => bytes.len() / 2,
-        _ => bytes.len(),
+        0 => size.saturating_sub(1),
+        1 => size + rng.below(40),
+        2 => size / 2,
+        _ => size,
     };
-    if number == 0 && room < bytes.len() {
-        number = 3;
-    }
-    let mut right: Vec<u8> = (0..room).map(|_| rng.word() as u8).collect();
-    let mut dst = lent::bytes(&right);
-    let size = if number == 0 { bytes.len() } else { 0 };
-    right[..size].copy_from_slice(&bytes[..size]);
+    let found: Vec<u8> = (0..room).map(|_| rng.word() as u8).collect();
+    written_into(&given, &numbers, &found, tally);
+}
 
-    let (job, palette) = (Job::lent(&given), lent::floats(&numbers));
+/// The bytes of the sheet, or the number, whatever the room.
+fn sheet_of(given: &Given, numbers: &[f32]) -> Result<Vec<u8>, u32> {
+    match table::plain(given, numbers, true, true) {
+        0 => {}
+        number => return Err(number),
+    }
+    let (palette, tiles) = (table::subs(given, numbers), given.tiles());
+    let bytes = sheet::written(&Sheet { weight: given.weight, palette, tiles });
+    if bytes.len() > sheet::MOST_BYTES { Err(13) } else { Ok(bytes) }
+}
+
+/// Writes where these bytes are found: what is filled, and what stays. Gives the number by document 01's table.
+pub fn written_into(given: &Given, numbers: &[f32], found: &[u8], tally: &mut Tally) -> u32 {
+    let fits = |bytes: Vec<u8>| if bytes.len() <= found.len() { Ok(bytes) } else { Err(3) };
+    let written = sheet_of(given, numbers).and_then(fits);
+    let (number, bytes) = (written.as_ref().err().copied().unwrap_or(0), written.unwrap_or_default());
+    let right = [&bytes[..], &found[bytes.len()..]].concat();
+
+    let (job, palette, mut dst) = (Job::lent(given), lent::floats(numbers), lent::bytes(found));
     let answer = ours::sheet_write(&job, &palette, &mut dst);
     let kept = job.untouched() && palette.untouched() && dst.guarded();
-    tally.same((answer, dst.values().to_vec(), kept), ((number, size), right, true), || {
+    tally.answered("sheet writer", number);
+    tally.same((answer, dst.values().to_vec(), kept), ((number, bytes.len()), right, true), || {
         format!("{given:?} {numbers:?}")
     });
+    number
 }

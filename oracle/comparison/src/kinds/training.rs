@@ -5,6 +5,7 @@ use terms::jobs::{self, Colours};
 use terms::rng::Rng;
 use terms::{Held, Palette, Tile};
 
+use super::seeding::placed;
 use super::{Kind, kind};
 use crate::ours::{self, Flat, Job};
 use crate::table::Given;
@@ -38,7 +39,7 @@ impl Case {
         if rng.once_in(30) {
             tiles.fill(Tile::default());
         }
-        let flat = Flat::new(&palette, room);
+        let flat = placed(rng, &palette, room, s);
         Case { palette, tiles, weight: jobs::weight(rng), hints: jobs::hints(rng, t, s), flat }
     }
 
@@ -57,11 +58,12 @@ impl Case {
         tally: &mut Tally,
     ) {
         let shown = self.shown();
-        let (mut lent, mut hints) = (self.narrow_hints(), self.hints.clone());
+        let (mut lent, mut hints, mut right) = (self.narrow_hints(), self.hints.clone(), self.flat.clone());
         ours(&self.job(), &mut self.flat, &mut lent);
-        let after = Flat::new(&rusts(&self.palette, &self.tiles, &mut hints), self.flat.room);
+        let after = rusts(&self.palette, &self.tiles, &mut hints);
         let left: Vec<usize> = lent.into_iter().map(|hint| hint as usize).collect();
-        tally.same((self.flat.numbers, left), (after.numbers, hints), || shown);
+        right.put(&after);
+        tally.same((self.flat.numbers, left), (right.numbers, hints), || shown);
     }
 
     /// The job, as one of so many subpalettes of so many colours as there is room for.
@@ -93,7 +95,7 @@ fn mse(rng: &mut Rng, _: u64, tally: &mut Tally) {
 fn grow(rng: &mut Rng, _: u64, tally: &mut Tally) {
     let mut case = Case::any(rng);
     if case.flat.have == case.flat.room {
-        case.flat = Flat::new(&case.palette, case.flat.have + 1);
+        case.flat = placed(rng, &case.palette, case.flat.have + 1, case.palette.len());
     }
     if case.flat.room > 16 {
         return;

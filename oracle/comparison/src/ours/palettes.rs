@@ -127,6 +127,7 @@ pub fn tile_distance(sub: &[Colour], tile: &Tile, weight: f32) -> f32 {
 
 /// A palette in one flat slice, with room for `room` colours in each subpalette; where none is present stands a NaN, which
 /// nothing may read.
+#[derive(Clone)]
 pub struct Flat {
     pub numbers: Vec<f32>,
     pub room: usize,
@@ -142,11 +143,16 @@ impl Flat {
     /// With room for `places` subpalettes, those that are not there yet at the end.
     pub fn with_places(palette: &Palette, room: usize, places: usize) -> Self {
         let (subs, have) = (palette.len(), palette[0].len());
-        let mut numbers = vec![f32::NAN; 3 * places * room];
+        let mut flat = Flat { numbers: vec![f32::NAN; 3 * places * room], room, have, subs };
+        flat.put(palette);
+        flat
+    }
+
+    /// Puts a palette in its places; the others keep theirs.
+    pub fn put(&mut self, palette: &Palette) {
         for (i, sub) in palette.iter().enumerate() {
-            numbers[3 * i * room..3 * (i * room + sub.len())].copy_from_slice(sub.as_flattened());
+            self.numbers[3 * i * self.room..][..3 * sub.len()].copy_from_slice(sub.as_flattened());
         }
-        Flat { numbers, room, have, subs }
     }
 
     pub fn sub(&self, i: usize) -> &[Colour] {

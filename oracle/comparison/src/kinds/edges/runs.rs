@@ -1,0 +1,166 @@
+//! Edges of a run's job and of the memory lent to it, through start, advance, hand-in and result.
+
+use terms::{Job, Sample};
+
+use super::{around, colours_in_all, component, counted, job, listed, tiles, weights};
+use crate::call::{Ask, Call};
+use crate::ours;
+use crate::reading::record::{before, round};
+use crate::reading::run::outcome;
+use crate::tally::Tally;
+
+/// The stages in which start, advance, hand-in and result are tried.
+const MOMENTS: [u64; 4] = [0, 2, 3, 7];
+
+pub fn compare(tally: &mut Tally) {
+    of_jobs(tally);
+    of_samples(tally);
+    of_memory(tally);
+    of_lengths(tally);
+}
+
+/// A job's run at the first draw of a stage, or at a stop.
+pub fn standing(job: &Job, stage: u64) -> Call {
+    let mut call = Call::of(job);
+    let (n, places) = (call.n, call.memory.palette.len());
+    call.memory.order = (0..n as u32).rev().collect();
+    call.memory.palette = (0..places).map(|k| k as f32 / 1024.0).collect();
+    call.memory.least = vec![0.5; places];
+    let left = round(&call.given, n, stage).0;
+    let error = if stage == 2 { 1f32.to_bits().into() } else { 0 };
+    call.memory.record = vec![77, stage, 0, left, before(&call.given, n, stage), error];
+    call
+}
+
+/// What each of the four calls is given.
+pub fn asks(call: &Call) -> [Ask; 4] {
+    let colours = vec![0.25; call.memory.palette.len()];
+    [Ask::Start(9), Ask::Advance(3), Ask::HandIn(colours.clone()), Ask::Result(colours)]
+}
+
+/// The call and all lent memory, beside the reading, whose number is beside the one that is listed.
+pub fn ask(tally: &mut Tally, what: &str, call: &Call, ask: &Ask, number: u32) {
+    let right = outcome(call, ask);
+    tally.answered(ask.name(), right.number);
+    listed(tally, what, ask.name(), right.number, number);
+    tally.same(ours::answer(call, ask), right, || format!("{what}: {}", ask.name()));
+}
+
+/// The four calls, after an edit of the memory at their moment and of what they are given.
+fn each(tally: &mut Tally, what: &str, job: &Job, numbers: [u32; 4], edit: impl Fn(&mut Call, &mut Ask)) {
+    for ((k, stage), number) in MOMENTS.into_iter().enumerate().zip(numbers) {
+        let mut call = standing(job, stage);
+        let mut asked = asks(&call)[k].clone();
+        edit(&mut call, &mut asked);
+        ask(tally, what, &call, &asked, number);
+    }
+}
+
+fn of_jobs(tally: &mut Tally) {
+    let two = || tiles(2, 3);
+    let mut whole = |what: &str, job: Job, number: u32| each(tally, what, &job, [number; 4], |_, _| {});
+    for (n, number) in [(16_384, 0), (16_385, 2), (0, 1), (10, 0)] {
+        whole(&format!("{n} samples"), job(2, 2, two(), n), number);
+    }
+    for (size, number) in [(16, 0), (17, 2), (1, 0)] {
+        whole(&format!("S {size}"), job(size, 2, two(), 20), number);
+        whole(&format!("C {size}"), job(2, size, two(), 20), number);
+    }
+    for (t, number) in [(1024, 0), (1025, 2)] {
+        whole(&format!("T {t}"), job(2, 2, tiles(t, 1), 20), number);
+    }
+    for (n, number) in [(16_384, 0), (16_385, 5)] {
+        whole(&format!("{n} tile colours"), job(2, 2, colours_in_all(n), 20), number);
+    }
+    for (n, number) in [(64, 0), (65, 5)] {
+        whole(&format!("a tile of {n} colours"), job(2, 2, tiles(1, n), 20), number);
+    }
+    for (counts, number) in [([63, 1], 0), ([64, 1], 6), ([1, 64], 6), ([0, 1], 6), ([u32::MAX, 1], 6)] {
+        whole(&format!("counts {counts:?}"), job(2, 2, counted(counts), 20), number);
+    }
+    for (x, number) in around(2.0, 7) {
+        whole(&format!("component {x:?}"), job(2, 2, component(x), 20), number);
+    }
+    for (weight, number) in weights() {
+        whole(&format!("weight {weight:?}"), Job { weight, ..job(2, 2, two(), 20) }, number);
+    }
+    for n in [1, 9] {
+        // with nothing to draw there is no record in stage 2, where advance is tried
+        each(tally, &format!("{n} samples"), &job(2, 2, two(), n), [0, 10, 0, 0], |_, _| {});
+    }
+    for size in [0, 1 << 32, 1 << 63, usize::MAX] {
+        let good = job(2, 2, two(), 20);
+        each(tally, &format!("S {size}"), &good, [2; 4], |call, _| call.given.s = size);
+        each(tally, &format!("C {size}"), &good, [2; 4], |call, _| call.given.c = size);
+        each(tally, &format!("T {size}"), &good, [2; 4], |call, _| call.given.t = size);
+    }
+}
+
+/// Tile and place, the last that are there and the first that are not.
+fn of_samples(tally: &mut Tally) {
+    for (tile, place, number) in [(1, 2, 0), (2, 0, 8), (1, 3, 8), (0, 3, 8)] {
+        let mut job = job(2, 2, tiles(2, 3), 20);
+        job.samples[19] = Sample { tile, place };
+        each(tally, &format!("tile {tile} place {place}"), &job, [number; 4], |_, _| {});
+    }
+}
+
+fn of_memory(tally: &mut Tally) {
+    let good = job(2, 2, tiles(2, 3), 20);
+    for (x, number) in around(4.0, 7) {
+        let what = format!("working component {x:?}");
+        each(tally, &what, &good, [0, number, number, number], |call, _| call.memory.palette[11] = x);
+        // the second palette is looked at in stage 2 alone, where only advance is tried
+        let what = format!("component {x:?} of the second palette");
+        each(tally, &what, &good, [0, number, 0, 0], |call, _| call.memory.least[0] = x);
+    }
+    for (x, number) in around(2.0, 7) {
+        let what = format!("handed-in component {x:?}");
+        each(tally, &what, &good, [0, 0, number, 0], |_, ask| {
+            if let Ask::HandIn(colours) = ask {
+                colours[11] = x;
+            }
+        });
+    }
+    for (entry, number) in [(19, 0), (20, 9), (u32::MAX, 9)] {
+        let what = format!("order entry {entry}");
+        each(tally, &what, &good, [0, number, number, number], |call, _| call.memory.order[19] = entry);
+    }
+    for stage in [3, 5, 6, 7] {
+        let what = format!("advance in stage {stage}");
+        ask(tally, &what, &standing(&good, stage), &Ask::Advance(1), 11);
+    }
+    for stage in [0, 1, 2, 4, 7] {
+        let call = standing(&good, stage);
+        let [_, _, hand_in, result] = asks(&call);
+        ask(tally, &format!("hand-in in stage {stage}"), &call, &hand_in, 11);
+        ask(tally, &format!("result in stage {stage}"), &call, &result, if stage == 7 { 0 } else { 11 });
+    }
+}
+
+/// Each lent slice with one item more and one less.
+fn of_lengths(tally: &mut Tally) {
+    fn other<T: Copy + Default>(items: &mut Vec<T>, more: bool) {
+        items.resize(if more { items.len() + 1 } else { items.len() - 1 }, T::default());
+    }
+    let good = job(2, 2, tiles(2, 3), 20);
+    for more in [false, true] {
+        let mut wrong = |what: &str, edit: &dyn Fn(&mut Call)| {
+            each(tally, what, &good, [3; 4], |call, _| edit(call));
+        };
+        wrong("length of the tile table", &|call| other(&mut call.given.tiles, more));
+        wrong("length of the colours", &|call| other(&mut call.given.colours, more));
+        wrong("length of the counts", &|call| other(&mut call.given.counts, more));
+        wrong("length of the samples", &|call| other(&mut call.samples, more));
+        wrong("length of the order", &|call| other(&mut call.memory.order, more));
+        wrong("length of the hints", &|call| other(&mut call.memory.hints, more));
+        wrong("length of the palette", &|call| other(&mut call.memory.palette, more));
+        wrong("length of the second palette", &|call| other(&mut call.memory.least, more));
+        wrong("length of the record", &|call| other(&mut call.memory.record, more));
+        each(tally, "length of what is handed in, or of the room", &good, [0, 0, 3, 3], |_, ask| {
+            if let Some(colours) = ask.colours_mut() {
+                other(colours, more);
+            }
+        });
+    }
+}
