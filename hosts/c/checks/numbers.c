@@ -164,6 +164,7 @@ static void run_through(Lent *m) {
     EACH("advance", advance, m, of_memory);
     expect("hand_in while drawing: 11", hand_in, m, DUNKAFETO_MOMENT);
     expect("result while drawing: 11", result, m, DUNKAFETO_MOMENT);
+    report("advance reports the draws that it makes", dunkafeto_draws(advance(m)) == 3 && m->words[DUNKAFETO_MADE] == 3);
     while (dunkafeto_draws_in(m->words[DUNKAFETO_STAGE]))
         advance(m);
     memcpy(m->other, m->palette, sizeof m->other);
