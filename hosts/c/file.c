@@ -7,6 +7,7 @@
 #include <stdio.h>
 #include <stdlib.h>
 #include <string.h>
+#include <sys/stat.h>
 #include <unistd.h>
 
 /* Reads until the end or until the room is full. */
@@ -89,9 +90,25 @@ static int sync_folder(const char *name) {
     return close_after(fd, fsync(fd) == 0);
 }
 
+/* A pipe or a device must not give way to a file. */
+static int is_special(const char *name) {
+    struct stat found;
+    return stat(name, &found) == 0 && !S_ISREG(found.st_mode);
+}
+
+static int write_into(const char *name, const unsigned char *bytes, size_t len) {
+    int fd = open(name, O_WRONLY);
+    if (fd < 0)
+        return 0;
+    return close_after(fd, write_all(fd, bytes, len));
+}
+
 int file_replace(const char *name, const unsigned char *bytes, size_t len) {
-    char *fresh = new_name(name);
+    char *fresh;
     int good;
+    if (is_special(name))
+        return write_into(name, bytes, len);
+    fresh = new_name(name);
     if (fresh == NULL)
         return 0;
     good = write_new(fresh, bytes, len) && rename(fresh, name) == 0 && sync_folder(name);

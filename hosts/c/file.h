@@ -9,7 +9,7 @@
 /* Reads up to `room` bytes of a file, or of standard input where the name is NULL; what is left of it is not read. */
 int file_read(const char *name, unsigned char *bytes, size_t room, size_t *len);
 
-/* Puts the bytes in the place of the file, by way of a new file beside it. */
+/* Puts the bytes in the place of the file, by way of a new file beside it; a pipe or a device is written to as it is. */
 int file_replace(const char *name, const unsigned char *bytes, size_t len);
 
 /* Removes the file and what a kill left of a new one beside it. That neither is there is no fault. */
