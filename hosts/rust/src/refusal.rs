@@ -13,7 +13,7 @@ use std::fmt;
 ///
 /// assert_eq!(Refusal::Moment.number(), 11);
 /// assert_eq!(Refusal::from_number(11), Some(Refusal::Moment));
-/// assert_eq!(Refusal::Moment.to_string(), "the call does not belong to this moment of the run (11)");
+/// assert_eq!(Refusal::Moment.to_string(), "refused 11: the call does not belong to this moment of the run");
 /// ```
 #[derive(Clone, Copy, Debug, PartialEq, Eq, Hash)]
 pub enum Refusal {
@@ -103,7 +103,7 @@ fn place(known: Refusal) -> u8 {
 
 impl fmt::Display for Refusal {
     fn fmt(&self, f: &mut fmt::Formatter<'_>) -> fmt::Result {
-        write!(f, "{} ({})", self.message(), self.number())
+        write!(f, "refused {}: {}", self.number(), self.message())
     }
 }
 

@@ -110,13 +110,20 @@ fn statuses() {
     assert_eq!(status(&["in", "-o", "out"]), Some(0));
     assert_eq!(status(&["cut"]), Some(1));
     assert_eq!(status(&["empty"]), Some(1));
-    for wrong in [&["--nothing", "1"][..], &["--every", "0"], &["--seed", "-1"], &["-o"], &["in", "in"]] {
+    for wrong in [
+        &["--nothing", "1"][..],
+        &["--every", "0"],
+        &["--seed", "-1"],
+        &["-o"],
+        &["in", "in"],
+        &["in", "-o", "x", "--state", "x"],
+    ] {
         assert_eq!(status(wrong), Some(2), "{wrong:?}");
     }
     assert_eq!(status(&["absent"]), Some(4));
     assert_eq!(status(&["in", "-o", "absent/out"]), Some(4));
-    assert!(String::from_utf8_lossy(&room.run(&["cut"]).stderr).contains("(13)"));
-    assert!(String::from_utf8_lossy(&room.run(&["empty"]).stderr).contains("(1)"));
+    assert!(String::from_utf8_lossy(&room.run(&["cut"]).stderr).contains("refused 13:"));
+    assert!(String::from_utf8_lossy(&room.run(&["empty"]).stderr).contains("refused 1:"));
 }
 
 #[test]

@@ -91,6 +91,9 @@ fn options(words: Vec<OsString>) -> Result<Options, Failure> {
     if sheets > 1 {
         return Err(wrong("the sheets", "one at a time"));
     }
+    if options.out.is_some() && options.out == options.state {
+        return Err(wrong("sheet and state", "a file each"));
+    }
     if options.every == 0 {
         return Err(wrong("--every", "not a number from 1 on"));
     }
