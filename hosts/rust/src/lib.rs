@@ -37,6 +37,11 @@ mod saved;
 mod sheet;
 mod trainer;
 
+/// The example of docs/HOSTS.md is run with the tests.
+#[cfg(doctest)]
+#[doc = include_str!("../../../docs/HOSTS.md")]
+struct HostsDocument;
+
 pub use job::{Colour, Job, Sample, Tile, Tiles, MOST_COLOURS, MOST_SAMPLES, MOST_SUBPALETTES, MOST_TILES};
 pub use refusal::Refusal;
 pub use saved::RestoreError;

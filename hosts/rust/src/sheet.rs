@@ -157,7 +157,7 @@ struct Writer {
 impl Writer {
     fn field(&mut self, width: usize, value: u32) {
         for place in (0..width).rev() {
-            if self.used.is_multiple_of(8) {
+            if self.used % 8 == 0 {
                 self.bytes.push(0);
             }
             *self.bytes.last_mut().unwrap() |= ((value >> place & 1) as u8) << (7 - self.used % 8);

@@ -70,7 +70,11 @@ fn killed_at_any_moment_it_ends_the_same() {
     for kills in 0.. {
         let mut host = room.command(&words).stderr(Stdio::piped()).spawn().unwrap();
         if kills < 8 {
-            std::thread::sleep(Duration::from_millis(rng.among(1, 60) as u64));
+            // half of them die at any moment, half once there is something to take up
+            while kills % 2 == 0 && !room.file("state").exists() && host.try_wait().unwrap().is_none() {
+                std::thread::sleep(Duration::from_millis(1));
+            }
+            std::thread::sleep(Duration::from_millis(rng.below(20) as u64));
             host.kill().unwrap();
         }
         let said = host.wait_with_output().unwrap();

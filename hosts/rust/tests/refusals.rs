@@ -2,7 +2,7 @@
 
 mod common;
 
-use common::{reduced, to_stop, Case, Rng};
+use common::{above, reduced, to_stop, Case, Rng};
 use dunkafeto::{assign, Job, Memory, Refusal, Sample, Sheet, Tile, Tiles, Trainer};
 
 const GREY: [f32; 3] = [0.5, 0.0, 0.0];
@@ -79,7 +79,7 @@ fn number_3_lengths() {
 
 #[test]
 fn number_4_weight() {
-    for wrong in [0.0, -0.0, -1.0, 16.0f32.next_up(), f32::INFINITY, f32::NAN] {
+    for wrong in [0.0, -0.0, -1.0, above(16.0), f32::INFINITY, f32::NAN] {
         assert_eq!(start_of(|job| job.weight = wrong), Err(Refusal::Weight), "{wrong}");
     }
     for right in [f32::from_bits(1), 2.15, 16.0] {
@@ -108,7 +108,7 @@ fn number_6_counts() {
 
 #[test]
 fn number_7_components() {
-    for wrong in [2.0f32.next_up(), -3.0, f32::INFINITY, f32::NAN] {
+    for wrong in [above(2.0), -3.0, f32::INFINITY, f32::NAN] {
         let colours = [[0.5, wrong, 0.0], GREY];
         assert_eq!(start_of(|job| job.colours = &colours), Err(Refusal::Components), "{wrong}");
         let tiles = tiles(&[&[1]]);
@@ -119,7 +119,7 @@ fn number_7_components() {
     let mut trainer = Trainer::start(case.job()).unwrap();
     to_stop(&mut trainer);
     let (before, mut colours) = (trainer.memory().clone(), reduced(&trainer));
-    colours[0][2] = -2.0f32.next_up();
+    colours[0][2] = -above(2.0);
     assert_eq!(trainer.hand_in(&colours), Err(Refusal::Components));
     assert_eq!(trainer.memory(), &before);
     colours[0][2] = -2.0;
@@ -159,7 +159,7 @@ fn a_stranger_s_memory_is_checked_by_the_library() {
     assert_eq!(resumed(|memory| memory.order[39] = 40), Err(Refusal::Order));
     assert_eq!(resumed(|memory| memory.order[0] = u32::MAX), Err(Refusal::Order));
     assert_eq!(resumed(|memory| memory.palette[0][0] = 4.0), Ok(()));
-    assert_eq!(resumed(|memory| memory.palette[0][0] = 4.0f32.next_up()), Err(Refusal::Components));
+    assert_eq!(resumed(|memory| memory.palette[0][0] = above(4.0)), Err(Refusal::Components));
     assert_eq!(resumed(|memory| memory.least[0][1] = f32::NAN), Err(Refusal::Components));
     assert_eq!(resumed(|memory| memory.order.truncate(39)), Err(Refusal::Lengths));
     assert_eq!(resumed(|memory| memory.hints.truncate(1)), Err(Refusal::Lengths));

@@ -55,10 +55,11 @@ fn make(seed: &str, count: &str, folder: &Path) -> Result<(), String> {
     Ok(())
 }
 
-/// Small sheets with ties, empty tiles and extremes of S and C; each tenth is large, and some have too few or too many samples.
+/// Small sheets with ties, empty tiles and extremes of S and C. Each tenth is large, each fortieth as large as can be; some have
+/// too few or too many samples.
 fn any_sheet(rng: &mut Rng, case: u64) -> Sheet {
     let colours = Colours::any(rng, 2.0);
-    let (s, c) = (jobs::sixteen(rng), jobs::sixteen(rng));
+    let (s, c) = if case % 40 == 39 { (16, 16) } else { (jobs::sixteen(rng), jobs::sixteen(rng)) };
     let palette = jobs::palette(rng, s, c, &colours, 2.0);
     let tiles = match case % 40 {
         9 | 29 => rng.among(100, 400),

@@ -29,6 +29,11 @@ impl Rng {
     }
 }
 
+/// The next float above a positive one.
+pub fn above(x: f32) -> f32 {
+    f32::from_bits(x.to_bits() + 1)
+}
+
 /// What a job borrows.
 pub struct Case {
     pub subpalettes: usize,
