@@ -55,8 +55,8 @@ fn make(seed: &str, count: &str, folder: &Path) -> Result<(), String> {
     Ok(())
 }
 
-/// Small sheets with ties, empty tiles and extremes of S and C. Each tenth is large, each fortieth as large as can be; some have
-/// too few or too many samples.
+/// Small sheets with ties, empty tiles and extremes of S and C. Each tenth is large, each fortieth as large as can be; two in
+/// forty have no samples, or as many as can be and some more.
 fn any_sheet(rng: &mut Rng, case: u64) -> Sheet {
     let colours = Colours::any(rng, 2.0);
     let (s, c) = if case % 40 == 39 { (16, 16) } else { (jobs::sixteen(rng), jobs::sixteen(rng)) };
@@ -69,20 +69,21 @@ fn any_sheet(rng: &mut Rng, case: u64) -> Sheet {
     let tiles = match case % 40 {
         7 => vec![Tile::default(); tiles],
         17 => vec![Tile { colours: vec![colours.one(rng, 2.0)], counts: vec![64] }; rng.among(256, 258)],
-        _ => jobs::tiles(rng, tiles, &colours),
+        _ => fitting(s * c, jobs::tiles(rng, tiles, &colours)),
     };
-    Sheet { weight: jobs::weight(rng), tiles: fitting(palette.len() * palette[0].len(), tiles), palette }
+    Sheet { weight: jobs::weight(rng), palette, tiles }
 }
 
-/// The tiles, with those empty that a sheet has no room for.
+/// The tiles, with those empty that a sheet has no room for or whose samples would be too many.
 fn fitting(colours: usize, mut tiles: Vec<Tile>) -> Vec<Tile> {
-    let mut spare = 8 * sheet::MOST_BYTES - (86 + 96 * colours + 7 * tiles.len());
+    let (mut bits, mut samples) = (8 * sheet::MOST_BYTES - (86 + 96 * colours + 7 * tiles.len()), MOST_SAMPLES);
     for tile in &mut tiles {
-        let bits = 102 * tile.counts.len();
-        if bits > spare {
+        let (wide, many) = (102 * tile.counts.len(), tile.counts.iter().sum::<u32>() as usize);
+        if wide > bits || many > samples {
             *tile = Tile::default();
+            continue;
         }
-        spare -= 102 * tile.counts.len();
+        (bits, samples) = (bits - wide, samples - many);
     }
     tiles
 }
