@@ -55,11 +55,12 @@ fn make(seed: &str, count: &str, folder: &Path) -> Result<(), String> {
     Ok(())
 }
 
-/// Small sheets with ties, empty tiles and extremes of S and C. Each tenth is large, each fortieth as large as can be; two in
+/// Small sheets with ties, empty tiles and extremes of S and C. Each tenth is large, each fortieth as large as can be and like artwork; two in
 /// forty have no samples, or as many as can be and some more.
 fn any_sheet(rng: &mut Rng, case: u64) -> Sheet {
-    let colours = Colours::any(rng, 2.0);
-    let (s, c) = if case % 40 == 39 { (16, 16) } else { (jobs::sixteen(rng), jobs::sixteen(rng)) };
+    let full = case % 40 == 39;
+    let colours = if full { Colours::Artwork } else { Colours::any(rng, 2.0) };
+    let (s, c) = if full { (16, 16) } else { (jobs::sixteen(rng), jobs::sixteen(rng)) };
     let palette = jobs::palette(rng, s, c, &colours, 2.0);
     let tiles = match case % 40 {
         9 | 29 => rng.among(100, 400),
@@ -71,7 +72,8 @@ fn any_sheet(rng: &mut Rng, case: u64) -> Sheet {
         17 => vec![Tile { colours: vec![colours.one(rng, 2.0)], counts: vec![64] }; rng.among(256, 258)],
         _ => fitting(s * c, jobs::tiles(rng, tiles, &colours)),
     };
-    Sheet { weight: jobs::weight(rng), palette, tiles }
+    let weight = if full { 2.15 } else { jobs::weight(rng) };
+    Sheet { weight, palette, tiles }
 }
 
 /// The tiles, with those empty that a sheet has no room for or whose samples would be too many.
