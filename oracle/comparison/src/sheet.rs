@@ -1,6 +1,6 @@
-//! The fit sheet of document 01, read, written and fitted independently of our definitions.
+//! The fit sheet of document 01, read and written independently of our definitions.
 
-use std::fmt::Write;
+pub mod fitted;
 
 use terms::{Palette, Tile};
 
@@ -117,33 +117,6 @@ pub fn written(sheet: &Sheet) -> Vec<u8> {
     }
     bits.resize(bits.len().next_multiple_of(8), false);
     bits.chunks(8).map(|byte| byte.iter().fold(0, |value, &bit| value << 1 | u8::from(bit))).collect()
-}
-
-/// What the program `fit` prints.
-pub fn fitted(bytes: &[u8]) -> String {
-    let sheet = match read(bytes) {
-        Ok(sheet) => sheet,
-        Err(number) => return format!("refused {number}\n"),
-    };
-    let rust = answers::rust(sheet.weight);
-    let s = sheet.palette.len();
-    let mut text = format!("tiles {} subpalettes {s}\n", sheet.tiles.len());
-    let mut load = vec![0; s];
-    for (i, tile) in sheet.tiles.iter().enumerate() {
-        let empty = tile.counts.is_empty();
-        let (sub, dist) = if empty {
-            (0, 0.0)
-        } else {
-            let fit = rust.best_fit(&sheet.palette, tile, &[0])[0];
-            (fit.index, fit.dist)
-        };
-        load[sub] += 1;
-        writeln!(text, "tile {i} sub {sub} dist {:08x}", f32::to_bits(dist)).unwrap();
-    }
-    for (i, tiles) in load.iter().enumerate() {
-        writeln!(text, "load {i} {tiles}").unwrap();
-    }
-    text
 }
 
 /// Document 01's example.

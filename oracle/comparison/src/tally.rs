@@ -19,15 +19,15 @@ pub struct Tally {
 }
 
 impl Tally {
-    /// One answer of ours beside the Rust's.
-    pub fn same<T: Same + std::fmt::Debug>(&mut self, ours: T, rusts: T, asked: impl FnOnce() -> String) {
+    /// One answer of ours beside the right one.
+    pub fn same<T: Same + std::fmt::Debug>(&mut self, ours: T, right: T, asked: impl FnOnce() -> String) {
         self.compared += 1;
-        if ours.same(&rusts) {
+        if ours.same(&right) {
             return;
         }
         self.differ += 1;
         if self.first.is_none() {
-            self.first = Some((self.case, format!("{}: ours {ours:x?}, the Rust's {rusts:x?}", asked())));
+            self.first = Some((self.case, format!("{}: ours {ours:x?}, right {right:x?}", asked())));
         }
     }
 

@@ -94,6 +94,6 @@ fn example(_: &mut Rng, _: u64, tally: &mut Tally) {
         "load 1 1",
         "",
     ];
-    let fitted = sheet::fitted(&bytes).into_bytes();
+    let fitted = sheet::fitted::fitted(&bytes).into_bytes();
     tally.same(fitted, lines.join("\n").into_bytes(), || "the example's lines".to_string());
 }

@@ -6,7 +6,7 @@ use std::process::{Command, Stdio};
 use terms::rng::Rng;
 
 use super::{Kind, kind, sheets, whole};
-use crate::sheet;
+use crate::sheet::{self, fitted::fitted};
 use crate::tally::Tally;
 
 pub const KINDS: &[Kind] = &[kind("program fit", 300, 3_000, fit), whole("program fit, example", 1, fit_example)];
@@ -14,25 +14,33 @@ pub const KINDS: &[Kind] = &[kind("program fit", 300, 3_000, fit), whole("progra
 /// Where the gate leaves the programs, seen from the folder that the comparison runs in.
 const FIT: &str = "../target/bin/fit";
 
-fn fit(rng: &mut Rng, case: u64, tally: &mut Tally) {
-    let mut bytes =
-        sheet::written(&if rng.once_in(10) { sheets::large(rng, case as usize) } else { sheets::small(rng) });
+/// A sheet, small or near the limit, damaged or not.
+fn any(rng: &mut Rng, case: u64) -> Vec<u8> {
+    let sheet = if rng.once_in(10) { sheets::large(rng, case as usize) } else { sheets::small(rng) };
+    let mut bytes = sheet::written(&sheet);
     for _ in 0..rng.pick(&[0, 0, 1, 2]) {
         sheets::damage_bytes(rng, &mut bytes);
     }
-    fitted(&bytes, tally);
+    bytes
 }
 
 /// Document 01's example with every bit changed, every cut of it, every byte after it.
-fn fit_example(_: &mut Rng, _: u64, tally: &mut Tally) {
+fn examples() -> Vec<Vec<u8>> {
     let bytes = sheet::written(&sheet::example());
-    let all = sheets::damages(&bytes).chain(sheets::added(&bytes, bytes.len()));
-    all.for_each(|damaged| fitted(&damaged, tally));
+    sheets::damages(&bytes).chain(sheets::added(&bytes, bytes.len())).collect()
 }
 
-fn fitted(bytes: &[u8], tally: &mut Tally) {
+fn fit(rng: &mut Rng, case: u64, tally: &mut Tally) {
+    fits(&any(rng, case), tally);
+}
+
+fn fit_example(_: &mut Rng, _: u64, tally: &mut Tally) {
+    examples().iter().for_each(|bytes| fits(bytes, tally));
+}
+
+fn fits(bytes: &[u8], tally: &mut Tally) {
     tally.answered("program fit", sheet::read(bytes).err().unwrap_or(0));
-    same(FIT, bytes, sheet::fitted(bytes).into_bytes(), tally);
+    same(FIT, bytes, fitted(bytes).into_bytes(), tally);
 }
 
 /// What a program writes for these bytes, beside what is right.

@@ -16,7 +16,7 @@ use crate::{ours, saved};
 
 pub const KINDS: &[Kind] = &[
     kind("run calls", 3_000, 40_000, calls),
-    kind("whole runs", 300, 12_000, whole),
+    kind("whole runs", 300, 17_000, whole),
     kind("largest run", 1, 20, largest),
 ];
 

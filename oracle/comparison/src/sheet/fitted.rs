@@ -1,0 +1,35 @@
+//! What the program `fit` prints for a sheet, by the reading here and the Rust's fits.
+
+use std::fmt::Write;
+
+use super::read;
+
+pub fn fitted(bytes: &[u8]) -> String {
+    let sheet = match read(bytes) {
+        Ok(sheet) => sheet,
+        Err(number) => return refused(number),
+    };
+    let rust = answers::rust(sheet.weight);
+    let s = sheet.palette.len();
+    let mut text = format!("tiles {} subpalettes {s}\n", sheet.tiles.len());
+    let mut load = vec![0; s];
+    for (i, tile) in sheet.tiles.iter().enumerate() {
+        let empty = tile.counts.is_empty();
+        let (sub, dist) = if empty {
+            (0, 0.0)
+        } else {
+            let fit = rust.best_fit(&sheet.palette, tile, &[0])[0];
+            (fit.index, fit.dist)
+        };
+        load[sub] += 1;
+        writeln!(text, "tile {i} sub {sub} dist {:08x}", f32::to_bits(dist)).unwrap();
+    }
+    for (i, tiles) in load.iter().enumerate() {
+        writeln!(text, "load {i} {tiles}").unwrap();
+    }
+    text
+}
+
+pub fn refused(number: u32) -> String {
+    format!("refused {number}\n")
+}
