@@ -45,7 +45,7 @@ struct HostsDocument;
 pub use job::{Colour, Job, Sample, Tile, Tiles, MOST_COLOURS, MOST_SAMPLES, MOST_SUBPALETTES, MOST_TILES};
 pub use refusal::Refusal;
 pub use saved::RestoreError;
-pub use sheet::Sheet;
+pub use sheet::{Sheet, MOST_BYTES};
 pub use trainer::{Advanced, Memory, Moment, Stage, Trainer};
 
 /// For each tile the subpalette that fits it best, the lowest of equals; 0 for an empty tile.

@@ -101,6 +101,18 @@ fn standard_input_and_output() {
 }
 
 #[test]
+fn a_pipe_is_written_to_and_stays() {
+    let room = Room::new("pipe");
+    let sheet = sheet(4, 2, 3);
+    fs::write(room.file("in"), sheet.write().unwrap()).unwrap();
+    assert!(Command::new("mkfifo").arg(room.file("pipe")).status().unwrap().success());
+    let mut host = room.command(&["in", "-o", "pipe"]).stderr(Stdio::null()).spawn().unwrap();
+    assert!(fs::read(room.file("pipe")).unwrap() == trained(sheet, 0));
+    assert!(host.wait().unwrap().success());
+    assert!(!fs::metadata(room.file("pipe")).unwrap().is_file());
+}
+
+#[test]
 fn statuses() {
     let room = Room::new("statuses");
     let status = |words: &[&str]| room.run(words).status.code();
@@ -112,6 +124,7 @@ fn statuses() {
     fs::write(room.file("empty"), Sheet { tiles: empty, ..sheet }.write().unwrap()).unwrap();
 
     assert_eq!(status(&["in", "-o", "out"]), Some(0));
+    assert_eq!(status(&["/dev/zero", "-o", "out"]), Some(1));
     assert_eq!(status(&["cut"]), Some(1));
     assert_eq!(status(&["empty"]), Some(1));
     for wrong in [

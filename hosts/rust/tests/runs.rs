@@ -202,6 +202,7 @@ fn the_largest_job() {
             }
             calls += 1;
         }
+        assert_eq!(trainer.save(0).len(), 75_848);
         (trainer.draws_made(), calls)
     };
     std::thread::scope(|scope| {

@@ -2,13 +2,13 @@
 //! It may be killed at any moment and taken up again from its state file, with the same result.
 
 use std::ffi::OsString;
-use std::fmt::Display;
+use std::fmt::{Arguments, Display};
 use std::fs::{self, File};
 use std::io::{self, stderr, stdin, stdout, ErrorKind, IsTerminal, Read, Write};
 use std::path::{Path, PathBuf};
 use std::process::ExitCode;
 
-use dunkafeto::{checksum, console, Job, Moment, Sheet, Trainer};
+use dunkafeto::{checksum, console, Job, Moment, Sheet, Trainer, MOST_BYTES};
 
 const USE: &str = "usage: host [-o FILE] [--state FILE] [--every N] [--seed N] [SHEET]
 Trains the palette of a fit sheet for a console of 15-bit colours and writes the trained sheet.
@@ -19,6 +19,9 @@ Trains the palette of a fit sheet for a console of 15-bit colours and writes the
   --every N     save after every N draws, 1 or more (1000)
   --seed N      the seed of the draws, 0 to 18446744073709551615 (0)
 Status: 0 done, 1 sheet or job refused, 2 wrong use, 3 state file refused, 4 a file cannot be read or written.";
+
+/// Bytes of the state of the largest job.
+const MOST_STATE: u64 = 75_848;
 
 const REFUSED: u8 = 1;
 const WRONG_USE: u8 = 2;
@@ -58,14 +61,22 @@ fn main() -> ExitCode {
     match options(words).and_then(|options| work(&options)) {
         Ok(()) => ExitCode::SUCCESS,
         Err(Failure(status, why)) => {
-            eprintln!("host: {why}");
+            say(format_args!("host: {why}\n"));
             ExitCode::from(status)
         }
     }
 }
 
+/// That nobody listens is no reason to end.
+fn say(text: Arguments) {
+    let _ = stderr().write_fmt(text);
+}
+
+fn wrong(what: &str, why: &str) -> Failure {
+    Failure(WRONG_USE, format!("{what}: {why}\n{USE}"))
+}
+
 fn options(words: Vec<OsString>) -> Result<Options, Failure> {
-    let wrong = |what: &str, why: &str| Failure(WRONG_USE, format!("{what}: {why}\n{USE}"));
     let mut options = Options { sheet: None, out: None, state: None, every: 1000, seed: 0 };
     let mut sheets = 0;
     let mut words = words.into_iter();
@@ -91,6 +102,10 @@ fn options(words: Vec<OsString>) -> Result<Options, Failure> {
     if sheets > 1 {
         return Err(wrong("the sheets", "one at a time"));
     }
+    go_together(&options).map(|()| options)
+}
+
+fn go_together(options: &Options) -> Result<(), Failure> {
     if options.out.is_some() && options.out == options.state {
         return Err(wrong("sheet and state", "a file each"));
     }
@@ -100,7 +115,7 @@ fn options(words: Vec<OsString>) -> Result<Options, Failure> {
     if options.out.is_none() && stdout().is_terminal() {
         return Err(wrong("a sheet is no text for a terminal", "name a file with -o"));
     }
-    Ok(options)
+    Ok(())
 }
 
 fn work(options: &Options) -> Result<(), Failure> {
@@ -112,14 +127,14 @@ fn work(options: &Options) -> Result<(), Failure> {
 }
 
 fn read_sheet(options: &Options) -> Result<(String, Vec<u8>), Failure> {
+    // one byte more than a sheet has, to see that it is too large
+    let room = MOST_BYTES as u64 + 1;
     let Some(path) = &options.sheet else {
-        let mut bytes = Vec::new();
-        // one more than a sheet has, to see that it is too large
-        stdin().lock().take(65_537).read_to_end(&mut bytes).doing(NO_FILE, "standard input")?;
+        let bytes = read_up_to(stdin().lock(), room).doing(NO_FILE, "standard input")?;
         return Ok(("standard input".to_string(), bytes));
     };
     let name = path.display().to_string();
-    let bytes = fs::read(path).doing(NO_FILE, &name)?;
+    let bytes = File::open(path).and_then(|file| read_up_to(file, room)).doing(NO_FILE, &name)?;
     Ok((name, bytes))
 }
 
@@ -155,12 +170,12 @@ fn step(trainer: &mut Trainer, most: u64) -> Result<(), dunkafeto::Refusal> {
 /// The run of the state file, where there is one.
 fn resumed<'a>(options: &Options, job: Job<'a>, key: u64) -> Result<Option<Trainer<'a>>, Failure> {
     let Some(state) = &options.state else { return Ok(None) };
-    let bytes = match fs::read(state) {
+    let bytes = match File::open(state).and_then(|file| read_up_to(file, MOST_STATE + 1)) {
         Err(why) if why.kind() == ErrorKind::NotFound => return Ok(None),
         read => read.doing(NO_FILE, state.display())?,
     };
     let trainer = Trainer::restore(job, key, &bytes).doing(BAD_STATE, format!("state file {}", state.display()))?;
-    eprintln!("resumed at draw {}", trainer.draws_made());
+    say(format_args!("resumed at draw {}\n", trainer.draws_made()));
     Ok(Some(trainer))
 }
 
@@ -168,7 +183,8 @@ fn resumed<'a>(options: &Options, job: Job<'a>, key: u64) -> Result<Option<Train
 fn show_progress(trainer: &Trainer) {
     if stderr().is_terminal() {
         let end = if trainer.moment() == Moment::Finished { "\n" } else { "" };
-        eprint!("\r{:?}, draw {} of {}  {end}", trainer.stage(), trainer.draws_made(), trainer.job().draws());
+        let (stage, made, all) = (trainer.stage(), trainer.draws_made(), trainer.job().draws());
+        say(format_args!("\r{stage:?}, draw {made} of {all}  {end}"));
     }
 }
 
@@ -177,7 +193,7 @@ fn write_sheet(options: &Options, bytes: &[u8]) -> Result<(), Failure> {
         Some(path) => replace(path, bytes).doing(NO_FILE, path.display())?,
         None => stdout().write_all(bytes).and_then(|()| stdout().flush()).doing(NO_FILE, "standard output")?,
     }
-    eprintln!("checksum {:016x}", checksum(bytes));
+    say(format_args!("checksum {:016x}\n", checksum(bytes)));
     if let Some(state) = &options.state {
         remove(state).doing(NO_FILE, state.display())?;
     }
@@ -186,6 +202,12 @@ fn write_sheet(options: &Options, bytes: &[u8]) -> Result<(), Failure> {
 
 // ---- files
 
+fn read_up_to(from: impl Read, most: u64) -> io::Result<Vec<u8>> {
+    let mut bytes = Vec::new();
+    from.take(most).read_to_end(&mut bytes)?;
+    Ok(bytes)
+}
+
 /// The new file beside a file.
 fn fresh(path: &Path) -> PathBuf {
     let mut name = path.as_os_str().to_owned();
@@ -193,8 +215,12 @@ fn fresh(path: &Path) -> PathBuf {
     name.into()
 }
 
-/// Puts bytes in the place of a file so that a kill or a power cut leaves the old one or the new one.
+/// Puts bytes in the place of a file so that a kill or a power cut leaves the old one or the new one. A pipe or a device is
+/// written to as it is.
 fn replace(path: &Path, bytes: &[u8]) -> io::Result<()> {
+    if fs::metadata(path).is_ok_and(|found| !found.is_file()) {
+        return File::options().write(true).open(path)?.write_all(bytes);
+    }
     let fresh = fresh(path);
     let mut file = File::create(&fresh)?;
     file.write_all(bytes)?;
