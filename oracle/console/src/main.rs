@@ -1,39 +1,29 @@
-//! Sheets trained by the Rust for a console of 15-bit colours, to hold the hosts to. README.md has its use.
+//! Sheets for the hosts, and what the Rust makes of them for a console of 15-bit colours: console SEED COUNT FOLDER writes sheets
+//! 0.sheet, 1.sheet .. and beside each what it is trained to, 0.rust, 1.rust .., or `refused N`.
 //!
-//! The samples are the hosts': one for each unit of count in tile order, seed 0, hints 0. So is the reduction, which is the
-//! Rust host's own file.
+//! The samples are the hosts': one for each unit of count in tile order, seed 0, hints 0. So is the reduction, which is the Rust
+//! host's own file.
 
 #[path = "../../../hosts/rust/src/console.rs"]
-#[allow(dead_code)]
 mod console;
-#[path = "../../comparison/src/sheet.rs"]
-#[allow(dead_code)]
 mod sheet;
-#[path = "../../comparison/src/table.rs"]
-#[allow(dead_code)]
-mod table;
 
 use std::fs;
 use std::path::Path;
 use std::process::ExitCode;
 
-use sheet::Sheet;
+use sheet::{COLOUR_BITS, MOST_BYTES, Sheet};
 use terms::jobs::{self, Colours};
 use terms::rng::Rng;
 use terms::{Job, Sample, Tile};
-
-const USE: &str = "console make SEED COUNT FOLDER    writes sheets 0.sheet, 1.sheet .. made from a decimal seed
-console train FILE..              writes beside each X.sheet what the Rust makes of it, X.rust";
 
 const MOST_SAMPLES: usize = 16_384;
 
 fn main() -> ExitCode {
     let words: Vec<String> = std::env::args().skip(1).collect();
-    let words: Vec<&str> = words.iter().map(String::as_str).collect();
-    let done = match words[..] {
-        ["make", seed, count, folder] => make(seed, count, Path::new(folder)),
-        ["train", ref files @ ..] => files.iter().try_for_each(|file| train(Path::new(file))),
-        _ => Err(USE.to_string()),
+    let done = match &words[..] {
+        [seed, count, folder] => make(seed, count, Path::new(folder)),
+        _ => Err("use: console SEED COUNT FOLDER; SEED and COUNT are decimal".to_string()),
     };
     match done {
         Ok(()) => ExitCode::SUCCESS,
@@ -47,16 +37,17 @@ fn main() -> ExitCode {
 fn make(seed: &str, count: &str, folder: &Path) -> Result<(), String> {
     let number = |word: &str| word.parse::<u64>().map_err(|_| format!("{word} is no decimal number"));
     let (seed, count) = (number(seed)?, number(count)?);
+    let write = |name: String, bytes: Vec<u8>| fs::write(folder.join(name), bytes).map_err(|why| why.to_string());
     for case in 0..count {
-        let mut rng = Rng::new(seed.wrapping_mul(0x1_0000_0001) ^ case << 20);
-        let bytes = sheet::written(&any_sheet(&mut rng, case));
-        fs::write(folder.join(format!("{case}.sheet")), bytes).map_err(|why| why.to_string())?;
+        let sheet = any_sheet(&mut Rng::new(seed.wrapping_mul(0x1_0000_0001) ^ case << 20), case);
+        write(format!("{case}.sheet"), sheet::written(&sheet))?;
+        write(format!("{case}.rust"), trained(sheet))?;
     }
     Ok(())
 }
 
-/// Small sheets with ties, empty tiles and extremes of S and C. Each tenth is large, each fortieth as large as can be and like artwork; two in
-/// forty have no samples, or as many as can be and some more.
+/// Small sheets with ties, empty tiles and extremes of S and C. Each tenth is large, each fortieth as large as can be and like
+/// artwork; two in forty have no samples, or as many as can be and some more.
 fn any_sheet(rng: &mut Rng, case: u64) -> Sheet {
     let full = case % 40 == 39;
     let colours = if full { Colours::Artwork } else { Colours::any(rng, 2.0) };
@@ -77,10 +68,11 @@ fn any_sheet(rng: &mut Rng, case: u64) -> Sheet {
 }
 
 /// The tiles, with those empty that a sheet has no room for or whose samples would be too many.
-fn fitting(colours: usize, mut tiles: Vec<Tile>) -> Vec<Tile> {
-    let (mut bits, mut samples) = (8 * sheet::MOST_BYTES - (86 + 96 * colours + 7 * tiles.len()), MOST_SAMPLES);
+fn fitting(palette: usize, mut tiles: Vec<Tile>) -> Vec<Tile> {
+    let mut bits = 8 * MOST_BYTES - sheet::bits_without_colours(palette, tiles.len());
+    let mut samples = MOST_SAMPLES;
     for tile in &mut tiles {
-        let (wide, many) = (102 * tile.counts.len(), tile.counts.iter().sum::<u32>() as usize);
+        let (wide, many) = (COLOUR_BITS * tile.counts.len(), tile.counts.iter().sum::<u32>() as usize);
         if wide > bits || many > samples {
             *tile = Tile::default();
             continue;
@@ -90,29 +82,19 @@ fn fitting(colours: usize, mut tiles: Vec<Tile>) -> Vec<Tile> {
     tiles
 }
 
-fn train(file: &Path) -> Result<(), String> {
-    let say = |why: &dyn std::fmt::Display| format!("{}: {why}", file.display());
-    let bytes = fs::read(file).map_err(|why| say(&why))?;
-    let trained = match sheet::read(&bytes).and_then(trained) {
-        Ok(sheet) => sheet::written(&sheet),
-        Err(number) => format!("refused {number}\n").into_bytes(),
-    };
-    fs::write(file.with_extension("rust"), trained).map_err(|why| say(&why))
-}
-
 /// The sheet with the palette that the Rust trains, or the number that its samples get.
-fn trained(sheet: Sheet) -> Result<Sheet, u32> {
+fn trained(sheet: Sheet) -> Vec<u8> {
     let samples = samples(&sheet.tiles);
     match samples.len() {
-        0 => return Err(1),
+        0 => return b"refused 1\n".to_vec(),
         1..=MOST_SAMPLES => {}
-        _ => return Err(2),
+        _ => return b"refused 2\n".to_vec(),
     }
     let Sheet { weight, palette, tiles } = sheet;
     let job = Job { s: palette.len(), c: palette[0].len(), weight, tiles, samples };
     let hints = vec![0; job.tiles.len()];
     let ran = answers::rust(weight).run(&job, &hints, 0, Box::new(|_, _, colour| console::reduced(colour)));
-    Ok(Sheet { weight, palette: ran.result, tiles: job.tiles })
+    sheet::written(&Sheet { weight, palette: ran.result, tiles: job.tiles })
 }
 
 fn samples(tiles: &[Tile]) -> Vec<Sample> {
