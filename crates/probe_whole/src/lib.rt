@@ -1,5 +1,5 @@
-// Forwarders to start, advance, hand-in and result, for the comparison with the Rust, as those of probe. Advance asks one place for
-// the draws; the others ask nothing.
+// Forwarders to start, advance and hand-in, for the comparison with the Rust, as those of probe. Advance asks one place for the
+// draws; the others ask nothing.
 ghost use Prim.Native.Nat.{_≤_};
 ghost use lib.ListN.{length};
 
@@ -116,42 +116,5 @@ pub extern "C" fn probe_hand_in(
         least,
         words,
         reduced,
-    )
-}
-
-#[no_mangle]
-pub extern "C" fn probe_result(
-    s: usize,
-    c: usize,
-    t: usize,
-    n: usize,
-    weight: f32,
-    tiles: &[u32],
-    colours: &[f32],
-    counts: &[u32],
-    samples: &[u32],
-    order: &[u32],
-    hints: &[u32],
-    palette: &[f32],
-    least: &[f32],
-    words: &[u64],
-    out: &mut [f32],
-) -> u32 {
-    run_result::result(
-        s,
-        c,
-        t,
-        n,
-        weight,
-        tiles,
-        colours,
-        counts,
-        samples,
-        order,
-        hints,
-        palette,
-        least,
-        words,
-        out,
     )
 }

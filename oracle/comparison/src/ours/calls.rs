@@ -41,7 +41,7 @@ unsafe extern "C" {
         dist: &mut f32,
         second: &mut f32,
     ) -> u32;
-    fn probe_assign(
+    fn dunkafeto_assign(
         s: usize,
         c: usize,
         t: usize,
@@ -58,7 +58,7 @@ unsafe extern "C" {
         hints_len: usize,
         out: *mut u32,
         out_len: usize,
-    ) -> u32;
+    ) -> u64;
     fn probe_group(
         p: usize,
         pixels: *const u8,
@@ -211,8 +211,8 @@ pub fn public_best_two(job: &Job, palette: &Lent<f32>, hints: &mut Lent<u32>) ->
 }
 
 pub fn assign(job: &Job, palette: &Lent<f32>, hints: &mut Lent<u32>, out: &mut Lent<u32>) -> u32 {
-    unsafe {
-        probe_assign(
+    let told = unsafe {
+        dunkafeto_assign(
             job.s,
             job.c,
             job.t,
@@ -230,5 +230,7 @@ pub fn assign(job: &Job, palette: &Lent<f32>, hints: &mut Lent<u32>, out: &mut L
             out.pointer_mut(),
             out.len(),
         )
-    }
+    };
+    // it makes no draws, so the answer is the number alone
+    u32::try_from(told).unwrap_or(u32::MAX)
 }

@@ -1,4 +1,5 @@
-//! The run's public calls, which take whatever a stranger lends.
+//! The run's public calls as a host has them, from the library that ships: they take whatever a stranger lends, and answer the draws
+//! times 256 and the number.
 
 use super::Job;
 use crate::call::{Ask, Call, Memory, Outcome};
@@ -8,13 +9,14 @@ use crate::lent::{self, Lent};
 pub fn answer(call: &Call, ask: &Ask) -> Outcome {
     let (job, mut memory) = (Job::lent(&call.given), Lents::of(call));
     let mut colours = lent::floats(ask.colours().unwrap_or_default());
-    let (number, draws) = match ask {
-        Ask::Start(seed) => (start(&job, &mut memory, *seed), 0),
+    let told = match ask {
+        Ask::Start(seed) => start(&job, &mut memory, *seed),
         Ask::Advance(allotment) => advance(&job, &mut memory, *allotment),
-        Ask::HandIn(_) => (hand_in(&job, &mut memory, &colours), 0),
-        Ask::Result(_) => (result(&job, &memory, &mut colours), 0),
+        Ask::HandIn(_) => hand_in(&job, &mut memory, &colours),
+        Ask::Result(_) => result(&job, &memory, &mut colours),
     };
     let kept = job.untouched() && memory.guarded() && colours.guarded();
+    let (number, draws) = ((told & 255) as u32, told >> 8);
     Outcome { number, draws, memory: memory.memory(), colours: colours.values().to_vec(), kept }
 }
 
@@ -29,7 +31,7 @@ pub fn answers(call: &mut Call, asks: &[Ask]) -> Vec<Outcome> {
 }
 
 unsafe extern "C" {
-    fn probe_result(
+    fn dunkafeto_result(
         s: usize,
         c: usize,
         t: usize,
@@ -55,8 +57,8 @@ unsafe extern "C" {
         words_len: usize,
         out: *mut f32,
         out_len: usize,
-    ) -> u32;
-    fn probe_advance(
+    ) -> u64;
+    fn dunkafeto_advance(
         s: usize,
         c: usize,
         t: usize,
@@ -81,10 +83,8 @@ unsafe extern "C" {
         words: *mut u64,
         words_len: usize,
         allotment: u64,
-        drawn: *mut u64,
-        drawn_len: usize,
-    ) -> u32;
-    fn probe_start(
+    ) -> u64;
+    fn dunkafeto_start(
         s: usize,
         c: usize,
         t: usize,
@@ -109,8 +109,8 @@ unsafe extern "C" {
         least_len: usize,
         words: *mut u64,
         words_len: usize,
-    ) -> u32;
-    fn probe_hand_in(
+    ) -> u64;
+    fn dunkafeto_hand_in(
         s: usize,
         c: usize,
         t: usize,
@@ -136,7 +136,7 @@ unsafe extern "C" {
         words_len: usize,
         reduced: *const f32,
         reduced_len: usize,
-    ) -> u32;
+    ) -> u64;
 }
 
 /// What a run is lent.
@@ -214,8 +214,8 @@ macro_rules! with_run {
     };
 }
 
-fn result(job: &Job, held: &Lents, out: &mut Lent<f32>) -> u32 {
-    with_run!(probe_result, job, held, out.pointer_mut(), out.len())
+fn result(job: &Job, held: &Lents, out: &mut Lent<f32>) -> u64 {
+    with_run!(dunkafeto_result, job, held, out.pointer_mut(), out.len())
 }
 
 /// Calls a function of the run's that writes the memory it is lent.
@@ -253,16 +253,14 @@ macro_rules! with_memory {
     };
 }
 
-fn start(job: &Job, held: &mut Lents, seed: u64) -> u32 {
-    with_memory!(probe_start, job, held, [seed])
+fn start(job: &Job, held: &mut Lents, seed: u64) -> u64 {
+    with_memory!(dunkafeto_start, job, held, [seed])
 }
 
-/// The number and the draws.
-fn advance(job: &Job, held: &mut Lents, allotment: u64) -> (u32, u64) {
-    let mut drawn = [0];
-    (with_memory!(probe_advance, job, held, [], allotment, drawn.as_mut_ptr(), drawn.len()), drawn[0])
+fn advance(job: &Job, held: &mut Lents, allotment: u64) -> u64 {
+    with_memory!(dunkafeto_advance, job, held, [], allotment)
 }
 
-fn hand_in(job: &Job, held: &mut Lents, reduced: &Lent<f32>) -> u32 {
-    with_memory!(probe_hand_in, job, held, [], reduced.pointer(), reduced.len())
+fn hand_in(job: &Job, held: &mut Lents, reduced: &Lent<f32>) -> u64 {
+    with_memory!(dunkafeto_hand_in, job, held, [], reduced.pointer(), reduced.len())
 }
