@@ -1,6 +1,7 @@
 //! Damaged copies of good jobs: each damage touches one rule of document 01, at its limit or far past it.
 
 pub mod runs;
+pub mod sheets;
 
 use terms::rng::Rng;
 

@@ -6,6 +6,7 @@ use std::process::{Command, Stdio};
 use terms::rng::Rng;
 
 use super::{Kind, kind, sheets, whole};
+use crate::damage::sheets as damage;
 use crate::sheet::{self, fitted::fitted};
 use crate::tally::Tally;
 
@@ -19,7 +20,7 @@ fn any(rng: &mut Rng, case: u64) -> Vec<u8> {
     let sheet = if rng.once_in(10) { sheets::large(rng, case as usize) } else { sheets::small(rng) };
     let mut bytes = sheet::written(&sheet);
     for _ in 0..rng.pick(&[0, 0, 1, 2]) {
-        sheets::damage_bytes(rng, &mut bytes);
+        damage::damage(rng, &mut bytes);
     }
     bytes
 }
@@ -27,7 +28,7 @@ fn any(rng: &mut Rng, case: u64) -> Vec<u8> {
 /// Document 01's example with every bit changed, every cut of it, every byte after it.
 fn examples() -> Vec<Vec<u8>> {
     let bytes = sheet::written(&sheet::example());
-    sheets::damages(&bytes).chain(sheets::added(&bytes, bytes.len())).collect()
+    damage::damages(&bytes).chain(damage::added(&bytes, bytes.len())).collect()
 }
 
 fn fit(rng: &mut Rng, case: u64, tally: &mut Tally) {
