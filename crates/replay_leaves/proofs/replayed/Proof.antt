@@ -1,8 +1,8 @@
--- `replay` meets its contract: it ends, a case a turn. Assumes nothing.
+-- `replayed` meets its contract: it ends, a case a turn. Assumes nothing.
 use Prim.Native.Nat.{_≤_, _-_}
 use borrow.Author.Needs.{needs}
-use Rattle.replay_leaves.proofs.replay.Statement.{statement}
-use Rattle.replay_leaves.proofs.replay.Tie as tie
+use Rattle.replay_leaves.proofs.replayed.Statement.{statement}
+use Rattle.replay_leaves.proofs.replayed.Tie as tie
 
 abbrev Inv-loop : tie.InvT-loop
 Inv-loop list tally₀ cases counter₀ tally counter = counter ≤ cases
@@ -31,8 +31,8 @@ loop-again c = search needs
 returns : tie.Need-returns Inv-loop μ-loop
 returns c = search needs
 
-pub replay-spec : {M : Type 1} → statement M
-replay-spec =
+pub replayed-spec : {M : Type 1} → statement M
+replayed-spec =
     tie.close
     (tie.spec
     Inv-loop
