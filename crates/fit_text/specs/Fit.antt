@@ -1,20 +1,19 @@
 -- What `fit` prints for a sheet. Definitions only. Assumes nothing.
-use Prim.Native.Nat.{ℕ, _≤_}
-use mathlib.Core.Path.{_≡_}
+use Prim.Native.Nat.{ℕ}
 use mathlib.Core.Bool.{cond}
 use mathlib.Core.List.{List}
 use lib.Dec.{leb}
-use lib.ListN.{length, take}
+use lib.ListN.{length}
 use lib.Seq.{sets}
 use lib.Ieee.{Float}
 use Rattle.format.specs.Format.{Answer, refused, accepted}
-use Rattle.job.specs.Job.{Job, job}
-use Rattle.palette_tile.specs.Tiles.{Shown}
+use Rattle.job.specs.Job.{job}
 use Rattle.fit_lines.specs.Lines.{Stored, refusedLine}
 use Rattle.fit_tiles.specs.Text.{fitText}
 use Rattle.sheet_format.specs.Sheet.{Sheet, edition1, readSheet}
 use Rattle.sheet_format.specs.Lists.{floats}
 use Rattle.sheet.specs.Sheets.{jobOf}
+use Rattle.sheet_parts.specs.Begins.{Begins}
 
 abbrev pub textOf : Answer Sheet → List ℕ
 textOf (refused n) = refusedLine n
@@ -32,20 +31,7 @@ unfoldable pub fitDef : List ℕ → List ℕ → FitOutcome
 fitDef sheet found =
     cond (leb 34060 (length found)) (fitOutcome (length (textOf (readSheet edition1 sheet))) (sets found 0 (textOf (readSheet edition1 sheet)))) (fitOutcome 0 found)
 
--- ---- slices that begin with the lists of a job that passed its checks, and with its palette
-pub record Begins (tiles : List ℕ) (colours : List Float) (counts : List ℕ) (palette : List Float) (J : Job) (p : List Float) : Type 0 where
-  pub shown : Shown J p (J .S) (J .C)
-  pub tiled : (length (J .tiles) ≤ length tiles) × (take (length (J .tiles)) tiles ≡ J .tiles)
-  pub coloured : (length (J .colours) ≤ length colours) × (take (length (J .colours)) colours ≡ J .colours)
-  pub counted : (length (J .counts) ≤ length counts) × (take (length (J .counts)) counts ≡ J .counts)
-  pub given : (length p ≤ length palette) × (take (length p) palette ≡ p)
-
--- a job of these sizes and this weight
-abbrev pub Holds : ℕ → ℕ → ℕ → Float → List ℕ → List Float → List ℕ → List Float → Type 0
-Holds s c t weight tiles colours counts palette =
-    (tb : List ℕ) × (f : List Float) × (cs : List ℕ) × (p : List Float) × Begins tiles colours counts palette (job s c t weight tb f cs) p
-
--- its lines stand in the first places
+-- ---- its lines stand in the first places
 abbrev pub Prints : ℕ → ℕ → ℕ → Float → List ℕ → List Float → List ℕ → List Float → List ℕ → List ℕ → ℕ → Type 0
 Prints s c t weight tiles colours counts palette before after n =
     (tb : List ℕ) (f : List Float) (cs : List ℕ) (p : List Float) → Begins tiles colours counts palette (job s c t weight tb f cs) p → Stored before after 0 n (fitText (job s c t weight tb f cs) p)

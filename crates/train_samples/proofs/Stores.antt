@@ -1,11 +1,10 @@
 -- One sample, one colour and one tile more. Assumes nothing.
-use mathlib.Core.Path.{_≡_, refl, sym, ap, _∙_, subst}
+use mathlib.Core.Path.{_≡_, refl, ap, _∙_}
 use Prim.Native.Nat.{ℕ, zero, suc, _+_, _*_, _≤_, _<_}
 use native.Mathlib.Omega.{arith}
 use native.Mathlib.Numerals.{add-one}
-use mathlib.Core.List.{List, [], _∷_, _++_}
+use mathlib.Core.List.{List, [], _∷_}
 use lib.ListN.{length, getD, set}
-use lib.Seq.{sets}
 use Rattle.lists.specs.Every.{sum}
 use Rattle.job.specs.Job.{countsPart}
 use Rattle.fit_lines.specs.Lines.{Stored}

@@ -1,5 +1,5 @@
 -- How many numbers the samples take. Assumes nothing.
-use Prim.Native.Nat.{ℕ, zero, suc, _+_, _*_, _≤_, _<_}
+use Prim.Native.Nat.{ℕ, zero, suc, _+_, _*_, _≤_}
 use mathlib.Core.Path.{_≡_, refl, _∙_}
 use mathlib.Core.Bool.{Bool, true, false}
 use mathlib.Core.List.{List, [], _∷_}
@@ -9,7 +9,7 @@ use lib.ListN.{length, getD, length-append}
 use borrow.Author.Tests.{ltb-true, ltb-false}
 use Rattle.lists.specs.Every.{sum}
 use Rattle.job.specs.Job.{countsPart}
-use Rattle.train_samples.specs.Samples.{alike, tileSamples, units, samplesTo, unitsTo, Countable}
+use Rattle.train_samples.specs.Samples.{alike, tileSamples, units, samplesTo, unitsTo}
 
 -- ---- sums
 pub sum-grows : (f : ℕ → ℕ) (k n : ℕ) → k ≤ n → sum f k ≤ sum f n

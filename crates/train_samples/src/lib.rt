@@ -1,10 +1,9 @@
 // The samples that `train` draws, into lent memory: one for each unit of count, tile by tile, colour by colour. Each function gives
 // the place behind what it wrote. Assumes nothing.
-ghost use mathlib.Core.Path.{_≡_};
-ghost use Prim.Native.Nat.{ℕ, _+_, _*_, _≤_};
+ghost use Prim.Native.Nat.{_+_, _*_, _≤_};
 ghost use lib.ListN.{length};
 ghost use Rattle.fit_lines.specs.Lines.{Stored};
-ghost use Rattle.train_samples.specs.Samples.{alike, tileSamples, units, samplesTo, unitsTo, Countable};
+ghost use Rattle.train_samples.specs.Samples.{alike, tileSamples, units, samplesTo, Countable};
 
 // m samples of the colour at place k of tile i.
 fn put_alike(samples: &mut [u32], at: usize, i: u32, k: u32, m: u32) -> usize

@@ -1,13 +1,11 @@
 -- `put_alike` meets its contract. The loop's invariant: the samples passed stand there. Assumes nothing.
-use Prim.Native.Nat.{ℕ, _≤_, _+_, _-_, _*_}
-use mathlib.Core.Path.{_≡_, refl, _∙_, subst}
+use Prim.Native.Nat.{_≤_, _+_, _-_, _*_}
+use mathlib.Core.Path.{_≡_, refl}
 use native.Mathlib.Omega.{arith}
 use lib.ListN.{length, length-set}
 use Rattle.fit_lines.specs.Lines.{Stored}
 use Rattle.train_samples.specs.Samples.{alike}
-use Rattle.train_samples.specs.Numbers.{length-alike}
 use Rattle.train_samples.proofs.Stores.{nothing, pair, alike-more}
-use borrow.Author.Needs.{needs}
 use Rattle.train_samples.proofs.put_alike.Statement.{statement}
 use Rattle.train_samples.proofs.put_alike.Tie as tie
 

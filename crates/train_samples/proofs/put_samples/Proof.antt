@@ -1,12 +1,11 @@
 -- `put_samples` meets its contract. The loop's invariant: the samples of the tiles passed stand there. Assumes nothing.
-use Prim.Native.Nat.{ℕ, _≤_, _-_}
+use Prim.Native.Nat.{_≤_, _-_}
 use mathlib.Core.Path.{_≡_, refl, _∙_}
 use native.Mathlib.Omega.{arith}
 use lib.ListN.{length}
 use Rattle.fit_lines.specs.Lines.{Stored}
 use Rattle.train_samples.specs.Samples.{samplesTo}
 use Rattle.train_samples.proofs.Stores.{nothing, samples-more, part-fits}
-use borrow.Author.Needs.{needs}
 use Rattle.train_samples.proofs.put_samples.Statement.{statement}
 use Rattle.train_samples.proofs.put_samples.Tie as tie
 

@@ -1,12 +1,11 @@
 -- `put_tile` meets its contract. The loop's invariant: the samples of the colours passed stand there. Assumes nothing.
-use Prim.Native.Nat.{ℕ, _≤_, _-_}
+use Prim.Native.Nat.{_≤_, _-_}
 use mathlib.Core.Path.{_≡_, refl, _∙_}
 use native.Mathlib.Omega.{arith}
 use lib.ListN.{length}
 use Rattle.fit_lines.specs.Lines.{Stored}
 use Rattle.train_samples.specs.Samples.{tileSamples}
 use Rattle.train_samples.proofs.Stores.{nothing, tile-more, tile-place, next-fits}
-use borrow.Author.Needs.{needs}
 use Rattle.train_samples.proofs.put_tile.Statement.{statement}
 use Rattle.train_samples.proofs.put_tile.Tie as tie
 

@@ -1,0 +1,4 @@
+pub mod Rules
+pub mod Files
+pub mod Rooms
+pub mod Texts

@@ -1,0 +1,4 @@
+pub mod Training
+pub mod Cuts
+pub mod Stops
+pub mod ByCalls
