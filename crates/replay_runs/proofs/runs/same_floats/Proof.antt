@@ -1,0 +1,51 @@
+-- `same_floats` ends: one value of ours a turn. Assumes nothing.
+use Prim.Native.Nat.{_≤_, _-_}
+use lib.ListN.{length}
+use borrow.Author.Needs.{needs}
+use Rattle.replay_runs.proofs.runs.same_floats.Statement.{statement}
+use Rattle.replay_runs.proofs.runs.same_floats.Tie as tie
+
+abbrev Inv-loop : tie.InvT-loop
+Inv-loop list ours tally₀ i₀ tally i = i ≤ length ours
+
+abbrev μ-loop : tie.MeasureT-loop
+μ-loop list ours tally₀ i₀ tally i = length ours - i
+
+loop-holds : tie.Need-loop-holds Inv-loop μ-loop
+loop-holds c = search needs
+
+mul-float : tie.Need-mul-float Inv-loop μ-loop
+mul-float c = search needs
+
+shared-slice-read-float : tie.Need-shared-slice-read-float Inv-loop μ-loop
+shared-slice-read-float c = search needs
+
+float-requires : tie.Need-float-requires Inv-loop μ-loop
+float-requires c κs = search needs
+
+add-i : tie.Need-add-i Inv-loop μ-loop
+add-i c = search needs
+
+loop-less : tie.Need-loop-less Inv-loop μ-loop
+loop-less c = search needs
+
+loop-again : tie.Need-loop-again Inv-loop μ-loop
+loop-again c = search needs
+
+returns : tie.Need-returns Inv-loop μ-loop
+returns c = search needs
+
+pub same-floats-spec : {M : Type 1} → statement M
+same-floats-spec =
+    tie.close
+    (tie.spec
+    Inv-loop
+    μ-loop
+    loop-holds
+    mul-float
+    shared-slice-read-float
+    float-requires
+    add-i
+    loop-less
+    loop-again
+    returns)
