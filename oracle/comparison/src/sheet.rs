@@ -1,6 +1,7 @@
 //! The fit sheet of document 01, read and written independently of our definitions.
 
 pub mod fitted;
+pub mod trained;
 
 use terms::{Palette, Tile};
 

@@ -1,5 +1,7 @@
 //! The programs as processes: all that they write, for sheets whole and damaged, small and near the limit.
 
+mod train;
+
 use std::io::Write;
 use std::process::{Command, Stdio};
 
@@ -10,7 +12,13 @@ use crate::damage::sheets as damage;
 use crate::sheet::{self, fitted::fitted};
 use crate::tally::Tally;
 
-pub const KINDS: &[Kind] = &[kind("program fit", 300, 3_000, fit), whole("program fit, example", 1, fit_example)];
+pub const KINDS: &[Kind] = &[
+    kind("program fit", 300, 3_000, fit),
+    whole("program fit, example", 1, fit_example),
+    kind("program train", 200, 3_000, train::any),
+    whole("program train, example", 1, train::example),
+    whole("program train, edges", 5, train::edges),
+];
 
 /// Where the gate leaves the programs, seen from the folder that the comparison runs in.
 const FIT: &str = "../target/bin/fit";

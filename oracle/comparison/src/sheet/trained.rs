@@ -1,0 +1,40 @@
+//! What the program `train` writes for a sheet, by the reading here and the Rust's run.
+
+use terms::{Colour, Job, Sample, Tile};
+
+use super::fitted::refused;
+use super::{Sheet, read, written};
+
+/// The number that a sheet gets: its own, or that of its samples.
+pub fn number(bytes: &[u8]) -> u32 {
+    match read(bytes).map(|sheet| samples(&sheet.tiles).len()) {
+        Err(number) => number,
+        Ok(0) => 1,
+        Ok(n) if n > 16_384 => 2,
+        Ok(_) => 0,
+    }
+}
+
+/// One for each unit of count, tile by tile and colour by colour.
+fn samples(tiles: &[Tile]) -> Vec<Sample> {
+    let of_tile = |(tile, data): (usize, &Tile)| {
+        let of_colour = move |(place, &count): (usize, &u32)| vec![Sample { tile, place }; count as usize];
+        data.counts.iter().enumerate().flat_map(of_colour).collect::<Vec<_>>()
+    };
+    tiles.iter().enumerate().flat_map(of_tile).collect()
+}
+
+/// The sheet with the palette that the Rust trains from seed 0, its host cutting the working
+/// colours to -2..2 at each stop.
+pub fn trained(bytes: &[u8]) -> Vec<u8> {
+    match number(bytes) {
+        0 => {}
+        number => return refused(number).into_bytes(),
+    }
+    let sheet = read(bytes).unwrap();
+    let (s, c) = (sheet.palette.len(), sheet.palette[0].len());
+    let job = Job { s, c, weight: sheet.weight, samples: samples(&sheet.tiles), tiles: sheet.tiles };
+    let cut = Box::new(|_, _, colour: Colour| colour.map(|x| x.clamp(-2.0, 2.0)));
+    let ran = answers::rust(job.weight).run(&job, &vec![0; job.tiles.len()], 0, cut);
+    written(&Sheet { weight: job.weight, palette: ran.result, tiles: job.tiles })
+}
