@@ -3,3 +3,4 @@ pub mod Scan
 pub mod Leading
 pub mod Two
 pub mod Runner
+pub mod Lesser

@@ -14,27 +14,31 @@ use Rattle.ieee.specs.Plus.{plus-real}
 use Rattle.ieee.specs.Keys.{Good}
 use Rattle.ieee.specs.Narrow.{narrowOf}
 use Rattle.color.specs.declared.Oklab.{Oklab}
-use Rattle.color.specs.Color.{colourAt}
-use Rattle.stats.specs.declared.Near.{Near}
-use Rattle.palette.specs.Palette.{Tile, nearestOf}
+use Rattle.color.specs.Color.{colourAt, Real}
+use Rattle.color.specs.Sizes.{bounded-finite, sized-real}
+use Rattle.palette.specs.Palette.{Tile, nearestOf, Clear}
 use Rattle.mse.specs.declared.Tally.{Tally}
 use Rattle.mse.specs.Mse.{errorOf, stepTally, tileTally, meanOf, Summed}
-use Rattle.mse.specs.Fine.{near-good}
+use Rattle.mse.specs.Fine.{near-good, target-sized}
 
 -- an f64 holds every f32
 widens : (x : Float) → Good binary32 x → T (fits binary64 x && not (isNan x))
 widens x g = and-i (fits binary64 x) (not (isNan x)) (fits-widens x (g .fit)) (plus-real x (g .pos))
 
-pub near-widens : (s : List Float) (X : Tile) (w : Float) → Summed s X w → (k : ℕ) → k < length (X .counts) → (q : Oklab) (d : Near) → q ≡ colourAt (X .colours) k → d ≡ nearestOf s q w → T (fits binary64 (d .dist) && not (isNan (d .dist)))
-near-widens s X w R k l q d g e =
-    subst⁻¹ (λ (x : Near). T (fits binary64 (x .dist) && not (isNan (x .dist)))) (e ∙ ap (λ (y : Oklab). nearestOf s y w) g) (widens _ (near-good s X w R k l))
+-- what the nearest distance asks, of a tile's colour k
+pub near-asks : (s : List Float) (X : Tile) (w : Float) → Summed s X w → (k : ℕ) → k < length (X .counts) → (q : Oklab) → q ≡ colourAt (X .colours) k → Clear s q w
+near-asks s X w R k l q e = record { sub = bounded-finite s 4 (R .sub); colour = subst⁻¹ Real e (sized-real (colourAt (X .colours) k) 2 (target-sized s X w R k l)); weight = R .weight }
 
-pub tally-step : (s : List Float) (X : Tile) (w : Float) (a : Tally) (k : ℕ) (x : Float) (n : ℕ) (q : Oklab) (d : Near) → record { total = x; count = n } ≡ tileTally s X w a k → q ≡ colourAt (X .colours) k → d ≡ nearestOf s q w
-    → record { total = add binary64 x (mul binary64 (d .dist) (ofInt binary64 (pos (getD (X .counts) k 0)))); count = n + getD (X .counts) k 0 } ≡ tileTally s X w a (k + 1)
+pub near-widens : (s : List Float) (X : Tile) (w : Float) → Summed s X w → (k : ℕ) → k < length (X .counts) → (q : Oklab) (d : Float) → q ≡ colourAt (X .colours) k → d ≡ nearestOf s q w .dist → T (fits binary64 d && not (isNan d))
+near-widens s X w R k l q d g e =
+    subst⁻¹ (λ (x : Float). T (fits binary64 x && not (isNan x))) (e ∙ ap (λ (y : Oklab). nearestOf s y w .dist) g) (widens _ (near-good s X w R k l))
+
+pub tally-step : (s : List Float) (X : Tile) (w : Float) (a : Tally) (k : ℕ) (x : Float) (n : ℕ) (q : Oklab) (d : Float) → record { total = x; count = n } ≡ tileTally s X w a k → q ≡ colourAt (X .colours) k → d ≡ nearestOf s q w .dist
+    → record { total = add binary64 x (mul binary64 d (ofInt binary64 (pos (getD (X .counts) k 0)))); count = n + getD (X .counts) k 0 } ≡ tileTally s X w a (k + 1)
 unfolding tileTally
 tally-step s X w a k x n q d h g e =
-    ap (λ (z : Tally). stepTally z (mul binary64 (d .dist) (ofInt binary64 (pos (getD (X .counts) k 0)))) (getD (X .counts) k 0)) h
-    ∙ ap (λ (z : Near). stepTally (tileTally s X w a k) (mul binary64 (z .dist) (ofInt binary64 (pos (getD (X .counts) k 0)))) (getD (X .counts) k 0)) (e ∙ ap (λ (y : Oklab). nearestOf s y w) g)
+    ap (λ (z : Tally). stepTally z (mul binary64 d (ofInt binary64 (pos (getD (X .counts) k 0)))) (getD (X .counts) k 0)) h
+    ∙ ap (λ (z : Float). stepTally (tileTally s X w a k) (mul binary64 z (ofInt binary64 (pos (getD (X .counts) k 0)))) (getD (X .counts) k 0)) (e ∙ ap (λ (y : Oklab). nearestOf s y w .dist) g)
     ∙ sym (ap (tileTally s X w a) (add-one k))
 
 module _ (a : Tally) where

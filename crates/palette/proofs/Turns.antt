@@ -10,10 +10,11 @@ use lib.Dec.{ltb}
 use lib.Ieee.{Float, binary32}
 use Rattle.ieee.specs.Keys.{Good}
 use Rattle.ieee.specs.Ranks.{over, over-mono}
+use Rattle.color.specs.Color.{Finite}
 use Rattle.stats.specs.declared.Near.{Near}
 use Rattle.choice.specs.Scan.{least-below}
 use Rattle.choice.specs.Leading.{Leading, lead-start, lead-good, lead-loses, lead-wins, lead-end}
-use Rattle.palette.specs.Palette.{Palette, Tile, subOf, totalOf, tileDistance, distAt, bestFit, Fits}
+use Rattle.palette.specs.Palette.{Palette, Tile, subOf, totalOf, tileDistance, distAt, bestFit, Measured, Fits}
 use Rattle.palette.specs.Parts.{sub-room, sub-finite}
 use Rattle.palette.specs.Sums.{total-good, total-end, dist-good}
 
@@ -23,6 +24,10 @@ module _ (P : Palette) (X : Tile) (w : Float) (F : Fits P X w) (hint : ℕ) wher
 
   pub part-asks : (i : ℕ) → i < P .subs → (P .have ≤ P .stride) × (i * (3 * P .stride) + 3 * P .stride ≤ length (P .flat))
   part-asks i l = (F .palette .present, sub-room P (F .palette) i l)
+
+  -- what the sums over a subpalette ask
+  pub turn-asks : (i : ℕ) → i < P .subs → (s : List Float) → s ≡ subOf (P .flat) (P .stride) (P .have) i → Measured s X w
+  turn-asks i l s e = record { sub = subst⁻¹ Finite e (sub-finite P (F .palette) i l); tile = F .tile; weight = F .weight }
 
   pub turn-start : hint < P .subs → (s : List Float) → s ≡ subOf (P .flat) (P .stride) (P .have) hint → (x : Float) → x ≡ tileDistance s X w → Leading (distAt P X w) (P .subs) hint 0 (record { index = hint; dist = x })
   unfolding distAt

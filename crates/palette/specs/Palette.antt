@@ -10,7 +10,7 @@ use lib.Ieee.Positive.{positive}
 use lib.Ieee.{Float, binary32, add, mul, ofInt, ofBits}
 use Rattle.lists.specs.Parts.{part}
 use Rattle.color.specs.declared.Oklab.{Oklab}
-use Rattle.color.specs.Color.{sqdistOf, colourAt, Finite}
+use Rattle.color.specs.Color.{sqdistOf, colourAt, Real, Finite}
 use Rattle.stats.specs.declared.Near.{Near}
 use Rattle.stats.specs.Stats.{leastOf}
 
@@ -78,6 +78,18 @@ pub record Counted (X : Tile) : Type 0 where
   pub finite : Finite (X .colours)
   pub low : (k : ℕ) → k < length (X .counts) → 1 ≤ getD (X .counts) k 0
   pub high : (k : ℕ) → k < length (X .counts) → getD (X .counts) k 0 ≤ 16777216
+
+-- colours whose distances are no NaN and have no sign
+pub record Clear (s : List Float) (q : Oklab) (w : Float) : Type 0 where
+  pub sub : Finite s
+  pub colour : Real q
+  pub weight : T (positive w)
+
+-- a subpalette, and a tile that may be empty
+pub record Measured (s : List Float) (X : Tile) (w : Float) : Type 0 where
+  pub sub : Finite s
+  pub tile : Counted X
+  pub weight : T (positive w)
 
 -- a palette, and a tile that may be empty
 pub record Fits (P : Palette) (X : Tile) (w : Float) : Type 0 where

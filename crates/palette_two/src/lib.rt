@@ -41,8 +41,8 @@ pub fn distance_within(s: &[f32], tile: &[f32], counts: &[u32], w: f32, limit: f
     let mut sum: f32 = 0.0;
     let mut k = 0;
     while k < n {
-        let near = palette::nearest(s, color::colour(tile, k), w);
-        sum = sum + near.dist * (counts[k] as f32);
+        let near = palette::nearest_distance(s, color::colour(tile, k), w);
+        sum = sum + near * (counts[k] as f32);
         if sum > limit {
             return Within::Over;
         }

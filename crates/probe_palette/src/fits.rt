@@ -1,8 +1,7 @@
 // Forwarders to palette, palette_two and view. Assumes of callers what each callee requires.
-ghost use mathlib.Core.Path.{_≡_};
-ghost use Prim.Native.Nat.{ℕ, _*_, _≤_, _<_};
-ghost use lib.ListN.{length, getD};
-ghost use Rattle.palette.specs.Palette.{paletteWith, tileWith, Fits, Hinted};
+ghost use Prim.Native.Nat.{_≤_};
+ghost use lib.ListN.{length};
+ghost use Rattle.palette.specs.Palette.{paletteWith, tileWith, Measured, Fits, Hinted};
 use color::Oklab;
 
 #[no_mangle]
@@ -21,7 +20,7 @@ pub extern "C" fn probe_nearest(
 
 #[no_mangle]
 pub extern "C" fn probe_tile_distance(sub: &[f32], tile: &[f32], counts: &[u32], weight: f32) -> f32
-    requires { ⌜ (length (now tile) ≡ 3 * length (now counts)) × ((k : ℕ) → k < length (now counts) → getD (now counts) k 0 ≤ 16777216) ⌝ }
+    requires { ⌜ Measured (now sub) (tileWith (now tile) (now counts)) weight ⌝ }
 {
     palette::tile_distance(sub, tile, counts, weight)
 }

@@ -5,7 +5,7 @@ use native.Mathlib.Omega.{arith}
 use borrow.Author.Needs.{needs}
 use Rattle.palette.specs.Palette.{tileWith}
 use Rattle.mse.specs.Mse.{tileTally}
-use Rattle.mse.proofs.Sums.{near-widens, tally-step}
+use Rattle.mse.proofs.Sums.{near-asks, near-widens, tally-step}
 use Rattle.mse.proofs.tile_tally.Statement.{statement}
 use Rattle.mse.proofs.tile_tally.Tie as tie
 
@@ -23,14 +23,14 @@ loop-holds c = (omega arith, (omega arith, refl))
 colour-requires : tie.Need-colour-requires Inv-loop μ-loop
 colour-requires c κs = let z = c .before .before .before .before .before in omega (arith, z .pre .0 .three)
 
-nearest-requires : tie.Need-nearest-requires Inv-loop μ-loop
-nearest-requires c κs = search needs
+nearest-distance-requires : tie.Need-nearest-distance-requires Inv-loop μ-loop
+nearest-distance-requires c κs = near-asks _ _ _ (c .before .before .before .before .before .before .pre .0) (c .before .before .loop .k) (omega (arith, c .before .loop-test)) _ (c .colour .ensures)
 
 float-to-float-total : tie.Need-float-to-float-total Inv-loop μ-loop
 float-to-float-total c =
     let z = c .before .before .before .before .before .before .before .before in
     let v = c .before .before .before .before .loop in
-    near-widens _ _ _ (z .pre .0) (v .k) (omega arith) _ _ (c .before .before .colour .ensures) (c .before .nearest .ensures)
+    near-widens _ _ _ (z .pre .0) (v .k) (omega arith) _ _ (c .before .before .colour .ensures) (c .before .nearest-distance .ensures)
 
 mul-total : tie.Need-mul-total Inv-loop μ-loop
 mul-total c = omega arith
@@ -63,7 +63,7 @@ loop-again : tie.Need-loop-again Inv-loop μ-loop
 loop-again c =
     let z = c .before .before .before .before .before .before .before .before .before .before .before in
     let v = c .before .before .before .before .before .before .before .loop in
-    (omega arith, (omega (arith, z .pre .0 .high (v .k) (omega arith)), tally-step _ _ _ _ _ _ _ _ _ (v .inv .1 .1) (c .before .before .before .before .before .colour .ensures) (c .before .before .before .before .nearest .ensures)))
+    (omega arith, (omega (arith, z .pre .0 .high (v .k) (omega arith)), tally-step _ _ _ _ _ _ _ _ _ (v .inv .1 .1) (c .before .before .before .before .before .colour .ensures) (c .before .before .before .before .nearest-distance .ensures)))
 
 returns : tie.Need-returns Inv-loop μ-loop
 returns c = c .before .loop .inv .1 .1 ∙ ap (tileTally _ _ _ _) (omega arith)
@@ -76,7 +76,7 @@ tile-tally-spec =
     μ-loop
     loop-holds
     colour-requires
-    nearest-requires
+    nearest-distance-requires
     float-to-float-total
     mul-total
     shared-slice-read-total

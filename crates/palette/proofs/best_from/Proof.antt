@@ -12,8 +12,8 @@ use lib.Ieee.{binary32}
 use Rattle.ieee.specs.Goods.{count-exact}
 use Rattle.choice.specs.Leading.{Leading, lead-skips}
 use Rattle.palette.specs.Palette.{paletteWith, tileWith, totalOf, distAt}
-use Rattle.palette.proofs.Steps.{total-step}
-use Rattle.palette.proofs.Turns.{part-asks, turn-start, turn-left, turn-reached, turn-end}
+use Rattle.palette.proofs.Steps.{total-step, walk-asks}
+use Rattle.palette.proofs.Turns.{part-asks, turn-asks, turn-start, turn-left, turn-reached, turn-end}
 use Rattle.palette.proofs.best_from.Statement.{statement}
 use Rattle.palette.proofs.best_from.Tie as tie
 
@@ -37,7 +37,7 @@ part-requires : tie.Need-part-requires Inv-loop μ-loop Inv-subs μ-subs
 part-requires c κs = let z = c .before .before .before in part-asks _ _ _ (z .pre .0) (z .args .hint) (z .args .hint) (z .pre .1 .1)
 
 tile-distance-requires : tie.Need-tile-distance-requires Inv-loop μ-loop Inv-subs μ-subs
-tile-distance-requires c κs = let z = c .before .before .before .before in (z .pre .0 .tile .three, z .pre .0 .tile .high)
+tile-distance-requires c κs = let z = c .before .before .before .before in turn-asks _ _ _ (z .pre .0) (z .args .hint) (z .args .hint) (z .pre .1 .1) _ (c .part .ensures)
 
 subs-holds : tie.Need-subs-holds Inv-loop μ-loop Inv-subs μ-subs
 subs-holds c = let z = c .before .before .before .before .before in (omega arith, turn-start _ _ _ (z .pre .0) _ (z .pre .1 .1) _ (c .before .part .ensures) _ (c .tile-distance .ensures))
@@ -61,8 +61,11 @@ loop-holds c = (refl, (omega arith, (refl, λ h. absurd (none h))))
 colour-requires : tie.Need-colour-requires Inv-loop μ-loop Inv-subs μ-subs
 colour-requires c κs = omega arith
 
-nearest-requires : tie.Need-nearest-requires Inv-loop μ-loop Inv-subs μ-subs
-nearest-requires c κs = search needs
+nearest-distance-requires : tie.Need-nearest-distance-requires Inv-loop μ-loop Inv-subs μ-subs
+nearest-distance-requires c κs =
+    let z = c .before .before .before .before .before .before .before .before .before .before .before .before in
+    let o = c .before .before .before .before .before .before in
+    walk-asks _ _ _ (turn-asks _ _ _ (z .pre .0) (z .args .hint) (o .subs .i) (omega (arith, c .before .before .before .before .before .subs-test)) _ (c .before .before .before .part2 .ensures)) (c .before .before .loop .k) (omega (arith, c .before .loop-test)) _ (c .colour .ensures)
 
 mul-sum : tie.Need-mul-sum Inv-loop μ-loop Inv-subs μ-subs
 mul-sum c = omega (arith, c .before .before .before .before .before .before .before .before .before .before .before .before .before .good .1 .1 .1 .1 .1 .0 .1)
@@ -81,27 +84,27 @@ subs-less-2 c = omega arith
 
 subs-again-2 : tie.Need-subs-again-2 Inv-loop μ-loop Inv-subs μ-subs
 subs-again-2 c =
-    let z = c .before .before .before .before .before .before .before .before .before .before .before .before .before .before .before .before .before in
-    let o = c .before .before .before .before .before .before .before .before .before .before .before in
-    let v = c .before .before .before .before .before .before .before in
-    turn-left _ _ _ (z .pre .0) _ (omega (arith, z .fits .n)) _ (o .subs .i) (o .subs .inv .1) (omega (arith, c .before .before .before .before .before .before .before .before .before .before .subs-test)) _ (c .before .before .before .before .before .before .before .before .part2 .ensures) (v .loop .i) (v .loop .inv .0) (v .loop .k) (omega (arith, c .before .before .before .before .before .before .loop-test)) _
-    (total-step _ _ _ _ _ _ _ (v .loop .inv .1 .1 .0) (c .before .before .before .before .before .colour .ensures) (c .before .before .before .before .nearest .ensures))
+    let z = c .before .before .before .before .before .before .before .before .before .before .before .before .before .before .before .before in
+    let o = c .before .before .before .before .before .before .before .before .before .before in
+    let v = c .before .before .before .before .before .before in
+    turn-left _ _ _ (z .pre .0) _ (omega (arith, z .fits .n)) _ (o .subs .i) (o .subs .inv .1) (omega (arith, c .before .before .before .before .before .before .before .before .before .subs-test)) _ (c .before .before .before .before .before .before .before .part2 .ensures) (v .loop .i) (v .loop .inv .0) (v .loop .k) (omega (arith, c .before .before .before .before .before .loop-test)) _
+    (total-step _ _ _ _ _ _ _ (v .loop .inv .1 .1 .0) (c .before .before .before .before .colour .ensures) (c .before .before .before .nearest-distance .ensures))
     (⊎-elim (λ y. over-by-first _ _ _ false (y .taken)) (λ y. over-by-second _ _ _ _ (⊎-elim (λ u. half-asked _ _ _ _ (u .0 .taken) (u .1)) (λ u. half-not _ _ _ _ (u .0 .left) (u .1)) (y .1 .came)) (y .2 .taken)) (c .if2 .came))
 
 add-k : tie.Need-add-k Inv-loop μ-loop Inv-subs μ-subs
-add-k c = omega (arith, c .before .before .before .before .before .before .before .before .before .before .before .before .before .before .before .before .before .before .before .good .1 .1 .1 .1 .1 .0 .0)
+add-k c = omega (arith, c .before .before .before .before .before .before .before .before .before .before .before .before .before .before .before .before .before .before .good .1 .1 .1 .1 .1 .0 .0)
 
 loop-less : tie.Need-loop-less Inv-loop μ-loop Inv-subs μ-subs
 loop-less c = omega arith
 
 loop-again : tie.Need-loop-again Inv-loop μ-loop Inv-subs μ-subs
 loop-again c =
-    let v = c .before .before .before .before .before .before .before .before .before in (
+    let v = c .before .before .before .before .before .before .before .before in (
       v .loop .inv .0,
       (
         omega arith,
         (
-          total-step _ _ _ _ _ _ _ (v .loop .inv .1 .1 .0) (c .before .before .before .before .before .before .before .colour .ensures) (c .before .before .before .before .before .before .nearest .ensures),
+          total-step _ _ _ _ _ _ _ (v .loop .inv .1 .1 .0) (c .before .before .before .before .before .before .colour .ensures) (c .before .before .before .before .before .nearest-distance .ensures),
           λ h. over-by-none _ _ _ _ (c .before .before .if2 .left) (⊎-elim (λ u. half-asked _ _ _ _ (u .0 .taken) (u .1)) (λ u. half-not _ _ _ _ (u .0 .left) (u .1)) (c .before .if3 .came)) (c .if4 .left),
         ),
       ),
@@ -141,7 +144,7 @@ best-from-spec =
     part-requires-2
     loop-holds
     colour-requires
-    nearest-requires
+    nearest-distance-requires
     mul-sum
     shared-slice-read-sum
     int-to-float-sum

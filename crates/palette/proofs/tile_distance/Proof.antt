@@ -6,7 +6,7 @@ use borrow.Author.Needs.{needs}
 use lib.Ieee.{binary32}
 use Rattle.ieee.specs.Goods.{count-exact}
 use Rattle.palette.specs.Palette.{tileWith, totalOf}
-use Rattle.palette.proofs.Steps.{total-step}
+use Rattle.palette.proofs.Steps.{total-step, walk-asks}
 use Rattle.palette.proofs.tile_distance.Statement.{statement}
 use Rattle.palette.proofs.tile_distance.Tie as tie
 
@@ -23,8 +23,8 @@ loop-holds c = (omega arith, refl)
 colour-requires : tie.Need-colour-requires Inv-loop μ-loop
 colour-requires c κs = omega arith
 
-nearest-requires : tie.Need-nearest-requires Inv-loop μ-loop
-nearest-requires c κs = search needs
+nearest-distance-requires : tie.Need-nearest-distance-requires Inv-loop μ-loop
+nearest-distance-requires c κs = walk-asks _ _ _ (c .before .before .before .before .before .before .pre) (c .before .before .loop .k) (omega (arith, c .before .loop-test)) _ (c .colour .ensures)
 
 mul-sum : tie.Need-mul-sum Inv-loop μ-loop
 mul-sum c = omega arith
@@ -34,7 +34,7 @@ shared-slice-read-sum c = omega arith
 
 int-to-float-sum : tie.Need-int-to-float-sum Inv-loop μ-loop
 int-to-float-sum c =
-    count-exact binary32 _ (c .before .before .before .before .before .before .before .before .before .pre .1 (c .before .before .before .before .before .loop .k) (omega arith))
+    count-exact binary32 _ (c .before .before .before .before .before .before .before .before .before .pre .tile .high (c .before .before .before .before .before .loop .k) (omega arith))
 
 add-k : tie.Need-add-k Inv-loop μ-loop
 add-k c = omega arith
@@ -45,7 +45,7 @@ loop-less c = omega arith
 loop-again : tie.Need-loop-again Inv-loop μ-loop
 loop-again c = (
   omega arith,
-  total-step _ _ _ _ _ _ _ (c .before .before .before .before .before .before .loop .inv .1) (c .before .before .before .before .colour .ensures) (c .before .before .before .nearest .ensures),
+  total-step _ _ _ _ _ _ _ (c .before .before .before .before .before .loop .inv .1) (c .before .before .before .colour .ensures) (c .before .before .nearest-distance .ensures),
 )
 
 returns : tie.Need-returns Inv-loop μ-loop
@@ -59,7 +59,7 @@ tile-distance-spec =
     μ-loop
     loop-holds
     colour-requires
-    nearest-requires
+    nearest-distance-requires
     mul-sum
     shared-slice-read-sum
     int-to-float-sum

@@ -6,6 +6,7 @@ use borrow.Author.Needs.{needs}
 use lib.Ieee.{ofBits, div}
 use Rattle.choice.specs.Runner.{Runner}
 use Rattle.palette.specs.Palette.{paletteWith, tileWith, distAt}
+use Rattle.palette.proofs.Turns.{turn-asks}
 use Rattle.palette_two.proofs.Walks.{part-asks, turn-start, turn-skips, turn-walks, turn-over, turn-weighs, turn-end}
 use Rattle.palette_two.proofs.best_two_from.Statement.{statement}
 use Rattle.palette_two.proofs.best_two_from.Tie as tie
@@ -20,7 +21,7 @@ part-requires : tie.Need-part-requires Inv-loop μ-loop
 part-requires c κs = let z = c .before .before .before in part-asks _ _ _ (z .pre .0) _ (z .pre .1) (omega (arith, z .fits .n)) (z .args .hint) (z .pre .1)
 
 tile-distance-requires : tie.Need-tile-distance-requires Inv-loop μ-loop
-tile-distance-requires c κs = let z = c .before .before .before .before in (z .pre .0 .tile .three, z .pre .0 .tile .high)
+tile-distance-requires c κs = let z = c .before .before .before .before in turn-asks _ _ _ (z .pre .0) (z .args .hint) (z .args .hint) (z .pre .1) _ (c .part .ensures)
 
 loop-holds : tie.Need-loop-holds Inv-loop μ-loop
 unfolding ofBits div

@@ -9,7 +9,7 @@ use lib.Dec.{T}
 use lib.Ieee.{binary32, lt}
 use Rattle.ieee.specs.Goods.{count-exact}
 use Rattle.palette.specs.Palette.{tileWith, totalOf}
-use Rattle.palette.proofs.Steps.{total-step}
+use Rattle.palette.proofs.Steps.{total-step, walk-asks}
 use Rattle.palette_two.proofs.Walks.{none-over, over-already, not-over}
 use Rattle.palette_two.proofs.distance_within.Statement.{statement}
 use Rattle.palette_two.proofs.distance_within.Tie as tie
@@ -27,8 +27,10 @@ loop-holds c = (omega arith, (refl, none-over _ (c .before .before .before .pre 
 colour-requires : tie.Need-colour-requires Inv-loop μ-loop
 colour-requires c κs = omega arith
 
-nearest-requires : tie.Need-nearest-requires Inv-loop μ-loop
-nearest-requires c κs = search needs
+nearest-distance-requires : tie.Need-nearest-distance-requires Inv-loop μ-loop
+nearest-distance-requires c κs =
+    let z = c .before .before .before .before .before .before in
+    walk-asks _ _ _ (record { sub = z .pre .sub; tile = z .pre .tile; weight = z .pre .weight }) (c .before .before .loop .k) (omega (arith, c .before .loop-test)) _ (c .colour .ensures)
 
 mul-sum : tie.Need-mul-sum Inv-loop μ-loop
 mul-sum c = omega arith
@@ -42,10 +44,10 @@ int-to-float-sum c =
 
 returns : tie.Need-returns Inv-loop μ-loop
 returns c =
-    let z = c .before .before .before .before .before .before .before .before .before .before .before in
-    let v = c .before .before .before .before .before .before .before in
+    let z = c .before .before .before .before .before .before .before .before .before .before in
+    let v = c .before .before .before .before .before .before in
     over-already _ _ _ _ (z .pre) (subst T (sym (z .good .1 .1 .1 .1 .0 .1)) tt) (v .loop .k) (omega arith) _
-    (total-step _ _ _ _ _ _ _ (v .loop .inv .1 .0) (c .before .before .before .before .before .colour .ensures) (c .before .before .before .before .nearest .ensures)) (c .if1 .taken)
+    (total-step _ _ _ _ _ _ _ (v .loop .inv .1 .0) (c .before .before .before .before .colour .ensures) (c .before .before .before .nearest-distance .ensures)) (c .if1 .taken)
 
 add-k : tie.Need-add-k Inv-loop μ-loop
 add-k c = omega arith
@@ -55,9 +57,9 @@ loop-less c = omega arith
 
 loop-again : tie.Need-loop-again Inv-loop μ-loop
 loop-again c =
-    let v = c .before .before .before .before .before .before .before in (
+    let v = c .before .before .before .before .before .before in (
       omega arith,
-      (total-step _ _ _ _ _ _ _ (v .loop .inv .1 .0) (c .before .before .before .before .before .colour .ensures) (c .before .before .before .before .nearest .ensures), c .if1 .left),
+      (total-step _ _ _ _ _ _ _ (v .loop .inv .1 .0) (c .before .before .before .before .colour .ensures) (c .before .before .before .nearest-distance .ensures), c .if1 .left),
     )
 
 returns-2 : tie.Need-returns-2 Inv-loop μ-loop
@@ -71,7 +73,7 @@ distance-within-spec =
     μ-loop
     loop-holds
     colour-requires
-    nearest-requires
+    nearest-distance-requires
     mul-sum
     shared-slice-read-sum
     int-to-float-sum
