@@ -1,1 +1,1 @@
-pub mod Fills
+mod Answers

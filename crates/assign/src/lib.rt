@@ -2,80 +2,7 @@
 // It first asks for the number of the first rule broken, over shared slices, so that a refusal writes nothing.
 ghost use mathlib.Core.Path.{_≡_};
 ghost use Rattle.job.specs.Job.{job, tileSize};
-ghost use Rattle.assign.specs.Assign.{held, outcome, assignStep, assigned, roomFor, assignAnswer, assignDef, Ready, Turn};
-
-// Writes tile i's subpalette, and its hint where it is not empty.
-fn assign_tile(
-    s: usize,
-    c: usize,
-    t: usize,
-    weight: f32,
-    tiles: &[u32],
-    colours: &[f32],
-    counts: &[u32],
-    palette: &[f32],
-    hints: &mut [u32],
-    out: &mut [u32],
-    i: usize,
-)
-    requires { ⌜ Turn (job s c t weight (now tiles) (now colours) (now counts)) (now palette) (held (now hints) (now out)) i ⌝ }
-    ensures { λ r. ⌜ held (now (hints .exit)) (now (out .exit)) ≡ assignStep (job s c t weight (now (tiles .entry)) (now (colours .entry)) (now (counts .entry))) (now (palette .entry)) i (held (now (hints .entry)) (now (out .entry))) ⌝ }
-{
-    if job::is_empty(tiles, i) {
-        out[i] = 0;
-        return;
-    }
-    let best = palette_tile::tile_fit(
-        s,
-        c,
-        t,
-        weight,
-        tiles,
-        colours,
-        counts,
-        palette,
-        s,
-        c,
-        hints,
-        i,
-    );
-    let sub = best.index as u32;
-    out[i] = sub;
-}
-
-fn assign_tiles(
-    s: usize,
-    c: usize,
-    t: usize,
-    weight: f32,
-    tiles: &[u32],
-    colours: &[f32],
-    counts: &[u32],
-    palette: &[f32],
-    hints: &mut [u32],
-    out: &mut [u32],
-)
-    requires { ⌜ Ready (job s c t weight (now tiles) (now colours) (now counts)) (now palette) (held (now hints) (now out)) ⌝ }
-    ensures { λ r. ⌜ held (now (hints .exit)) (now (out .exit)) ≡ assigned (job s c t weight (now (tiles .entry)) (now (colours .entry)) (now (counts .entry))) (now (palette .entry)) (held (now (hints .entry)) (now (out .entry))) t ⌝ }
-{
-    let mut i = 0usize;
-    while i < t {
-        assign_tile(
-            s,
-            c,
-            t,
-            weight,
-            tiles,
-            colours,
-            counts,
-            palette,
-            hints,
-            out,
-            i,
-        );
-        i += 1;
-    }
-}
+ghost use Rattle.assign.specs.Assign.{held, outcome, roomFor, assignAnswer, assignDef};
 
 // Whether both lent slices have a place for each tile.
 fn has_room(t: usize, hints: usize, out: usize) -> bool
@@ -138,6 +65,6 @@ pub fn assign(
     if number != 0 {
         return number;
     }
-    assign_tiles(s, c, t, weight, tiles, colours, counts, palette, hints, out);
+    assign_tiles::assign_tiles(s, c, t, weight, tiles, colours, counts, palette, hints, out);
     0
 }

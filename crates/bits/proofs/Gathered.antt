@@ -1,8 +1,7 @@
 -- The number of some bytes, byte by byte, and a field of it. Assumes nothing.
-use mathlib.Core.Path.{_≡_, refl, sym, ap, ap₂, _∙_, subst}
+use mathlib.Core.Path.{_≡_, refl, sym, ap, _∙_}
 use Prim.Native.Nat.{ℕ, zero, suc, _+_, _-_, _*_, _/_, _%_, _^_, _≤_, _<_}
-use native.Mathlib.Nat.{one-mul, lt-of-lt-of-le, mod-lt}
-use native.Mathlib.Numerals.{add-one}
+use native.Mathlib.Nat.{one-mul, lt-of-lt-of-le}
 use native.Mathlib.Omega.{arith}
 use mathlib.Core.Bool.{Bool}
 use mathlib.Core.List.{List, [], _∷_, _++_}
@@ -10,7 +9,7 @@ use lib.Dec.{lit<}
 use lib.Pow.{pow-mono, pow-pos, shl-exact}
 use lib.ListN.{length, getD, take, drop, length-drop}
 use lib.Seq.{take-suc, getD-drop, drop-drop, take-take, length-take-le}
-use Rattle.bits.specs.Bits.{bitsOf, num, bits, fieldAt}
+use Rattle.bits.specs.Bits.{num, bits, fieldAt}
 use Rattle.bits.specs.Numbers.{num-append, num-bitsOf, num-lt, num-part}
 use Rattle.bits.specs.Bytes.{length-bits, bits-append, bits-take, bits-drop}
 

@@ -1,17 +1,17 @@
 -- A number's bytes stored one after another, and a field written into the bytes that it touches. Assumes nothing.
-use mathlib.Core.Path.{_≡_, refl, sym, ap, ap₂, _∙_, subst}
-use Prim.Native.Nat.{ℕ, zero, suc, _+_, _-_, _*_, _/_, _%_, _^_, _≤_, _<_}
-use native.Mathlib.Nat.{add-zero, mod-lt, lt-of-lt-of-le, sub-self}
+use mathlib.Core.Path.{_≡_, sym, ap, ap₂, _∙_, subst}
+use Prim.Native.Nat.{ℕ, _+_, _-_, _*_, _/_, _%_, _^_, _≤_, _<_}
+use native.Mathlib.Nat.{mod-lt, lt-of-lt-of-le}
 use native.Mathlib.Omega.{arith}
 use mathlib.Core.Bool.{Bool}
-use mathlib.Core.List.{List, [], _∷_, _++_, append-assoc}
+use mathlib.Core.List.{List, [], _++_}
 use lib.Pow.{pow-pos, pow-mono, shl-lt, shl-exact}
 use lib.ListN.{length, take, drop, set, length-append, length-drop, take-append-drop}
 use lib.Seq.{sets, sets-eq, length-sets, length-take-le, take-add, drop-at}
 use Rattle.bits.specs.Bits.{bitsOf, num, bits, fieldAt, written}
 use Rattle.bits.specs.Numbers.{length-bitsOf, num-lt, bitsOf-num, bitsOf-mod, bitsOf-append, bitsOf-joined}
-use Rattle.bits.specs.Bytes.{length-bits, bits-set}
-use Rattle.bits.specs.Fields.{field-lt, sets-append, written-sets}
+use Rattle.bits.specs.Bytes.{bits-set}
+use Rattle.bits.specs.Fields.{sets-append, written-sets}
 use Rattle.bits.proofs.Gathered.{one-shl}
 
 -- ---- byte j of x stored: what is left to store gives the whole g

@@ -1,14 +1,12 @@
 -- Laws of the bits of bytes: their number, and parts of them. Assumes nothing.
 use mathlib.Core.Path.{_≡_, refl, sym, ap, _∙_}
-use Prim.Native.Nat.{ℕ, zero, suc, _+_, _*_, _≤_, _<_}
-use native.Mathlib.Nat.{mul-suc, add-comm}
+use Prim.Native.Nat.{ℕ, zero, suc, _+_, _*_, _<_}
 use native.Mathlib.Omega.{arith}
 use mathlib.Core.Bool.{Bool}
 use mathlib.Core.List.{List, [], _∷_, _++_, append-assoc}
-use lib.ListN.{length, take, drop, set, length-append, length-drop}
-use lib.Seq.{take-append-add, drop-append-add, take-nil, drop-nil, set-split, length-take-le, sets, sets-eq}
+use lib.ListN.{length, take, drop, set, length-append}
+use lib.Seq.{take-append-add, drop-append-add, take-nil, drop-nil, set-split, sets, sets-eq}
 use Rattle.bits.specs.Bits.{bitsOf, bits}
-use Rattle.bits.specs.Numbers.{length-bitsOf}
 
 pub length-bits : (s : List ℕ) → length (bits s) ≡ 8 * length s
 length-bits [] = refl

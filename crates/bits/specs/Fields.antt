@@ -1,6 +1,6 @@
 -- Laws of fields: how large one can be, and a written field as stores. Assumes nothing.
-use mathlib.Core.Path.{_≡_, refl, sym, ap, _∙_}
-use Prim.Native.Nat.{ℕ, zero, suc, _+_, _*_, _^_, _≤_, _<_}
+use mathlib.Core.Path.{_≡_, sym, ap, _∙_}
+use Prim.Native.Nat.{ℕ, suc, _+_, _^_, _≤_, _<_}
 use native.Mathlib.Nat.{add-zero, suc-add, add-suc, lt-of-lt-of-le}
 use native.Mathlib.Omega.{arith}
 use mathlib.Core.Bool.{Bool}
@@ -8,7 +8,7 @@ use mathlib.Core.List.{List, [], _∷_, _++_, append-assoc}
 use lib.Pow.{pow-mono}
 use lib.ListN.{length, take, drop, set, length-drop}
 use lib.Seq.{length-take-le, sets, sets-eq, length-sets}
-use Rattle.bits.specs.Bits.{bitsOf, num, written, fieldAt}
+use Rattle.bits.specs.Bits.{bitsOf, written, fieldAt}
 use Rattle.bits.specs.Numbers.{length-bitsOf, num-lt}
 
 pub field-lt : (l : List Bool) (p i k : ℕ) → p + i ≤ length l → i ≤ k → fieldAt l p i < 2 ^ k

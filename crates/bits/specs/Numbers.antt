@@ -1,13 +1,13 @@
 -- Laws of the bits of a number and of the number that bits spell: each undoes the other, and both go by parts. Assumes nothing.
 use mathlib.Core.Path.{_≡_, refl, sym, ap, ap₂, _∙_, subst}
-use Prim.Native.Nat.{ℕ, zero, suc, _+_, _*_, _/_, _%_, _^_, _≤_, _<_}
-use native.Mathlib.Nat.{add-comm, zero-add, suc-add, mul-assoc, pow-suc, div-one, div-div-eq-div-mul, div-add-mod', div-eq-of-lt, div-lt-iff-lt-mul, one-mul, lt-of-lt-of-le}
+use Prim.Native.Nat.{ℕ, zero, suc, _+_, _*_, _/_, _%_, _^_, _<_}
+use native.Mathlib.Nat.{add-comm, zero-add, suc-add, mul-assoc, pow-suc, div-one, div-div-eq-div-mul, div-add-mod', div-eq-of-lt, div-lt-iff-lt-mul, one-mul}
 use native.Mathlib.Omega.{arith}
 use mathlib.Core.Bool.{Bool, true, false}
 use mathlib.Core.List.{List, [], _∷_, _++_}
 use lib.Dec.{eqb}
-use lib.Pow.{pow-pos, pow-mono, pow-add, shr-shr, split, high, low}
-use lib.ListN.{length, take, drop, length-append, length-drop, take-append-drop}
+use lib.Pow.{pow-pos, shr-shr, split, high, low}
+use lib.ListN.{length, take, drop, length-drop, take-append-drop}
 use lib.Seq.{take-add, length-take-le}
 use borrow.Author.Tests.{eq-eqb, ne-eqb}
 use Rattle.bits.specs.Bits.{odd, val, bitsOf, numFrom, num}

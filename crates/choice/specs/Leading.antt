@@ -1,7 +1,7 @@
 -- A walk over 0 .. n - 1 that starts from any hint: what stands first so far, and that at the end it is `leastOf`, whatever the hint.
 -- Over any distances that are no NaN and have no sign. Assumes nothing.
-use Prim.Native.Nat.{ℕ, _+_, _*_, _≤_, _<_}
-use mathlib.Core.Path.{_≡_, refl, sym, ap, subst, subst⁻¹, _∙_}
+use Prim.Native.Nat.{ℕ, _+_, _≤_, _<_}
+use mathlib.Core.Path.{_≡_, refl, subst, subst⁻¹}
 use mathlib.Core.Bool.{true, false}
 use native.Mathlib.Nat.{le-trans, le-refl}
 use native.Mathlib.Omega.{arith}
@@ -9,7 +9,7 @@ use borrow.Author.Count.{below-none, below-more}
 use lib.Dec.{ltb}
 use lib.Ieee.{Float, binary32, lt}
 use Rattle.ieee.specs.Keys.{Good}
-use Rattle.ieee.specs.Ranks.{key32, rank, over, yes-lt, no-lt, over-rank, within-rank}
+use Rattle.ieee.specs.Ranks.{rank, over, yes-lt, no-lt, over-rank, within-rank}
 use Rattle.stats.specs.declared.Near.{Near}
 use Rattle.stats.specs.Stats.{leastOf}
 use Rattle.choice.specs.Choice.{Least}

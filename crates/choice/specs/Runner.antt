@@ -1,6 +1,6 @@
 -- The walk for the best two, from any hint: the first leads, and the second is the least of the others, infinity where there is none.
 -- At the end it is `leastTwo`, whatever the hint. Over any distances that are no NaN and have no sign. Assumes nothing.
-use Prim.Native.Nat.{ℕ, zero, suc, _+_, _-_, _*_, _≤_, _<_}
+use Prim.Native.Nat.{ℕ, zero, suc, _+_, _-_, _≤_, _<_}
 use mathlib.Core.Path.{_≡_, refl, sym, ap, subst, subst⁻¹, _∙_}
 use mathlib.Core.Bool.{Bool, true, false}
 use mathlib.Core.Logic.{_⊎_, inl, inr}
@@ -185,12 +185,12 @@ module _ (d : ℕ → Float) (n : ℕ) (G : (j : ℕ) → j < n → Good binary3
   scan-two zero h = first-run
   scan-two (suc m) h = subst (λ (k : ℕ). Runner d n 0 k (leastTwo d (suc (suc m)))) (add-one (suc m)) (next-run (suc m) (leastTwo d (suc m)) (scan-two m (omega arith)) h (omega arith))
 
-  whole : Runner d n 0 n (leastTwo d n)
-  whole = subst⁻¹ (λ (k : ℕ). Runner d n 0 k (leastTwo d k)) (one-more n H) (scan-two (n - 1) (omega arith))
+  pub run-whole : Runner d n 0 n (leastTwo d n)
+  run-whole = subst⁻¹ (λ (k : ℕ). Runner d n 0 k (leastTwo d k)) (one-more n H) (scan-two (n - 1) (omega arith))
     where
       one-more : (n : ℕ) → 0 < n → n ≡ suc (n - 1)
       one-more n h = omega arith
 
   -- whatever the hint
   pub run-end : (hint i : ℕ) (b : Two) → i ≤ n → n ≤ i → Runner d n hint i b → b ≡ leastTwo d n
-  run-end hint i b x y R = runner-unique d n G N hint 0 b (leastTwo d n) (subst (λ (j : ℕ). Runner d n hint j b) (le-antisymm x y) R) whole
+  run-end hint i b x y R = runner-unique d n G N hint 0 b (leastTwo d n) (subst (λ (j : ℕ). Runner d n hint j b) (le-antisymm x y) R) run-whole

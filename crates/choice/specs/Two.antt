@@ -1,9 +1,9 @@
 -- The least two: their first is `leastOf`, whatever the distances; and the least two of distances that agree. Assumes nothing.
 use Prim.Native.Nat.{ℕ, zero, suc, _≤_, _<_}
-use mathlib.Core.Path.{_≡_, refl, sym, ap, subst⁻¹, _∙_}
+use mathlib.Core.Path.{_≡_, refl, ap, subst⁻¹, _∙_}
 use mathlib.Core.Bool.{Bool, true, false}
 use native.Mathlib.Omega.{arith}
-use lib.Ieee.{Float, inf, lt}
+use lib.Ieee.{Float, lt}
 use Rattle.stats.specs.declared.Two.{Two}
 use Rattle.stats.specs.Stats.{pickNear, stepNear, leastOf, pickTwo, stepTwo, leastTwo}
 use Rattle.stats.specs.declared.Near.{Near}

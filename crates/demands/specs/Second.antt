@@ -27,9 +27,7 @@ use Rattle.palette.specs.Sums.{dist-good}
 use Rattle.palette_tile.specs.Tiles.{tileAt, presentIn, fitAt, winner, twoAt, Shown}
 use Rattle.palette_tile.specs.Present.{shown-present, tile-counted}
 use Rattle.fits.specs.Fits.{singleOutcome, pairOutcome, oneRules, oneAnswer, singleAnswer, singleDef, pairDef}
-use Rattle.fits.specs.declared.Single.{Single}
 use Rattle.fits.specs.declared.Single.the-variants as single
-use Rattle.fits.specs.declared.Pair.{Pair}
 use Rattle.fits.specs.declared.Pair.the-variants as pair
 pub use Rattle.fits.specs.Empty.{empty-one, empty-many}
 use Rattle.fits.specs.Shown.{shown, one-tile, one-plain}
@@ -73,6 +71,15 @@ module _ (J : Job) (palette : List Float) (n have : ℕ) (P : Shown J palette n 
   none-before-second = second-least (distances J palette n have t) n good (P .subs) (omega (arith, P .most, P .ready .sizes .few))
 
 -- ---- the single fit and best_two
+-- an answer that goes by the hints' number alone is one answer, whatever the hints and what is left in them
+any-hint : {R O : Type 0} (make : R → List ℕ → O) (told : O → R) → ((r : R) (x : List ℕ) → told (make r x) ≡ r) → (number : ℕ → ℕ) (best : R) (refusal : ℕ → R) (left : List ℕ → List ℕ) (h k : List ℕ) → length h ≡ length k
+    → told (cond (eqb (number (length h)) 0) (make best (left h)) (make (refusal (number (length h))) h)) ≡ told (cond (eqb (number (length k)) 0) (make best (left k)) (make (refusal (number (length k))) k))
+any-hint {R} make told same number best refusal left h k e = by h (eqb (number (length h)) 0) ∙ ap (λ (n : ℕ). cond (eqb (number n) 0) best (refusal (number n))) e ∙ sym (by k (eqb (number (length k)) 0))
+  where
+    by : (x : List ℕ) (t : Bool) → told (cond t (make best (left x)) (make (refusal (number (length x))) x)) ≡ cond t best (refusal (number (length x)))
+    by x true = same best (left x)
+    by x false = same (refusal (number (length x))) x
+
 module _ (size : ℕ) (small : size ≤ 256) (J : Job) (palette : List Float) where
   -- a tile that passed is answered with its choice, which becomes its hint
   pub single-chooses : (hints : List ℕ) → singleAnswer size J palette (length hints) ≡ 0
@@ -98,30 +105,12 @@ module _ (size : ℕ) (small : size ≤ 256) (J : Job) (palette : List Float) wh
 
   -- whatever the hint: any two give one answer
   pub single-any-hint : (h k : List ℕ) → length h ≡ length k → singleDef size J palette h .answer ≡ singleDef size J palette k .answer
-  single-any-hint h k e = told h ∙ ap given e ∙ sym (told k)
-    where
-      given : ℕ → Single
-      given n = cond (eqb (singleAnswer size J palette n) 0) (single.Best (fitAt J palette (J .S) (J .C) 0)) (single.Refused (singleAnswer size J palette n))
-
-      by : (t : Bool) (r s : Single) (x y : List ℕ) → cond t (singleOutcome r x) (singleOutcome s y) .answer ≡ cond t r s
-      by true r s x y = refl
-      by false r s x y = refl
-
-      told : (x : List ℕ) → singleDef size J palette x .answer ≡ given (length x)
-      told x = unfold singleDef in by (eqb (singleAnswer size J palette (length x)) 0) _ _ _ _
+  unfolding singleDef
+  single-any-hint = any-hint singleOutcome (λ o. o .answer) (λ r x. refl) (singleAnswer size J palette) (single.Best (fitAt J palette (J .S) (J .C) 0)) single.Refused (λ x. set x 0 (winner J palette (J .S) (J .C) 0))
 
   pub pair-any-hint : (h k : List ℕ) → length h ≡ length k → pairDef size J palette h .answer ≡ pairDef size J palette k .answer
-  pair-any-hint h k e = told h ∙ ap given e ∙ sym (told k)
-    where
-      given : ℕ → Pair
-      given n = cond (eqb (oneAnswer size J palette n) 0) (pair.Best (twoAt J palette (J .S) (J .C) 0)) (pair.Refused (oneAnswer size J palette n))
-
-      by : (t : Bool) (r s : Pair) (x y : List ℕ) → cond t (pairOutcome r x) (pairOutcome s y) .answer ≡ cond t r s
-      by true r s x y = refl
-      by false r s x y = refl
-
-      told : (x : List ℕ) → pairDef size J palette x .answer ≡ given (length x)
-      told x = unfold pairDef in by (eqb (oneAnswer size J palette (length x)) 0) _ _ _ _
+  unfolding pairDef
+  pair-any-hint = any-hint pairOutcome (λ o. o .answer) (λ r x. refl) (oneAnswer size J palette) (pair.Best (twoAt J palette (J .S) (J .C) 0)) pair.Refused (λ x. set x 0 (twoAt J palette (J .S) (J .C) 0 .index))
 
   -- an empty tile, where all else passed: the single fit answers 15, and best_two as `empty-one` and `empty-many` say
   pub single-empty : (hints : List ℕ) → oneAnswer size J palette (length hints) ≡ 0 → isEmpty J 0 ≡ true → singleAnswer size J palette (length hints) ≡ 15

@@ -14,10 +14,10 @@ use Rattle.cycle.specs.Tenths.{tenth-is}
 use Rattle.quantizer.specs.Course.{Course, b}
 use Rattle.stages.specs.State.{draws}
 use Rattle.stages.specs.Stages.{advance}
-use Rattle.stages.specs.Calls.{Memory, stateOf, outcome, advanceAnswer, advanceCall}
+use Rattle.stages.specs.Calls.{Memory, stateOf, outcome, startAnswer, startCall, advanceAnswer, advanceCall}
 use Rattle.stages.specs.History.{Run}
 use Rattle.calls.specs.Accepted.{Accepted}
-use Rattle.calls.specs.Next.{advance-split, call-draws}
+use Rattle.calls.specs.Next.{advance-split, call-draws, start-straight}
 use Rattle.calls.specs.Follow.{run-made, run-samples, run-waits, run-accepted, run-end}
 use Rattle.demands.specs.Prefixes.{take-firsts}
 
@@ -53,6 +53,10 @@ pub any-size : (size : ℕ) → size ≤ 256 → (K : Course) (m : Memory) (a c 
     → advanceCall size K m (a + c)
     ≡ outcome 0 (advanceCall size K m a .drew + advanceCall size K (advanceCall size K m a .after) c .drew) (advanceCall size K (advanceCall size K m a .after) c .after)
 any-size = advance-split
+
+-- with fewer than ten samples there are none: the start goes straight to the first stop
+pub straight : (size : ℕ) → size ≤ 256 → (K : Course) → b K ≡ 0 → (m : Memory) (seed : ℕ) → startAnswer size K m ≡ 0 → getD (startCall size K m seed .after .words) 1 0 ≡ 3
+straight = start-straight
 
 -- the draws that a call reports are those that its record has more, in refused calls too
 pub reported : (size : ℕ) → size ≤ 256 → (K : Course) (m : Memory) (a : ℕ) → getD (advanceCall size K m a .after .words) 4 0 ≡ getD (m .words) 4 0 + advanceCall size K m a .drew

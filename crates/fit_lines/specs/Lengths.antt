@@ -1,5 +1,5 @@
 -- How long the lines are, at most. Assumes nothing.
-use mathlib.Core.Path.{_≡_, refl, sym, ap, _∙_}
+use mathlib.Core.Path.{_≡_, refl, _∙_}
 use Prim.Native.Nat.{ℕ, zero, suc, _+_, _/_, _%_, _≤_}
 use native.Mathlib.Omega.{arith}
 use mathlib.Core.Bool.{Bool, true, false, cond}
@@ -7,7 +7,7 @@ use mathlib.Core.List.{List, [], _∷_, _++_}
 use lib.Dec.{ltb}
 use lib.ListN.{length, length-append}
 use Rattle.io.specs.Digits.{digits, glyph}
-use Rattle.fit_lines.specs.Lines.{widthOf, decimal, headLine, tileLine, loadLine, refusedLine}
+use Rattle.fit_lines.specs.Lines.{widthOf, decimal}
 
 pub length-digits : (b k n : ℕ) → length (digits b k n) ≡ k
 length-digits b zero n = refl

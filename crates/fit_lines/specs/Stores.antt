@@ -1,9 +1,9 @@
 -- Two stores, the second behind the first, are one. Assumes nothing.
-use mathlib.Core.Path.{_≡_, sym, ap₂, _∙_}
+use mathlib.Core.Path.{sym, ap₂, _∙_}
 use Prim.Native.Nat.{ℕ, _+_}
 use native.Mathlib.Omega.{arith}
 use mathlib.Core.List.{List, _++_}
-use lib.ListN.{length, length-append}
+use lib.ListN.{length-append}
 use lib.Seq.{sets}
 use Rattle.bits.specs.Fields.{sets-append}
 use Rattle.fit_lines.specs.Lines.{Stored}

@@ -1,12 +1,12 @@
 -- One tile more: its line, its load, and its answer where it is empty and where it is not. Assumes nothing.
 use mathlib.Core.Path.{_≡_, refl, sym, ap, ap₂, _∙_}
-use Prim.Native.Nat.{ℕ, zero, suc, _+_, _*_, _≤_, _<_}
+use Prim.Native.Nat.{ℕ, zero, suc, _+_, _≤_, _<_}
 use native.Mathlib.Omega.{arith}
 use native.Mathlib.Numerals.{add-one}
 use mathlib.Core.Bool.{Bool, true, false, cond, not, true≢false}
 use mathlib.Core.List.{List, [], _++_}
 use lib.Dec.{T, eqb}
-use lib.ListN.{length, getD, set, replicate, length-append}
+use lib.ListN.{length, getD, set, replicate}
 use lib.Seq.{sets, getD-set-same, getD-set-other}
 use lib.Ieee.{Float, binary32, toBits, isNan}
 use borrow.Author.Tests.{eqb-true, eqb-false}
@@ -14,7 +14,6 @@ use Rattle.lists.specs.Count.{hit, count}
 use Rattle.lists.specs.Counting.{hit-same, hit-other}
 use Rattle.lists.specs.Firsts.{firsts, hits}
 use Rattle.lists.specs.Hits.{hits-suc}
-use Rattle.ieee.specs.Keys.{Good}
 use Rattle.ieee.specs.Plus.{plus-real}
 use Rattle.assign.specs.Assign.{subpaletteOf}
 use Rattle.choice.specs.Scan.{least-good}
@@ -23,9 +22,7 @@ use Rattle.palette.specs.Palette.{distAt}
 use Rattle.palette.specs.Sums.{dist-good}
 use Rattle.palette_tile.specs.Tiles.{tileAt, presentIn, fitAt, winner, Shown}
 use Rattle.palette_tile.specs.Present.{shown-present, winner-below, tile-counted}
-use Rattle.io.specs.Digits.{digits}
-use Rattle.fit_lines.specs.Lines.{Stored, decimal, tileLine, loadLine, headLine, refusedLine, tileWord, subWord, distWord, lineEnd, loadWord, space, tilesWord, subpalettesWord, refusedWord}
-use Rattle.fit_lines.specs.Lengths.{field-most, length-digits}
+use Rattle.fit_lines.specs.Lines.{Stored, tileLine, loadLine, headLine}
 use Rattle.fit_lines.specs.Stores.{both-stored}
 use Rattle.fit_tiles.specs.Text.{distBits, tileLines, loadOf, loadLines, fitText}
 

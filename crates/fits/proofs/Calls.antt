@@ -1,7 +1,7 @@
--- What the checks of one tile answer, what a call that passed them may ask, and what it answers. Assumes nothing.
-use Prim.Native.Nat.{ℕ, suc, zero, _≤_, _<_}
-use mathlib.Core.Path.{_≡_, refl, sym, ap, _∙_}
-use mathlib.Core.Bool.{Bool, true, false, not, cond}
+-- What a call that passed the checks of one tile may ask, and what it answers. Assumes nothing.
+use Prim.Native.Nat.{ℕ, suc, zero, _≤_}
+use mathlib.Core.Path.{_≡_, refl, sym, _∙_}
+use mathlib.Core.Bool.{not, cond}
 use mathlib.Core.List.{List, [], _∷_}
 use native.Mathlib.Omega.{arith}
 use lib.Dec.{eqb}
@@ -11,9 +11,8 @@ use borrow.Author.Tests.{eqb-true, eq-eqb, ne-eqb}
 use Rattle.stats.specs.declared.Near.{Near}
 use Rattle.stats.specs.declared.Two.{Two}
 use Rattle.job.specs.Rules.{rule, answer, numbered}
-use Rattle.job.specs.Passing.{stops, goes, skips, fails, none, both-pass}
+use Rattle.job.specs.Passing.{both-pass}
 use Rattle.job.specs.Job.{Job, sizeOf, isEmpty}
-use Rattle.job.specs.Checks.{plainAnswer}
 use Rattle.palette_tile.specs.Tiles.{fitAt, twoAt, Paired, Fitted}
 use Rattle.fits.specs.declared.Single.the-variants.{Best as Fit, Refused as NoFit}
 use Rattle.fits.specs.declared.Pair.the-variants.{Best as Both, Refused as NoBoth}
@@ -21,43 +20,17 @@ use Rattle.fits.specs.Shown.{shown, one-tile, one-plain}
 use Rattle.fits.specs.Fits.{singleOutcome, pairOutcome, oneRules, oneAnswer, singleAnswer, singleDef, pairDef}
 
 module _ (size : ℕ) (J : Job) (palette : List Float) (n : ℕ) where
-  -- ---- what the checks answer
-  pub one-many : (J .T ≡ 1 → ⊥) → 2 ≡ oneAnswer size J palette n
-  unfolding oneAnswer
-  one-many h = fails _ _ _ (ne-eqb _ _ h)
+  module _ (a : ℕ) (e : a ≡ oneAnswer size J palette n) (z : a ≡ 0) where
+    answered : oneAnswer size J palette n ≡ 0
+    answered = sym e ∙ z
 
-  pub one-checked : J .T ≡ 1 → (r : ℕ) → r ≡ plainAnswer size J palette (eqb n (J .T)) → r ≡ oneAnswer size J palette n
-  unfolding oneAnswer plainAnswer
-  one-checked h r e = skips _ _ _ _ (eq-eqb _ _ h) e
-
-  module _ (a : ℕ) (e : a ≡ oneAnswer size J palette n) where
-    pub single-stops : (a ≡ 0 → ⊥) → a ≡ singleAnswer size J palette n
-    unfolding oneAnswer singleAnswer numbered
-    single-stops h = stops (oneRules size J palette n) _ a refl e h
-
-    module _ (z : a ≡ 0) where
-      answered : oneAnswer size J palette n ≡ 0
-      answered = sym e ∙ z
-
-      pub one-listed : 1 < length (J .tiles)
-      one-listed = omega (arith, one-tile size J palette n answered, one-plain size J palette n answered .ready .table)
-
-      pub one-paired : size ≤ 256 → (hints : List ℕ) → length hints ≡ n → Paired J palette (J .S) (J .C) hints 0
-      one-paired s hints l =
-          record {
-            shown = shown size J palette (eqb n (J .T)) s (one-plain size J palette n answered);
-            tile = omega (arith, one-tile size J palette n answered);
-            each = l ∙ eqb-true n (J .T) (one-plain size J palette n answered .roomy);
-          }
-
-      -- ---- the single fit's own rule
-      pub single-empty : (r : Bool) → r ≡ isEmpty J 0 → r ≡ true → 15 ≡ singleAnswer size J palette n
-      unfolding oneAnswer singleAnswer numbered
-      single-empty r f h = goes (oneRules size J palette n) _ a 15 refl e z (fails _ _ _ (ap not (sym f ∙ h)))
-
-      pub single-passes : (r : Bool) → r ≡ isEmpty J 0 → r ≡ false → 0 ≡ singleAnswer size J palette n
-      unfolding oneAnswer singleAnswer numbered
-      single-passes r f h = goes (oneRules size J palette n) _ a 0 refl e z (skips _ _ _ _ (ap not (sym f ∙ h)) none)
+    pub one-paired : size ≤ 256 → (hints : List ℕ) → length hints ≡ n → Paired J palette (J .S) (J .C) hints 0
+    one-paired s hints l =
+        record {
+          shown = shown size J palette (eqb n (J .T)) s (one-plain size J palette n answered);
+          tile = omega (arith, one-tile size J palette n answered);
+          each = l ∙ eqb-true n (J .T) (one-plain size J palette n answered .roomy);
+        }
 
   -- what an answer of 0 to the single fit gives
   module _ (a : ℕ) (e : a ≡ singleAnswer size J palette n) (z : a ≡ 0) where

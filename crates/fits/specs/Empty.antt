@@ -1,10 +1,9 @@
 -- `best_two` of an empty tile: subpalette 0 at distance 0, and 0 for the second or infinity where there is one subpalette; its hint becomes 0. Assumes nothing.
 use Prim.Native.Nat.{ℕ, _≤_}
-use mathlib.Core.Path.{_≡_, refl, sym, ap, _∙_}
+use mathlib.Core.Path.{_≡_, _∙_}
 use mathlib.Core.Bool.{true, false}
 use mathlib.Core.List.{List}
 use native.Mathlib.Omega.{arith}
-use lib.Dec.{eqb}
 use lib.Ieee.{Float, inf, binary32, ofBits}
 use lib.ListN.{length, set}
 use borrow.Author.Tests.{eqb-true, eq-eqb}

@@ -1,15 +1,15 @@
--- The single fit and `best_two` of a job of one tile, of at most `size` pixels: the number that a call gets, its answer, and the hints that it leaves.
+-- The single fit and `best_two` of a job of one tile, of at most `size` pixels: its answer, and the hints that it leaves.
 -- Definitions only. Assumes nothing.
 use Prim.Native.Nat.{ℕ}
-use mathlib.Core.Bool.{not, cond}
-use mathlib.Core.List.{List, [], _∷_, _++_}
+use mathlib.Core.Bool.{cond}
+use mathlib.Core.List.{List}
 use lib.Dec.{eqb}
 use lib.Ieee.{Float}
 use lib.ListN.{length, set}
-use Rattle.job.specs.Rules.{Rule, rule, answer}
-use Rattle.job.specs.Job.{Job, isEmpty}
-use Rattle.job.specs.Checks.{plainRules}
+use Rattle.job.specs.Job.{Job}
 use Rattle.palette_tile.specs.Tiles.{fitAt, twoAt}
+pub use Rattle.fits_check.specs.One.{oneRules}
+unfoldable pub use Rattle.fits_check.specs.One.{oneAnswer, singleAnswer}
 use Rattle.fits.specs.declared.Single.{Single}
 use Rattle.fits.specs.declared.Single.the-variants.{Best as Fit, Refused as NoFit}
 use Rattle.fits.specs.declared.Pair.{Pair}
@@ -38,17 +38,6 @@ pub record PairOutcome : Type 0 where
 
 abbrev pub pairOutcome : Pair → List ℕ → PairOutcome
 pairOutcome r h = record { answer = r; hints = h }
-
--- ---- the rules: one tile, a hint for it, then those of every call without samples
-abbrev pub oneRules : ℕ → Job → List Float → ℕ → List Rule
-oneRules size J palette hints = rule 2 (eqb (J .T) 1) ∷ plainRules size J palette (eqb hints (J .T))
-
-unfoldable pub oneAnswer : ℕ → Job → List Float → ℕ → ℕ
-oneAnswer size J palette hints = answer (oneRules size J palette hints)
-
--- the single fit wants a colour, after all else
-unfoldable pub singleAnswer : ℕ → Job → List Float → ℕ → ℕ
-singleAnswer size J palette hints = answer (oneRules size J palette hints ++ (rule 15 (not (isEmpty J 0)) ∷ []))
 
 -- ---- the calls. Neither reads a hint; both leave the winner there; a refusal writes nothing
 unfoldable pub singleDef : ℕ → Job → List Float → List ℕ → SingleOutcome

@@ -2,7 +2,7 @@
 // Each first asks for the number of the first rule broken, over shared slices, so that a refusal writes nothing.
 ghost use mathlib.Core.Path.{_≡_};
 ghost use Rattle.job.specs.Job.{job, tileSize};
-ghost use Rattle.fits.specs.Fits.{oneAnswer, singleAnswer, singleOutcome, singleDef, pairOutcome, pairDef};
+ghost use Rattle.fits.specs.Fits.{singleOutcome, singleDef, pairOutcome, pairDef};
 
 // The best subpalette and its distance, or the number of the refusal.
 pub enum Single {
@@ -14,74 +14,6 @@ pub enum Single {
 pub enum Pair {
     Best(stats::Two),
     Refused(u32),
-}
-
-// 0, or the number of the first rule that a call with one tile and so many hints breaks.
-fn check_one(
-    size: usize,
-    s: usize,
-    c: usize,
-    t: usize,
-    weight: f32,
-    tiles: &[u32],
-    colours: &[f32],
-    counts: &[u32],
-    palette: &[f32],
-    hints: usize,
-) -> u32
-    ensures { λ r. ⌜ r ≡ oneAnswer size (job s c t weight (now (tiles .entry)) (now (colours .entry)) (now (counts .entry))) (now (palette .entry)) hints ⌝ }
-{
-    if t != 1 {
-        return 2;
-    }
-    job_check::check_job(
-        size,
-        s,
-        c,
-        t,
-        weight,
-        tiles,
-        colours,
-        counts,
-        palette,
-        hints == t,
-    )
-}
-
-// The same for the single fit, which wants a colour.
-fn check_single(
-    size: usize,
-    s: usize,
-    c: usize,
-    t: usize,
-    weight: f32,
-    tiles: &[u32],
-    colours: &[f32],
-    counts: &[u32],
-    palette: &[f32],
-    hints: usize,
-) -> u32
-    ensures { λ r. ⌜ r ≡ singleAnswer size (job s c t weight (now (tiles .entry)) (now (colours .entry)) (now (counts .entry))) (now (palette .entry)) hints ⌝ }
-{
-    let number = check_one(
-        size,
-        s,
-        c,
-        t,
-        weight,
-        tiles,
-        colours,
-        counts,
-        palette,
-        hints,
-    );
-    if number != 0 {
-        return number;
-    }
-    if job::is_empty(tiles, 0) {
-        return 15;
-    }
-    0
 }
 
 // The subpalette that fits the one tile of a job best, and its distance; its hint then names it.
@@ -98,7 +30,7 @@ pub fn single_fit(
 ) -> Single
     ensures { λ r. ⌜ singleOutcome r (now (hints .exit)) ≡ singleDef tileSize (job s c t weight (now (tiles .entry)) (now (colours .entry)) (now (counts .entry))) (now (palette .entry)) (now (hints .entry)) ⌝ }
 {
-    let number = check_single(
+    let number = fits_check::check_single(
         job::TILE_SIZE,
         s,
         c,
@@ -143,7 +75,7 @@ pub fn best_two(
 ) -> Pair
     ensures { λ r. ⌜ pairOutcome r (now (hints .exit)) ≡ pairDef tileSize (job s c t weight (now (tiles .entry)) (now (colours .entry)) (now (counts .entry))) (now (palette .entry)) (now (hints .entry)) ⌝ }
 {
-    let number = check_one(
+    let number = fits_check::check_one(
         job::TILE_SIZE,
         s,
         c,

@@ -13,7 +13,6 @@ use borrow.Author.Tests.{ltb-true, ltb-false, lt-ltb, le-ltb}
 use Rattle.color.specs.declared.Oklab.{Oklab}
 use Rattle.color.specs.Color.{colourAt, putAt}
 use Rattle.group_pixels.specs.declared.Rgba.{Rgba}
-use Rattle.group_pixels.specs.declared.Zero.{Zero}
 use Rattle.group_pixels.specs.Pixel.{rgbaAt, putRgba, kept, sameBytes}
 use Rattle.group_refusal.specs.Refusal.{Pixels, Lent, lent}
 use Rattle.group.specs.Group.{Entry, total, seenOnce, seenAgain, join, place, entries, indexes, bytesOf, oklabOf, countsOf, over, left, fillTo}

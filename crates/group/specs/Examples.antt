@@ -7,8 +7,8 @@ use lib.Ieee.{Float, nan, binary32, ofBits, toBits, le, neg}
 use Rattle.job.specs.Checks.{within}
 use Rattle.group_pixels.specs.declared.Zero.the-variants.{Given, Absent}
 use Rattle.group_pixels.specs.Pixel.{isZero, kept, sameBytes, inGamut, sameBits, clash}
-use Rattle.group.specs.declared.Grouped.the-variants.{Done, Refused}
-use Rattle.group_refusal.specs.Refusal.{Pixels, given, Lent, lent, some, firstOf, fault, sized, refusal}
+use Rattle.group.specs.declared.Grouped.the-variants.{Done}
+use Rattle.group_refusal.specs.Refusal.{given, Lent, lent, some, firstOf, fault, sized, refusal}
 use Rattle.group.specs.Group.{outcome, join, place, entries, indexes, bytesOf, oklabOf, countsOf, left, grouping}
 
 -- pixels, four bytes each

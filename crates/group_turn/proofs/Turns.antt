@@ -1,11 +1,11 @@
 -- The search among the entries, and a turn by what the code found. Assumes nothing.
 use Prim.Native.Nat.{ℕ, zero, suc, _+_, _-_, _*_, _<_, _≤_}
-use mathlib.Core.Path.{_≡_, refl, sym, _∙_, ap}
+use mathlib.Core.Path.{_≡_, refl, _∙_, ap}
 use mathlib.Core.Bool.{Bool, true, false, cond}
 use mathlib.Core.List.{List}
 use native.Mathlib.Nat.{add-zero}
 use native.Mathlib.Omega.{arith}
-use lib.ListN.{length, drop, getD, set}
+use lib.ListN.{drop, getD, set}
 use lib.Seq.{drop-drop, getD-drop}
 use lib.Ieee.{Float}
 use borrow.Author.Tests.{lt-ltb, le-ltb}
@@ -16,7 +16,7 @@ use Rattle.group_pixels.specs.declared.Zero.{Zero}
 use Rattle.group_pixels.specs.Pixel.{rgbaAt, putRgba, kept, sameBytes}
 use Rattle.group_refusal.specs.Refusal.{Lent, lent}
 use Rattle.group_refusal.proofs.Passes.{one-more, told}
-use Rattle.group_turn.specs.Turn.{seek, Filled, filled, settled, turn}
+use Rattle.group_turn.specs.Turn.{seek, filled, turn}
 
 -- ---- the search among the entries
 

@@ -1,24 +1,10 @@
 // The tables of a job, each walked once: its tiles, the counts of each tile, the samples.
 // They take what a stranger wrote: a sum is tested by a difference, so that none can wrap.
 ghost use mathlib.Core.Path.{_≡_};
-ghost use mathlib.Core.Bool.{Bool, true};
-ghost use Prim.Native.Nat.{ℕ, _+_, _*_, _≤_, _<_};
+ghost use mathlib.Core.Bool.{true};
+ghost use Prim.Native.Nat.{_*_};
 ghost use lib.ListN.{length};
-ghost use Rattle.job.specs.Checks.{tileTest, tilesFit, countTest, partFits, countsFit, sampleTest, samplesFit};
-
-// A tile of n colours from `first` on, where those before it end at `at`.
-fn tile_fits(size: usize, total: usize, at: usize, first: usize, n: usize) -> bool
-    requires { ⌜ at ≤ total ⌝ }
-    ensures { λ r. ⌜ r ≡ tileTest size total at first n ⌝ }
-{
-    if first != at {
-        return false;
-    }
-    if n > size {
-        return false;
-    }
-    n <= total - at
-}
+ghost use Rattle.job.specs.Checks.{tilesFit, partFits, countsFit, samplesFit};
 
 pub fn tiles_fit(size: usize, tiles: &[u32], t: usize, total: usize) -> bool
     requires { ⌜ length (now tiles) ≡ 2 * t ⌝ }
@@ -28,24 +14,13 @@ pub fn tiles_fit(size: usize, tiles: &[u32], t: usize, total: usize) -> bool
     let mut i = 0usize;
     while i < t {
         let n = job::size_of(tiles, i);
-        if !tile_fits(size, total, at, job::first_of(tiles, i), n) {
+        if !job_entries::tile_fits(size, total, at, job::first_of(tiles, i), n) {
             return false;
         }
         at += n;
         i += 1;
     }
     at == total
-}
-
-// A count of n pixels after `done`.
-fn count_fits(size: usize, done: usize, n: usize) -> bool
-    requires { ⌜ done ≤ size ⌝ }
-    ensures { λ r. ⌜ r ≡ countTest size done n ⌝ }
-{
-    if n == 0 {
-        return false;
-    }
-    n <= size - done
 }
 
 // The counts of one tile.
@@ -56,7 +31,7 @@ fn part_fits(size: usize, part: &[u32]) -> bool
     let mut i = 0usize;
     while i < part.len() {
         let n = job::wide(part[i]);
-        if !count_fits(size, done, n) {
+        if !job_entries::count_fits(size, done, n) {
             return false;
         }
         done += n;
@@ -80,23 +55,13 @@ pub fn counts_fit(size: usize, tiles: &[u32], t: usize, counts: &[u32]) -> bool
     true
 }
 
-fn sample_fits(tiles: &[u32], t: usize, tile: usize, place: usize) -> bool
-    requires { ⌜ length (now tiles) ≡ 2 * t ⌝ }
-    ensures { λ r. ⌜ r ≡ sampleTest (now (tiles .entry)) t tile place ⌝ }
-{
-    if tile >= t {
-        return false;
-    }
-    place < job::size_of(tiles, tile)
-}
-
 pub fn samples_fit(tiles: &[u32], t: usize, samples: &[u32], n: usize) -> bool
     requires { ⌜ (length (now tiles) ≡ 2 * t) × (length (now samples) ≡ 2 * n) ⌝ }
     ensures { λ r. ⌜ r ≡ samplesFit (now (tiles .entry)) t (now (samples .entry)) n ⌝ }
 {
     let mut i = 0usize;
     while i < n {
-        if !sample_fits(
+        if !job_entries::sample_fits(
             tiles,
             t,
             job::wide(samples[2 * i]),

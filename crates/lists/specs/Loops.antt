@@ -1,8 +1,9 @@
 -- `every` and `sum` as a loop meets them: an index that passes or fails, one turn more, and the end. Assumes nothing.
 use Prim.Native.Nat.{ℕ, zero, suc, _+_, _≤_, _<_}
-use mathlib.Core.Path.{_≡_, refl, sym, subst, _∙_}
+use mathlib.Core.Path.{_≡_, refl, sym, subst, subst⁻¹, _∙_}
 use mathlib.Core.Bool.{Bool, true, false, not, _&&_}
 use mathlib.Core.Logic.{_⊎_, inl, inr}
+use native.Mathlib.Nat.{le-refl}
 use native.Mathlib.Omega.{arith}
 use native.Mathlib.Numerals.{add-one}
 use lib.Dec.{ltb}
@@ -52,3 +53,14 @@ module _ (f : ℕ → Bool) where
 pub sum-more : (f : ℕ → ℕ) (i at n : ℕ) → at ≡ sum f i → n ≡ f i → at + n ≡ sum f (i + 1)
 unfolding sum
 sum-more f i at n a e = rw (add-one i, a, e)
+
+-- a sum over more is no less
+pub sum-rises : (f : ℕ → ℕ) (n k : ℕ) → k ≤ n → sum f k ≤ sum f n
+unfolding sum
+sum-rises f zero zero h = omega arith
+sum-rises f zero (suc k) h = absurd (omega arith)
+sum-rises f (suc n) k h = by (last-or-below k (suc n) (omega arith)) (λ l. sum-rises f n k l)
+  where
+    by : (k ≡ suc n) ⊎ (k < suc n) → (k ≤ n → sum f k ≤ sum f n) → sum f k ≤ sum f n + f n
+    by (inl e) ih = subst⁻¹ (λ (j : ℕ). sum f j ≤ sum f n + f n) e (le-refl (sum f n + f n))
+    by (inr l) ih = omega (arith, ih (omega arith))

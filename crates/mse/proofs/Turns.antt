@@ -1,21 +1,21 @@
 -- A turn over one tile: what its calls ask, and what it comes to; and the walk over all tiles. Assumes nothing.
 use Prim.Native.Nat.{ℕ, _+_, _*_, _≤_, _<_}
-use mathlib.Core.Path.{_≡_, refl, sym, ap, subst, subst⁻¹, _∙_}
-use mathlib.Core.Bool.{Bool, true, false, not, cond}
+use mathlib.Core.Path.{_≡_, refl, sym, ap, subst⁻¹, _∙_}
+use mathlib.Core.Bool.{Bool, true, false, cond}
 use mathlib.Core.List.{List}
 use native.Mathlib.Nat.{le-antisymm}
 use native.Mathlib.Numerals.{add-one}
 use native.Mathlib.Omega.{arith}
 use lib.ListN.{length, set}
-use lib.Dec.{T, eqb}
-use lib.Ieee.{Float, binary64}
+use lib.Dec.{T}
+use lib.Ieee.{Float}
 use borrow.Author.Tests.{eqb-true, eqb-false, eq-eqb}
 use Rattle.ieee.specs.Plus.{plus-real}
 use Rattle.job.specs.Job.{Job, sizeOf, tileOf, countsOf, isEmpty, Placed}
 use Rattle.job.specs.Tiles.{colours-placed, counts-placed, counts-length}
 use Rattle.stats.specs.declared.Near.{Near}
-use Rattle.palette.specs.Palette.{Tile, tileWith, subOf}
-use Rattle.palette_tile.specs.Tiles.{tileAt, fitAt, winner, hintStep, hintsOf, Shown, Paired, Fitted}
+use Rattle.palette.specs.Palette.{tileWith, subOf}
+use Rattle.palette_tile.specs.Tiles.{tileAt, fitAt, winner, hintStep, hintsOf, Shown, Fitted}
 use Rattle.palette_tile.specs.Present.{winner-below, shown-part}
 use Rattle.palette_tile.specs.Hints.{length-hints, hint-kept, hint-written, hints-none, hints-more}
 use Rattle.mse.specs.declared.Tally.{Tally}

@@ -1,27 +1,27 @@
 -- The sum in f64 is finite, has no sign, and is at most 1188 for each pixel counted; and the error is an f32 that is finite, has no sign and is at most 1188.
 -- Assumes nothing.
-use Prim.Native.Nat.{ℕ, zero, suc, _+_, _*_, _/_, _^_, _≤_, _<_, zero-le}
-use mathlib.Core.Path.{_≡_, refl, sym, ap, subst, subst⁻¹, _∙_}
-use mathlib.Core.Bool.{Bool, true, false, not, cond}
+use Prim.Native.Nat.{ℕ, zero, suc, _+_, _*_, _/_, _≤_, _<_, zero-le}
+use mathlib.Core.Path.{_≡_, subst, subst⁻¹}
+use mathlib.Core.Bool.{Bool, true, false, cond}
 use mathlib.Core.Logic.{inl, inr}
 use mathlib.Core.List.{List}
 use native.Mathlib.Nat.{le-refl, mul-add, eq-zero-or-pos}
 use native.Mathlib.Omega.{arith}
 use lib.ListN.{getD, length}
 use lib.IntN.{pos}
-use lib.Dec.{T, eqb, ltb, eqb→eq, ltb→lt, lit≤}
-use lib.Ieee.{Float, nan, inf, fin, Format, binary32, binary64, add, mul, div, ofInt, ofBits, round, up, down, fits, isNan}
+use lib.Dec.{T, eqb, eqb→eq, ltb→lt, lit≤}
+use lib.Ieee.{Float, nan, inf, fin, Format, binary32, binary64, add, mul, div, ofInt, ofBits, round, up, down}
 use lib.Ieee.Fits.{fits-widens}
 use lib.Ieee.Bits.{ofBits-fits}
 use lib.Ieee.Positive.{positive}
 use borrow.Author.Tests.{eq-eqb, ne-eqb}
-use Rattle.ieee.specs.Plus.{plus, plus-real, round-plus}
+use Rattle.ieee.specs.Plus.{plus, round-plus}
 use Rattle.ieee.specs.Within.{Within, whole-exact, add-whole, mul-whole, div-whole, value-within, int-value}
 use Rattle.ieee.specs.Keys.{Good}
 use Rattle.ieee.specs.Goods.{add-good, times-good, count-positive}
 use Rattle.ieee.specs.Narrow.{narrowOf}
 use Rattle.ieee.specs.Narrows.{narrow-within, narrow-good}
-use Rattle.color.specs.Color.{colourAt, Sized, Bounded}
+use Rattle.color.specs.Color.{colourAt, Sized}
 use Rattle.color.specs.Sizes.{bounded-finite, colour-sized, sized-real}
 use Rattle.job.specs.Job.{Job, sizeOf, isEmpty}
 use Rattle.job.specs.Tiles.{counts-length, tile-three, tile-near}

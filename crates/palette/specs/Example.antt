@@ -3,7 +3,6 @@
 use mathlib.Core.Path.{_≡_, refl}
 use mathlib.Core.List.{[], _∷_}
 use lib.Ieee.{Float, binary32, ofBits, ofInt, add, sub, mul, lt}
-use Rattle.stats.specs.declared.Near.{Near}
 use Rattle.stats.specs.Stats.{leastOf}
 use Rattle.palette.specs.Palette.{Palette, Tile, paletteWith, tileWith, gap, totalOf, distAt, bestFit}
 

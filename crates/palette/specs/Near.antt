@@ -1,5 +1,5 @@
 -- The nearest colour of a subpalette that has one: an index of it, at that index's distance, which is bounded where the colours are. Assumes nothing.
-use Prim.Native.Nat.{ℕ, _/_, _≤_, _<_}
+use Prim.Native.Nat.{_/_, _≤_, _<_}
 use mathlib.Core.Path.{_≡_, subst⁻¹}
 use mathlib.Core.List.{List}
 use lib.ListN.{length}

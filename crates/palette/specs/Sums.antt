@@ -1,15 +1,14 @@
 -- Distances and sums of them are no NaN and have no sign, where colours are finite, the weight is above 0 and counts are at least 1;
 -- and a sum over more colours is no smaller. Assumes nothing.
 use Prim.Native.Nat.{ℕ, zero, suc, _+_, _-_, _*_, _/_, _≤_, _<_}
-use mathlib.Core.Path.{_≡_, subst, subst⁻¹, sym, ap, _∙_}
+use mathlib.Core.Path.{_≡_, subst, subst⁻¹}
 use mathlib.Core.List.{List}
 use native.Mathlib.Nat.{le-trans, le-refl}
-use native.Mathlib.Numerals.{add-one}
 use native.Mathlib.Omega.{arith}
 use lib.ListN.{getD, length}
 use lib.Dec.{T}
 use lib.IntN.{pos}
-use lib.Ieee.{Float, binary32, add, mul, ofInt, ofBits}
+use lib.Ieee.{Float, binary32, ofBits}
 use lib.Ieee.Positive.{positive}
 use lib.Ieee.Bits.{ofBits-fits}
 use Rattle.ieee.specs.Keys.{Good}
@@ -21,7 +20,7 @@ use Rattle.color.specs.Color.{colourAt, Real, Finite}
 use Rattle.color.specs.Sizes.{colour-real}
 use Rattle.color.specs.Distances.{sqdist-good}
 use Rattle.choice.specs.Scan.{least-good}
-use Rattle.palette.specs.Palette.{Palette, Tile, subOf, gap, nearestOf, termOf, totalOf, tileDistance, distAt, Present, Counted, Fits}
+use Rattle.palette.specs.Palette.{Palette, Tile, subOf, gap, nearestOf, termOf, totalOf, tileDistance, distAt, Present, Counted}
 use Rattle.palette.specs.Parts.{sub-finite}
 
 module _ (s : List Float) (w : Float) (F : Finite s) (W : T (positive w)) where

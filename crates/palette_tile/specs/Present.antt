@@ -1,7 +1,7 @@
 -- What a job and a palette that are shown give: fits of their tiles can be asked for, the winner is among the subpalettes present,
 -- a subpalette has a colour and is bounded, and so is a tile's nearest distance. Assumes nothing.
 use Prim.Native.Nat.{ℕ, _+_, _*_, _/_, _≤_, _<_}
-use mathlib.Core.Path.{_≡_, sym, ap, subst, _∙_}
+use mathlib.Core.Path.{_≡_, sym, subst, _∙_}
 use mathlib.Core.List.{List}
 use native.Mathlib.Nat.{le-trans, le-of-eq, mul-le-mul-right, mul-left-comm}
 use native.Mathlib.Omega.{arith}
@@ -9,16 +9,16 @@ use lib.ListN.{length}
 use lib.Ieee.{Float}
 use Rattle.ieee.specs.Within.{Within}
 use Rattle.color.specs.declared.Oklab.{Oklab}
-use Rattle.color.specs.Color.{colourAt, Sized, Finite, Bounded}
+use Rattle.color.specs.Color.{colourAt, Sized, Bounded}
 use Rattle.color.specs.Sizes.{bounded-finite, colour-sized}
-use Rattle.job.specs.Job.{Job, sizeOf, tileOf, countsOf}
-use Rattle.job.specs.Tiles.{counts-length, tile-length, tile-three, tile-near, tile-finite}
+use Rattle.job.specs.Job.{Job, sizeOf, tileOf}
+use Rattle.job.specs.Tiles.{tile-length, tile-three, tile-near, tile-finite}
 use Rattle.choice.specs.Scan.{least-below}
 use Rattle.choice.specs.Two.{two-below}
 use Rattle.palette.specs.Palette.{subOf, nearestOf, distAt, Present, Counted, Fits, Hinted}
 use Rattle.palette.specs.Parts.{sub-room, sub-length, sub-colours, sub-bounded}
 use Rattle.palette.specs.Near.{nearest-below, nearest-within}
-use Rattle.palette_tile.specs.Tiles.{tileAt, presentIn, fitAt, winner, twoAt, Shown, Paired, Fitted}
+use Rattle.palette_tile.specs.Tiles.{tileAt, presentIn, fitAt, winner, twoAt, Shown}
 
 module _ (J : Job) (pal : List Float) (n have : ℕ) (S : Shown J pal n have) where
   pub shown-present : Present (presentIn J pal n have)

@@ -3,16 +3,16 @@ use mathlib.Core.Path.{_≡_, refl, sym, ap, _∙_, subst}
 use Prim.Native.Nat.{ℕ, zero, suc, _+_, _*_, _/_, _%_, _^_, _≤_, _<_}
 use native.Mathlib.Omega.{arith}
 use mathlib.Core.Logic.{_↔_}
-use mathlib.Core.Bool.{Bool, true, false, not, cond, _&&_, true≢false}
+use mathlib.Core.Bool.{Bool, true, false, not, cond, true≢false}
 use lib.IntN.{pos}
-use lib.Dec.{T, leb, ltb, leb→le, le→leb, ltb→lt, lt→ltb, lit<, not-T}
-use lib.Ieee.{Float, nan, inf, fin, binary32, ofBits, toBits, isNan, nanBits, ofFields, odd, le, lt, fits, up, down, top, ones, hid, low, size, span, climb}
-use lib.Ieee.Bits.{toBits-ofBits, ofBits-fits, nanBits-is, nanBits-above, is-false}
+use lib.Dec.{T, leb, ltb, leb→le, le→leb, ltb→lt, lt→ltb, not-T}
+use lib.Ieee.{Float, nan, inf, fin, binary32, ofBits, toBits, isNan, nanBits, ofFields, odd, le, lt, fits, up, down, low, size, span, climb}
+use lib.Ieee.Bits.{toBits-ofBits, ofBits-fits, nanBits-is, nanBits-above}
 use Rattle.ieee.specs.Order.{le-fin→, le-fin←}
 use Rattle.ieee.specs.Keys.{sgn, abs, key, pack, bits-are, size-small, bits→le, le→bits}
 use Rattle.ieee.specs.Within.{Within}
 use Rattle.ieee.specs.NonNeg.{zeroF}
-use lib.Ieee.Fits.{up-pos, down-pos}
+use lib.Ieee.Fits.{up-pos}
 use native.Mathlib.Nat.{zero-mul, zero-div, mul-pos}
 use Rattle.ieee.specs.Bounds.{within-real}
 use Rattle.pattern.specs.Pattern.{small, weighs}

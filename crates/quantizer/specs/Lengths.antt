@@ -16,7 +16,7 @@ use Rattle.palette_tile.specs.Hints.{length-hints}
 use Rattle.quantizer.specs.Course.{Course}
 use Rattle.quantizer.specs.Lists.{length-bump, length-zeros}
 use Rattle.quantizer.specs.Seeding.{seedMean, seeded, distanceStep, distancesOf}
-use Rattle.quantizer.specs.Growing.{tileNeeds, needStep, needsOf, splitOf, grownBy, grown, grownHints}
+use Rattle.quantizer.specs.Growing.{tileNeeds, needStep, needsOf, grownBy, grown, grownHints}
 use Rattle.quantizer.specs.Replacing.{Shares, sharesOf, pairHints, tileShares, spreadStep, spreadOf, replacedHints}
 use Rattle.quantizer.specs.Refining.{Gather, gatherOf, meanStep, meansOf, refined}
 use Rattle.quantizer.specs.Drawing.{targetOf, moved, movedHints}

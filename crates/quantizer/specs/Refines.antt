@@ -13,6 +13,7 @@ use lib.Dec.{lit≤}
 use lib.Ieee.{Float}
 use borrow.Author.Tests.{eq-eqb, ne-eqb}
 use Rattle.lists.specs.Every.{sum}
+use Rattle.lists.specs.Loops.{sum-rises}
 use Rattle.color.specs.declared.Oklab.{Oklab}
 use Rattle.color.specs.Color.{colourAt, putAt, plusTimes, overOf, Sized, Bounded}
 use Rattle.color.specs.Puts.{length-put, put-here, put-elsewhere}
@@ -82,16 +83,6 @@ pub record Summed (A B : Gather) (m : ℕ) : Type 0 where
 
 module _ (s : List Float) (X : Tile) (w : Float) (base : ℕ) (A : Gather) (H : Held A) (place : (q : Oklab) → base + nearestOf s q w .index < 256)
     (near : (k : ℕ) → k < length (X .counts) → Sized (colourAt (X .colours) k) 2) (few : (i : ℕ) → getD (A .cnts) i 0 + sum (λ k. getD (X .counts) k 0) (length (X .counts)) ≤ 8388608) where
-  sum-rises : (n k : ℕ) → k ≤ n → sum (λ k. getD (X .counts) k 0) k ≤ sum (λ k. getD (X .counts) k 0) n
-  unfolding sum
-  sum-rises zero zero h = omega arith
-  sum-rises zero (suc k) h = absurd (omega arith)
-  sum-rises (suc n) k h = go (ℕ-discrete k (suc n)) (λ l. sum-rises n k l)
-    where
-      go : Dec (k ≡ suc n) → (k ≤ n → sum (λ k. getD (X .counts) k 0) k ≤ sum (λ k. getD (X .counts) k 0) n) → sum (λ k. getD (X .counts) k 0) k ≤ sum (λ k. getD (X .counts) k 0) n + getD (X .counts) n 0
-      go (yes e) ih = subst⁻¹ (λ (j : ℕ). sum (λ k. getD (X .counts) k 0) j ≤ sum (λ k. getD (X .counts) k 0) n + getD (X .counts) n 0) e (le-refl (sum (λ k. getD (X .counts) k 0) n + getD (X .counts) n 0))
-      go (no d) ih = omega (arith, ih (omega arith))
-
   pub tile-summed : (k : ℕ) → k ≤ length (X .counts) → Summed A (tileGather s X w base A k) (sum (λ k. getD (X .counts) k 0) k)
   unfolding tileGather sum
   tile-summed zero h = record { held = H; few = λ i. omega arith }
@@ -101,7 +92,7 @@ module _ (s : List Float) (X : Tile) (w : Float) (base : ℕ) (A : Gather) (H : 
       let p = base + nearestOf s q w .index in
       let m = getD (X .counts) k 0 in
       let T = tile-summed k (omega arith) in
-      let most : sum (λ k. getD (X .counts) k 0) k + m ≤ sum (λ k. getD (X .counts) k 0) (length (X .counts)) = sum-rises (length (X .counts)) (suc k) h in
+      let most : sum (λ k. getD (X .counts) k 0) k + m ≤ sum (λ k. getD (X .counts) k 0) (length (X .counts)) = sum-rises (λ k. getD (X .counts) k 0) (length (X .counts)) (suc k) h in
       record {
         held = held-add B (T .held) p q m (place q) (near k h) (omega (arith, T .few p, few p));
         few = λ i. omega (arith, T .few i, counted B (T .held) p q m (place q) i);

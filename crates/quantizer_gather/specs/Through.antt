@@ -1,13 +1,12 @@
 -- A walk over a tile's colours keeps the lists whole, and tiles of a job that is shown may be gathered. Assumes nothing.
-use Prim.Native.Nat.{ℕ, zero, suc, _+_, _*_, _/_, _≤_, _<_}
-use mathlib.Core.Path.{_≡_, subst⁻¹}
-use mathlib.Core.Logic.{inl, inr}
+use Prim.Native.Nat.{ℕ, suc, _+_, _*_, _/_, _≤_, _<_}
+use mathlib.Core.Path.{_≡_}
 use mathlib.Core.List.{List}
-use native.Mathlib.Nat.{le-refl, eq-or-lt-of-le}
 use native.Mathlib.Omega.{arith}
 use lib.ListN.{getD, length}
 use lib.Ieee.{Float}
 use Rattle.lists.specs.Every.{sum}
+use Rattle.lists.specs.Loops.{sum-rises}
 use Rattle.color.specs.declared.Oklab.{Oklab}
 use Rattle.color.specs.Color.{colourAt, Sized}
 use Rattle.color.specs.Sizes.{colour-sized}
@@ -22,19 +21,10 @@ use Rattle.quantizer.specs.Indexes.{row-256}
 use Rattle.quantizer.specs.Refines.{Gathered, Summed, tile-summed}
 use Rattle.quantizer_gather.specs.Gathers.{pixels, Gathering}
 
-pixels-rise : (X : Tile) (n k : ℕ) → k ≤ n → pixels X k ≤ pixels X n
-unfolding sum
-pixels-rise X zero zero h = le-refl 0
-pixels-rise X zero (suc k) h = absurd (omega arith)
-pixels-rise X (suc n) k h = elim (eq-or-lt-of-le h) [
-  | inl e ↦ subst⁻¹ (λ (j : ℕ). pixels X j ≤ pixels X (suc n)) e (le-refl (pixels X (suc n)))
-  | inr l ↦ omega (arith, pixels-rise X n k (omega arith))
-]
-
 -- colour k's are among all
 pub pixels-part : (X : Tile) (k : ℕ) → k < length (X .counts) → pixels X k + getD (X .counts) k 0 ≤ pixels X (length (X .counts))
 unfolding sum
-pixels-part X k l = pixels-rise X (length (X .counts)) (suc k) l
+pixels-part X k l = sum-rises (λ j. getD (X .counts) j 0) (length (X .counts)) (suc k) l
 
 module _ (s : List Float) (X : Tile) (w : Float) (base : ℕ) (A : Gather) (G : Gathering s X base A) where
   pub place-in : (q : Oklab) → base + nearestOf s q w .index < 256

@@ -12,7 +12,7 @@ use Rattle.stages.specs.Stages.{advance, drawsOf}
 use Rattle.stages.specs.Calls.{Outcome, recordOf, stateOf, memory, memoryOf, outcome, answered, advanceAnswer, advanceCall}
 use Rattle.calls.specs.Accepted.{job-passed}
 use Rattle.calls.specs.Answers.{advance-opened}
-use Rattle.run_advance.specs.Running.{Running}
+use Rattle.run_steps.specs.Running.{Running}
 
 module _ (size : ℕ) (K : Course) (o h : List ℕ) (p l : List Float) (w : List ℕ) (a : ℕ) (e : a ≡ advanceAnswer size K (memory o h p l w)) where
   pub refused : (allotment : ℕ) → (a ≡ 0 → ⊥) → outcome a 0 (memory o h p l w) ≡ advanceCall size K (memory o h p l w) allotment

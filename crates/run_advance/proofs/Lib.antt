@@ -1,3 +1,1 @@
-pub mod Steps
-pub mod Advances
-pub mod Answered
+mod Answered

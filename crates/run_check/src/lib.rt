@@ -2,26 +2,18 @@
 // Every check takes what a stranger wrote: no sum or product in it can wrap.
 use stages::Record;
 ghost use mathlib.Core.Path.{_≡_};
-ghost use mathlib.Core.Bool.{Bool, true, _&&_};
-ghost use mathlib.Core.List.{List, []};
-ghost use Prim.Native.Nat.{ℕ, _*_, _≤_};
+ghost use mathlib.Core.Bool.{true, _&&_};
+ghost use Prim.Native.Nat.{_*_};
 ghost use lib.Dec.{eqb};
 ghost use lib.ListN.{length};
-ghost use Rattle.job.specs.Rules.{answer};
 ghost use Rattle.job.specs.Job.{job, tileSize};
 ghost use Rattle.quantizer.specs.Course.{course};
-ghost use Rattle.stages.specs.State.{stateWith};
-ghost use Rattle.stages.specs.Record.{orderFits, leastFits, stateRules};
 ghost use Rattle.stages.specs.Calls.{memory, memoryRoom, coloursRoom, startAnswer, advanceAnswer, handInAnswer, resultAnswer};
-ghost use Rattle.run_record.specs.Sized.{sized, Sized};
 ghost use Rattle.run_check.specs.Room.{plain, Roomy, Lends, runAnswer};
 
 const MOST_SUBPALETTES: usize = 16;
 
 const MOST_COLOURS: usize = 16;
-
-// The magnitude of a working component, at most.
-const MOST_WORKING: f32 = 4.0;
 
 // ---- lengths
 
@@ -88,61 +80,6 @@ fn wider_room(
     colours_room(s, c, more.len())
 }
 
-// ---- what a run holds
-
-// Each entry is below n.
-fn order_fits(n: usize, order: &[u32]) -> bool
-    ensures { λ r. ⌜ r ≡ orderFits n (now (order .entry)) ⌝ }
-{
-    let mut i = 0usize;
-    while i < order.len() {
-        if job::wide(order[i]) >= n {
-            return false;
-        }
-        i += 1;
-    }
-    true
-}
-
-// The second palette, which only stage 2 looks at.
-fn least_fits(stage: u64, least: &[f32]) -> bool
-    ensures { λ r. ⌜ r ≡ leastFits stage (now (least .entry)) ⌝ }
-{
-    if stage != 2 {
-        return true;
-    }
-    job::first_bad(least, MOST_WORKING) == least.len()
-}
-
-// Numbers 10, 7 and 9 of what a run holds.
-fn check_state(
-    s: usize,
-    c: usize,
-    n: usize,
-    order: &[u32],
-    palette: &[f32],
-    least: &[f32],
-    r: Record,
-) -> u32
-    requires { ⌜ Sized s c n ⌝ }
-    ensures { λ x. ⌜ x ≡ answer (stateRules (sized s c n) (stateWith (now (order .entry)) [] (now (palette .entry)) (now (least .entry)) r)) ⌝ }
-{
-    let a = run_record::check_record(s, c, n, r);
-    if a != 0 {
-        return a;
-    }
-    if job::first_bad(palette, MOST_WORKING) != palette.len() {
-        return 7;
-    }
-    if !least_fits(r.stage, least) {
-        return 7;
-    }
-    if !order_fits(n, order) {
-        return 9;
-    }
-    0
-}
-
 // The job's numbers, then those of what a run holds. `room` says whether the slices lent have their lengths.
 fn check_run(
     s: usize,
@@ -181,7 +118,7 @@ fn check_run(
         return a;
     }
     let r = run_record::record_of(words);
-    check_state(s, c, n, order, palette, least, r)
+    run_state::check_state(s, c, n, order, palette, least, r)
 }
 
 // ---- the calls

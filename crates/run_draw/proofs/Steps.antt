@@ -1,17 +1,17 @@
 -- What a draw asks and leaves, from what the functions that it calls ensure. Assumes nothing.
-use Prim.Native.Nat.{ℕ, _+_, _-_}
-use mathlib.Core.Path.{_≡_, refl, sym, ap, _∙_}
+use Prim.Native.Nat.{ℕ, _-_}
+use mathlib.Core.Path.{_≡_, refl, ap}
 use mathlib.Core.Bool.{Bool, true, false, cond}
 use mathlib.Core.List.{List, []}
 use lib.Dec.{eqb}
-use lib.Ieee.{Float}
-use borrow.Author.Tests.{ne-eqb}
+use lib.Ieee.{Float, binary32, ofBits}
+use borrow.Author.Tests.{eq-eqb, ne-eqb}
 use Rattle.prng.specs.Shuffle.{deck}
 use Rattle.cycle.specs.Cycle.{Cycle, cycle, drawOne}
 use Rattle.quantizer.specs.Course.{Course}
 use Rattle.quantizer_draw.specs.Draws.{Going, movedBy, hintsBy}
 use Rattle.stages.specs.declared.Record.{Record}
-use Rattle.stages.specs.State.{State, stateWith}
+use Rattle.stages.specs.State.{stateWith}
 use Rattle.stages.specs.Stages.{cycleOf, subsOf, haveOf, alphaOf, draw, drawWith}
 use Rattle.run_record.specs.Sized.{sized}
 
@@ -23,6 +23,14 @@ whichever false false c = refl
 pub have-late : (s c n : ℕ) (r : Record) → (r .stage ≡ 0 → ⊥) → (r .stage ≡ 1 → ⊥) → c ≡ haveOf (sized s c n) (stateWith [] [] [] [] r)
 unfolding haveOf
 have-late s c n r h k = rw (ne-eqb (r .stage) 0 h, ne-eqb (r .stage) 1 k) (whichever (eqb (r .stage) 2) (eqb (r .stage) 4) c)
+
+pub nudge-last : (s c n : ℕ) (r : Record) → r .stage ≡ 4 → ofBits binary32 0x3f000000 ≡ alphaOf (sized s c n) (stateWith [] [] [] [] r)
+unfolding alphaOf
+nudge-last s c n r h = rw (eq-eqb (r .stage) 4 h)
+
+pub nudge-before : (s c n : ℕ) (r : Record) → (r .stage ≡ 4 → ⊥) → ofBits binary32 0x3e99999a ≡ alphaOf (sized s c n) (stateWith [] [] [] [] r)
+unfolding alphaOf
+nudge-before s c n r h = rw (ne-eqb (r .stage) 4 h)
 
 module _ (K : Course) (o h : List ℕ) (p : List Float) (r : Record) (subs have : ℕ)
     (es : subs ≡ subsOf (sized (K .job .S) (K .job .C) (K .n)) (stateWith [] [] [] [] r)) (eh : have ≡ haveOf (sized (K .job .S) (K .job .C) (K .n)) (stateWith [] [] [] [] r)) where

@@ -1,5 +1,5 @@
 -- What a draw asks of a state. Definitions only. Assumes nothing.
-use Prim.Native.Nat.{ℕ, _≤_}
+use Prim.Native.Nat.{_≤_}
 use Rattle.quantizer.specs.Course.{Course}
 use Rattle.quantizer_draw.specs.Draws.{Going}
 use Rattle.stages.specs.State.{State}

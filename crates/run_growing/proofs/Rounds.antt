@@ -14,7 +14,7 @@ use Rattle.quantizer_needs.specs.Asked.{Growing}
 use Rattle.stages.specs.declared.Record.{Record}
 use Rattle.stages.specs.State.{State, stateWith}
 use Rattle.stages.specs.Stages.{openGrowing, enterGrowing, closeGrowing, enterReplacing}
-use Rattle.run_replacing.specs.Closing.{Lent}
+use Rattle.run_keeping.specs.Closing.{Lent}
 use Rattle.run_growing.specs.Grows.{Opening}
 
 can-open : (J : Job) (hints : List ℕ) (pal least : List Float) → Lent J hints pal least → (round : ℕ) → round ≤ 16 → round + 1 < J .C → Opening J pal round hints

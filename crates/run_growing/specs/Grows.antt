@@ -5,7 +5,7 @@ use lib.Ieee.{Float}
 use Rattle.job.specs.Job.{Job}
 use Rattle.stages.specs.declared.Record.{Record}
 use Rattle.quantizer_needs.specs.Asked.{Growing}
-use Rattle.run_replacing.specs.Closing.{Lent}
+use Rattle.run_keeping.specs.Closing.{Lent}
 
 -- a colour more than the round's number is there, and room for the next
 pub record Opening (J : Job) (pal : List Float) (round : ℕ) (hints : List ℕ) : Type 0 where

@@ -9,7 +9,7 @@ ghost use Rattle.job.specs.Job.{job};
 ghost use Rattle.quantizer.specs.Course.{course};
 ghost use Rattle.stages.specs.State.{stateWith};
 ghost use Rattle.stages.specs.Stages.{openGrowing, enterGrowing, closeGrowing};
-ghost use Rattle.run_replacing.specs.Closing.{Lent};
+ghost use Rattle.run_keeping.specs.Closing.{Lent};
 ghost use Rattle.run_growing.specs.Grows.{Opening, Grown};
 
 // A colour more in each subpalette, and a round of draws begins.

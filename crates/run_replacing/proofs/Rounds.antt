@@ -1,63 +1,18 @@
--- What keeping, judging, opening and ending leave, from what the functions that they call ensure. Assumes nothing.
-use Prim.Native.Nat.{ℕ, _+_, _*_, _/_, _%_, _^_, _≤_, _<_}
-use mathlib.Core.Path.{_≡_, refl, sym, ap, _∙_}
-use mathlib.Core.Bool.{Bool, true, false, not, cond}
+-- What the stage's entry and a round's end leave, from what the functions that they call ensure. Assumes nothing.
+use Prim.Native.Nat.{ℕ, _+_, _*_, _≤_, _<_}
+use mathlib.Core.Path.{_≡_, ap, _∙_}
 use mathlib.Core.List.{List, []}
-use native.Mathlib.Omega.{arith}
-use lib.Dec.{T, ltb, ltb→lt, not-T}
 use lib.ListN.{length}
-use lib.Ieee.{Float, binary32, lt, ofBits, toBits, isNan, nanBits}
-use lib.Ieee.Bits.{nanBits-above}
+use lib.Ieee.{Float, binary32, lt, ofBits}
 use borrow.Author.Tests.{lt-ltb, le-ltb}
-use Rattle.ieee.specs.Bounds.{within-real}
-use Rattle.mse.specs.Fine.{mse-error}
 use Rattle.palette_tile.specs.Hints.{length-hints}
 use Rattle.calls.specs.Cases.{both}
-use Rattle.calls.specs.Limits.{error-bits}
 use Rattle.run_record.specs.Sized.{sized}
-use Rattle.run_replacing.specs.Closing.{Whole, Lent, Judging, Ending}
-use Rattle.job.specs.Job.{Job}
-use Rattle.mse.specs.Mse.{mseOf}
-use Rattle.palette_tile.specs.Tiles.{Shown, hintsOf}
+use Rattle.run_keeping.specs.Closing.{Whole, Lent, Ending}
 use Rattle.quantizer.specs.Course.{Course}
-use Rattle.quantizer.specs.Sums.{zeros}
-use Rattle.quantizer.specs.Replacing.{replaced, replacedHints}
 use Rattle.stages.specs.declared.Record.{Record}
 use Rattle.stages.specs.State.{State, stateWith}
 use Rattle.stages.specs.Stages.{noticed, errorOf, keep, judged, openReplacing, enterReplacing, enterReducing, closeReplacing}
-
-module _ (K : Course) (h : List ℕ) (p l : List Float) (r : Record) (e : Float) (ee : e ≡ mseOf (K .job) p (K .job .S) (K .job .C)) (h2 : List ℕ) (eh : h2 ≡ hintsOf (K .job) p (K .job .S) (K .job .C) h (K .job .T)) where
-  pub keep-by : (l2 : List Float) → l2 ≡ p → stateWith [] h2 p l2 (record { generator = r .generator; stage = r .stage; rounds = r .rounds; left = r .left; made = r .made; error = toBits binary32 e }) ≡ keep K (stateWith [] h p l r)
-  unfolding keep noticed errorOf
-  keep-by l2 el = rw (← ee, eh, el)
-
-  pub judged-by : lt e (ofBits binary32 (r .error)) ≡ true → (l2 : List Float) → l2 ≡ p → stateWith [] h2 p l2 (record { generator = r .generator; stage = r .stage; rounds = r .rounds; left = r .left; made = r .made; error = toBits binary32 e }) ≡ judged K (stateWith [] h p l r)
-  unfolding judged keep noticed errorOf
-  judged-by t l2 el = rw (← ee, t, eh, el)
-
-  pub passed-by : lt e (ofBits binary32 (r .error)) ≡ false → stateWith [] h2 p l r ≡ judged K (stateWith [] h p l r)
-  unfolding judged keep noticed errorOf
-  passed-by t = rw (← ee, t, eh)
-
-pub opened-by : (K : Course) (h : List ℕ) (p : List Float) (r : Record) (round : ℕ) (h2 : List ℕ) (p2 : List Float) → p2 ≡ replaced (K .job) p → h2 ≡ replacedHints (K .job) p h
-    → stateWith [] h2 p2 [] (record { generator = r .generator; stage = 2; rounds = round; left = K .n / 10; made = r .made; error = r .error }) ≡ openReplacing K round (stateWith [] h p [] r)
-unfolding openReplacing
-opened-by K h p r round h2 p2 ep eh = rw (ep, eh)
-
-pub reduced-by : (K : Course) (p l : List Float) (r : Record) → length l ≡ 3 * (K .job .S * K .job .C) → (p2 l2 : List Float) → p2 ≡ l → l2 ≡ zeros (length l)
-    → stateWith [] [] p2 l2 (record { generator = r .generator; stage = 3; rounds = 0; left = 0; made = r .made; error = 0 }) ≡ enterReducing K (stateWith [] [] p l r)
-unfolding enterReducing
-reduced-by K p l r e p2 l2 ep el = rw (ep, el, e)
-
--- ---- an error is a number, and so is what bits below infinity's give
-pub error-real : (J : Job) (pal : List Float) (n have : ℕ) → Shown J pal n have → (e : Float) → e ≡ mseOf J pal n have → T (not (isNan e))
-error-real J pal n have S e h = rw h (within-real (mseOf J pal n have) 1188 1 (mse-error J pal n have S .size))
-
-pub error-low : (J : Job) (pal : List Float) (n have : ℕ) → Shown J pal n have → (e : Float) → e ≡ mseOf J pal n have → toBits binary32 e < 0x7f800000
-error-low J pal n have S e h = rw h (error-bits (mseOf J pal n have) (mse-error J pal n have S))
-
-pub bits-real : (x : ℕ) → x < 0x7f800000 → T (not (nanBits binary32 x))
-bits-real x h = rw (nanBits-above binary32 x) (not-T (ltb 0x7f80_0000 (x % 2 ^ 31)) (λ t. omega (arith, ltb→lt 0x7f80_0000 (x % 2 ^ 31) t)))
 
 -- ---- opening passes the second palette by, and ending the hints
 pub open-beside : (K : Course) (h : List ℕ) (p l : List Float) (r : Record) (round : ℕ) (h2 : List ℕ) (p2 : List Float) (r2 : Record)

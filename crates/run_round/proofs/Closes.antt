@@ -18,7 +18,7 @@ use Rattle.calls.specs.Place.{Placed, seeding, growing, replacing, reducing, fi
 use Rattle.calls.specs.Settling.{settle-done, settle-more, finish-placed, togo-less}
 use Rattle.calls.specs.Presence.{seeding-rounds, growing-rounds}
 use Rattle.calls.specs.Sound.{Second, all-shown, in2, out2, finish-sound}
-use Rattle.run_replacing.specs.Closing.{Lent, Judging}
+use Rattle.run_keeping.specs.Closing.{Lent, Judging}
 use Rattle.run_growing.specs.Grows.{Grown}
 use Rattle.run_seeding.specs.Seeds.{Seeded}
 use Rattle.run_round.specs.Settles.{Standing, Closing}

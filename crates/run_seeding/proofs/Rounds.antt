@@ -18,7 +18,7 @@ use Rattle.stages.specs.declared.Record.{Record}
 use Rattle.stages.specs.State.{State, stateWith}
 use Rattle.stages.specs.Stages.{noticed, openSeeding, enterGrowing, closeSeeding}
 use Rattle.run_record.specs.Sized.{sized}
-use Rattle.run_replacing.specs.Closing.{Lent}
+use Rattle.run_keeping.specs.Closing.{Lent}
 use Rattle.run_seeding.specs.Seeds.{Doubling, Seeded}
 
 -- the two rows lie within the palette

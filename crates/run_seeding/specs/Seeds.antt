@@ -6,7 +6,7 @@ use lib.Ieee.{Float}
 use lib.ListN.{length}
 use Rattle.job.specs.Job.{Job}
 use Rattle.stages.specs.declared.Record.{Record}
-use Rattle.run_replacing.specs.Closing.{Lent}
+use Rattle.run_keeping.specs.Closing.{Lent}
 
 -- room for a subpalette more than are there, and one to copy
 pub record Doubling (s c : ℕ) (palette : List Float) (round from : ℕ) : Type 0 where

@@ -1,17 +1,17 @@
 -- A sheet's bits stored in bytes are its file stored in them; and what each return of the writer answers. Assumes nothing.
 use mathlib.Core.Path.{_≡_, refl, sym, ap, ap₂, _∙_, subst}
-use Prim.Native.Nat.{ℕ, zero, suc, _+_, _-_, _*_, _/_, _^_, _≤_, _<_}
+use Prim.Native.Nat.{ℕ, zero, suc, _+_, _-_, _*_, _≤_, _<_}
 use native.Mathlib.Omega.{arith}
-use mathlib.Core.Bool.{Bool, true, false, cond, _&&_}
+use mathlib.Core.Bool.{Bool, true, false, cond}
 use mathlib.Core.List.{List, [], _∷_, _++_}
-use lib.Dec.{T, leb, ltb, eqb, lt→ltb}
+use lib.Dec.{T, leb, ltb, lt→ltb}
 use lib.Pow.{areBytes}
 use lib.ListN.{length, getD, take, drop, set, replicate, length-append, length-drop, length-replicate, length-set}
 use lib.Seq.{sets, length-sets, length-take-le}
 use lib.Ieee.{Float}
 use borrow.Author.Tests.{le-leb, lt-leb, eq-eqb, ne-eqb}
-use Rattle.bits.specs.Bits.{bitsOf, num, bits}
-use Rattle.bits.specs.Numbers.{length-bitsOf, num-lt}
+use Rattle.bits.specs.Bits.{bitsOf, bits}
+use Rattle.bits.specs.Numbers.{num-lt}
 use Rattle.bits.specs.Bytes.{bits-set}
 use Rattle.bits.specs.Fields.{sets-append}
 use Rattle.format.specs.Format.{bytesOf, bytesFor, encode}

@@ -19,7 +19,7 @@ use Rattle.sheet_check.specs.Steps.{checkedOf}
 use Rattle.sheet_fill.specs.Fill.{listAt}
 use Rattle.sheet.specs.declared.Reading.the-variants as reading
 use Rattle.sheet.specs.Sheets.{Room, room, ReadOutcome, readOutcome, roomy, readInto, readDef}
-use Rattle.sheet.specs.Accepted.{Accepted, accepted-says}
+use Rattle.sheet.specs.Accepted.{Accepted}
 
 -- what room there is
 pub record Roomy (t f c p : ℕ) : Type 0 where

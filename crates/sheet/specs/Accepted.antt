@@ -13,8 +13,8 @@ use Rattle.format.specs.Lawful.{same-value, next-got}
 use Rattle.format.specs.Files.{ended-accepted}
 use Rattle.format.specs.Fixed.{both-first, both-second, times-fixed}
 use Rattle.pattern.specs.Pattern.{weighs}
-use Rattle.sheet_format.specs.Sheet.{edition1, component, Colour, Header, Sheet, Parts, whole, tile, header, rest, sheet, readSheet}
-use Rattle.sheet_format.specs.Headed.{Sized, header-fixed, header-sized, header-long}
+use Rattle.sheet_format.specs.Sheet.{edition1, component, Header, Sheet, Parts, whole, tile, header, rest, sheet, readSheet}
+use Rattle.sheet_format.specs.Headed.{header-fixed, header-sized, header-long}
 use Rattle.sheet_format.specs.Lists.{total}
 use Rattle.sheet_check.specs.declared.Checked.{Checked}
 use Rattle.sheet_check.specs.declared.Checked.the-variants.{Refused, Sound}

@@ -1,20 +1,19 @@
 -- The sheet of the job that a sheet holds is that sheet: patterns, counts and tiles come back as they stood. Assumes nothing.
-use mathlib.Core.Path.{_≡_, refl, sym, ap, ap₂, _∙_, subst}
-use Prim.Native.Nat.{ℕ, zero, suc, _+_, _*_, _^_, _≤_, _<_}
+use mathlib.Core.Path.{_≡_, refl, sym, ap, ap₂, _∙_}
+use Prim.Native.Nat.{ℕ, zero, suc, _+_, _*_, _^_}
 use native.Mathlib.Omega.{arith}
 use mathlib.Core.Bool.{Bool, _&&_}
-use mathlib.Core.List.{List, [], _∷_, _++_}
-use lib.Dec.{T, leb, ltb, ltb→lt}
-use lib.ListN.{length, getD, take, drop, length-map, length-append}
+use mathlib.Core.List.{List, [], _∷_}
+use lib.Dec.{T, leb, ltb}
+use lib.ListN.{length, getD, take, drop, length-append}
 use lib.Seq.{take-at, drop-at, drop-drop, getD-drop}
 use lib.Ieee.{Float, binary32, ofBits, toBits}
-use Rattle.color.specs.Color.{Bounded}
 use Rattle.format.specs.Format.{above, times}
 use Rattle.format.specs.Tests.{and-l, and-r}
 use Rattle.pattern.specs.Patterns.{weighs-back}
 use Rattle.job.specs.Job.{firstOf, sizeOf, countsPart, coloursPart}
 use Rattle.sheet_format.specs.Sheet.{edition1, component, Colour, entry, colours, tile, Sheet, whole, parts, header, rest, sheet}
-use Rattle.sheet_format.specs.Headed.{Sized, above-says, good-says}
+use Rattle.sheet_format.specs.Headed.{Sized, good-says}
 use Rattle.sheet_format.specs.Lists.{floats, patterns, tileCounts, tileFloats, allCounts, allFloats, tableOf}
 use Rattle.sheet_pack.specs.Packed.{coloursOf, tilesFrom, sheetOf}
 use Rattle.sheet.specs.Sheets.{jobOf}

@@ -1,10 +1,10 @@
 -- Reader and writer are exact inverses on what they accept: of sheets as bits, and of the public calls' outcomes. Assumes nothing.
 use mathlib.Core.Path.{_≡_, refl, sym, ap, ap₂, _∙_, subst}
-use Prim.Native.Nat.{ℕ, zero, suc, _+_, _*_, _≤_}
+use Prim.Native.Nat.{ℕ, _+_, _≤_}
 use native.Mathlib.Omega.{arith}
 use mathlib.Core.Bool.{Bool, true, false, cond}
-use mathlib.Core.List.{List, _++_}
-use lib.Dec.{T, leb, eqb, leb→le}
+use mathlib.Core.List.{List}
+use lib.Dec.{T, leb, eqb}
 use lib.Pow.{areBytes}
 use lib.ListN.{length, take, drop}
 use lib.Seq.{sets, sets-eq, take-at}
@@ -13,15 +13,15 @@ use borrow.Author.Tests.{le-leb, eq-eqb, eqb-true, leb-true}
 use Rattle.format.specs.Format.{Answer, refused, accepted, readOf, encode}
 use Rattle.job.specs.Job.{Job, tileSize}
 use Rattle.job.specs.Checks.{plainAnswer}
-use Rattle.job.specs.Ready.{Plain, plain-ready}
-use Rattle.sheet_format.specs.Sheet.{edition1, Sheet, whole, sheet, readSheet}
+use Rattle.job.specs.Ready.{plain-ready}
+use Rattle.sheet_format.specs.Sheet.{edition1, Sheet, sheet, readSheet}
 use Rattle.sheet_format.specs.Exact.{sheet-there, sheet-back}
 use Rattle.sheet_format.specs.Lists.{floats, total}
 use Rattle.sheet_check.specs.Steps.{checkedOf}
 use Rattle.sheet_pack.specs.Packed.{sheetOf}
 use Rattle.sheet.specs.declared.Reading.the-variants as reading
 use Rattle.sheet.specs.declared.Writing.the-variants.{Refused, Bytes}
-use Rattle.sheet.specs.Sheets.{jobOf, Room, room, ReadOutcome, readOutcome, roomy, filled, readInto, readDef, WriteOutcome, writeOutcome, storedIn, writeDef}
+use Rattle.sheet.specs.Sheets.{jobOf, Room, room, ReadOutcome, readOutcome, roomy, readInto, readDef, WriteOutcome, writeOutcome, storedIn, writeDef}
 use Rattle.sheet.specs.Floats.{Singles}
 use Rattle.sheet.specs.Kept.{job-back, palette-back, sheet-good}
 use Rattle.sheet.specs.Again.{sheet-again}

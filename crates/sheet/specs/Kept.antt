@@ -1,7 +1,7 @@
 -- The sheet of a job that passed its checks can be written, and holds that job: the same sizes, weight, table, colours, counts and palette,
 -- as floats, signs of zero too. Assumes nothing.
 use mathlib.Core.Path.{_≡_, refl, sym, ap, ap₂, _∙_, subst}
-use Prim.Native.Nat.{ℕ, zero, suc, pred, _+_, _*_, _^_, _≤_, _<_}
+use Prim.Native.Nat.{ℕ, zero, suc, _+_, _*_, _^_, _≤_, _<_}
 use native.Mathlib.Omega.{arith}
 use native.Mathlib.Nat.{zero-add, zero-mul, mul-pos}
 use mathlib.Core.Bool.{Bool, true, false, _&&_}
@@ -9,7 +9,7 @@ use mathlib.Core.List.{List, [], _∷_, _++_}
 use lib.Dec.{T, leb, ltb, lt→ltb, le→leb}
 use lib.ListN.{length, getD, take, drop, length-drop, take-append-drop}
 use lib.Seq.{drop-cons, drop-drop, drop-length, length-take-le}
-use lib.Ieee.{Float, nan, inf, fin, binary32, ofBits, toBits, fits, lt, up, down}
+use lib.Ieee.{Float, nan, inf, fin, binary32, toBits, fits, lt, up, down}
 use lib.Ieee.Fits.{up-pos}
 use lib.Ieee.Bits.{ofBits-toBits}
 use lib.Ieee.Positive.{positive}
@@ -23,7 +23,7 @@ use Rattle.job.specs.Job.{Job, tileSize, firstOf, sizeOf, countsPart, coloursPa
 use Rattle.job.specs.Ready.{Ready, Lent}
 use Rattle.job.specs.Tiles.{counts-length, tile-three, tile-near}
 use Rattle.pattern.specs.Pattern.{weighs}
-use Rattle.sheet_format.specs.Sheet.{edition1, component, Colour, colours, tile, Sheet, sheet}
+use Rattle.sheet_format.specs.Sheet.{edition1, component, Colour, colours, tile, sheet}
 use Rattle.sheet_format.specs.Lists.{floats, patterns, tileCounts, tileFloats, allCounts, allFloats, tableOf}
 use Rattle.sheet_pack.specs.Packed.{coloursOf, tilesFrom, sheetOf, Counted}
 use Rattle.sheet_pack.specs.Prints.{length-coloursOf}

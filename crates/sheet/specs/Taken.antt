@@ -1,14 +1,14 @@
 -- The job that an accepted sheet holds passes every rule that the writer, and a fit, holds a job to. Assumes nothing.
-use mathlib.Core.Path.{_≡_, refl, sym, ap, ap₂, _∙_, subst}
+use mathlib.Core.Path.{_≡_, refl, sym, ap, _∙_, subst}
 use Prim.Native.Nat.{ℕ, zero, suc, _+_, _*_, _^_, _≤_, _<_}
 use native.Mathlib.Omega.{arith}
 use mathlib.Core.Bool.{Bool, true, false, _&&_}
 use mathlib.Core.List.{List, [], _∷_, _++_}
 use lib.Dec.{T, leb, ltb, eqb, leb→le}
-use lib.IntN.{ℤ, pos}
+use lib.IntN.{pos}
 use lib.ListN.{length, getD, take, drop, length-append, take-append-drop}
 use lib.Seq.{take-suc, take-length}
-use lib.Ieee.{Float, nan, inf, fin, binary32, ofBits, ofFields, odd, lt, le, neg, up, down}
+use lib.Ieee.{Float, nan, inf, fin, binary32, ofBits, ofFields, odd, lt, le, neg}
 use borrow.Author.Tests.{eq-eqb, le-leb}
 use Rattle.lists.specs.Every.{every, sum}
 use Rattle.lists.specs.Tests.{and-i}
@@ -16,20 +16,20 @@ use Rattle.ieee.specs.Order.{le-fin←}
 use Rattle.ieee.specs.NonNeg.{zeroF}
 use Rattle.ieee.specs.Within.{Within}
 use Rattle.color.specs.Color.{Bounded}
-use Rattle.format.specs.Format.{above, times, accepted}
+use Rattle.format.specs.Format.{above, times}
 use Rattle.format.specs.Tests.{and-l, and-r}
 use Rattle.job.specs.First.{firstNot, first-none}
 use Rattle.job.specs.Passing.{pass-all}
-use Rattle.job.specs.Job.{Job, tileSize, mostTileColours, firstOf, sizeOf, countsPart, nought, two, sixteen}
+use Rattle.job.specs.Job.{tileSize, mostTileColours, firstOf, sizeOf, countsPart, nought, two, sixteen}
 use Rattle.job.specs.Checks.{among, within, weightFits, tileTest, tileFits, tilesFit, countTest, countFits, partFits, tileCountsFit, countsFit, componentFits, firstBad, componentsFit, plainRules, plainAnswer}
 use Rattle.pattern.specs.Patterns.{weighs-is}
-use Rattle.sheet_format.specs.Sheet.{edition1, component, Colour, entry, colours, tile, Sheet, parts, sheet, readSheet}
-use Rattle.sheet_format.specs.Headed.{Sized, above-says}
+use Rattle.sheet_format.specs.Sheet.{edition1, component, Colour, entry, colours, tile, Sheet, sheet}
+use Rattle.sheet_format.specs.Headed.{above-says}
 use Rattle.sheet_format.specs.Lists.{floats, tileCounts, tileFloats, allCounts, allFloats, tableOf, total}
 use Rattle.sheet.specs.Sheets.{jobOf}
 use Rattle.sheet.specs.Floats.{components-back}
 use Rattle.sheet.specs.Kept.{sum-front}
-use Rattle.sheet.specs.Again.{Tiled, tile-says, counts-here, table-left, counts-left, colours-left, sized, palette-good, content-good}
+use Rattle.sheet.specs.Again.{tile-says, counts-here, table-left, counts-left, colours-left, sized, palette-good, content-good}
 
 every-passes : (f : ℕ → Bool) (n : ℕ) → ((i : ℕ) → i < n → f i ≡ true) → every f n ≡ true
 unfolding every

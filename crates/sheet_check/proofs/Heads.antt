@@ -1,6 +1,6 @@
 -- What the head of a sheet reads: opening, edition, sizes, weight. Assumes nothing.
-use mathlib.Core.Path.{_≡_, refl, sym, ap, _∙_}
-use Prim.Native.Nat.{ℕ, _+_, _-_, _*_, _^_, _≤_, _<_}
+use mathlib.Core.Path.{_≡_, refl, _∙_}
+use Prim.Native.Nat.{ℕ, _+_, _-_, _*_, _≤_, _<_}
 use native.Mathlib.Omega.{arith}
 use native.Mathlib.Decide.{decLe}
 use mathlib.Core.Bool.{Bool, true, false, cond}
@@ -8,7 +8,7 @@ use mathlib.Core.List.{List}
 use lib.ListN.{length, drop}
 use Rattle.bits.specs.Bits.{bits, fieldAt}
 use Rattle.bits.specs.Bytes.{length-bits}
-use Rattle.format.specs.Format.{Res, fault, got, next, Format, field, checked, above, both, literal}
+use Rattle.format.specs.Format.{Res, fault, got, next, field, above}
 use Rattle.format.specs.Reading.{field-short, field-found, above-short, above-found, checked-fault, checked-got, both-fault, both-got, literal-short, literal-same, literal-other}
 use Rattle.pattern.specs.Pattern.{weighs}
 use Rattle.sheet_format.specs.Sheet.{Edition, weight, tiled, coloured, sized, dated, header}

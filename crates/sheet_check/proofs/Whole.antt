@@ -1,73 +1,25 @@
 -- What the test of a whole sheet finds, from its head, its parts and the bits behind them. Assumes nothing.
-use mathlib.Core.Path.{_≡_, refl, sym, ap, ap₂, _∙_, subst}
-use Prim.Native.Nat.{ℕ, zero, suc, _+_, _-_, _*_, _/_, _%_, _^_, _≤_, _<_}
-use native.Mathlib.Nat.{zero-div, mul-le-mul}
+use mathlib.Core.Path.{_≡_, sym, ap, ap₂, _∙_}
+use Prim.Native.Nat.{ℕ, _-_, _*_, _≤_, _<_}
 use native.Mathlib.Omega.{arith}
-use mathlib.Core.Bool.{Bool, true, false, cond, _&&_, true≢false}
-use mathlib.Core.List.{List, [], _∷_}
-use lib.Dec.{leb, ltb, eqb}
-use lib.ListN.{length, drop, length-drop}
-use lib.Seq.{take-all}
-use borrow.Author.Tests.{le-leb, lt-leb, eq-eqb, ne-eqb, lt-ltb, le-ltb}
-use Rattle.bits.specs.Bits.{bits, bitsOf, num, fieldAt}
-use Rattle.bits.specs.Numbers.{bitsOf-num}
+use mathlib.Core.Bool.{Bool, cond, _&&_}
+use mathlib.Core.List.{List}
+use lib.Dec.{ltb}
+use lib.ListN.{length, drop}
+use borrow.Author.Tests.{le-leb, lt-leb}
+use Rattle.bits.specs.Bits.{bits}
 use Rattle.bits.specs.Bytes.{length-bits}
-use Rattle.format.specs.Format.{Res, fault, got, next, Format, both, times, clear, refused, accepted, ended, readOf}
+use Rattle.format.specs.Format.{Res, fault, got, next, Format, both, clear, refused, accepted, ended, readOf}
 use Rattle.format.specs.Reading.{both-fault, both-got}
 use Rattle.sheet_format.specs.Exact.{rest-lawful}
 use Rattle.sheet_format.specs.Headed.{header-rest, header-sized, header-long}
-use Rattle.sheet_format.specs.Sheet.{Edition, edition1, Header, component, Colour, Parts, whole, tile, header, rest, sheet, readSheet}
-use Rattle.sheet_check.specs.declared.Step.{Step}
-use Rattle.sheet_check.specs.declared.Step.the-variants.{Fault, At}
+use Rattle.sheet_format.specs.Sheet.{Edition, edition1, Header, Colour, Parts, whole, header, rest, sheet, readSheet}
+use Rattle.sheet_tiles.specs.declared.Step.the-variants.{At}
 use Rattle.sheet_check.specs.declared.Checked.{Checked}
 use Rattle.sheet_check.specs.declared.Checked.the-variants.{Refused, Sound}
-use Rattle.sheet_check.specs.Steps.{stepOf, stepAt, headOf, checkedOf}
-use Rattle.sheet_check.proofs.Turns.{step-at}
-
--- ---- spare bits
-zero-bits : (n : ℕ) → clear (bitsOf n 0) ≡ true
-zero-bits zero = refl
-zero-bits (suc n) = ap (λ (m : ℕ). clear (eqb (m % 2) 1 ∷ bitsOf n 0)) (zero-div (2 ^ n)) ∙ zero-bits n
-
-num-clear : (l : List Bool) → clear l ≡ true → num l ≡ 0
-num-clear [] h = refl
-num-clear (true ∷ l) h = absurd (true≢false (sym h))
-num-clear (false ∷ l) h = num-clear l h
-
-clear-num : (l : List Bool) → clear l ≡ eqb (num l) 0
-clear-num l = go (clear l) refl (num l) refl
-  where
-    go : (b : Bool) → clear l ≡ b → (n : ℕ) → num l ≡ n → b ≡ eqb n 0
-    go true h n e = sym (eq-eqb n 0 (sym e ∙ num-clear l h))
-    go false h zero e = absurd (true≢false (sym (zero-bits (length l)) ∙ ap clear (ap (bitsOf (length l)) (sym e) ∙ bitsOf-num (length l) l refl) ∙ h))
-    go false h (suc n) e = sym (ne-eqb (suc n) 0 (omega arith))
-
-module _ (s : List ℕ) (p : ℕ) where
-  left : length (drop p (bits s)) ≡ 8 * length s - p
-  left = length-drop p (bits s) ∙ ap (λ (n : ℕ). n - p) (length-bits s)
-
-  pub spare-some : (w : ℕ) → 8 * length s - p < 8 → w ≡ fieldAt (bits s) p (8 * length s - p) → eqb w 0 ≡ (ltb (length (drop p (bits s))) 8 && clear (drop p (bits s)))
-  spare-some w h e =
-      ap (λ (n : ℕ). eqb n 0) (e ∙ ap num (take-all (8 * length s - p) (drop p (bits s)) (omega (arith, left))))
-      ∙ sym (clear-num (drop p (bits s)))
-      ∙ sym (ap (λ (b : Bool). b && clear (drop p (bits s))) (lt-ltb (length (drop p (bits s))) 8 (omega (arith, left))))
-
-  pub spare-bytes : 8 ≤ 8 * length s - p → false ≡ (ltb (length (drop p (bits s))) 8 && clear (drop p (bits s)))
-  spare-bytes h = sym (ap (λ (b : Bool). b && clear (drop p (bits s))) (le-ltb (length (drop p (bits s))) 8 (omega (arith, left))))
-
--- ---- the palette and the tiles
-module _ (E : Edition) (s : List ℕ) (p n t : ℕ) where
-  forget : (w : List Bool) (a : List ℕ) (x : Res (List (List Colour))) → stepOf {A = List ℕ × List (List Colour)} w (next x (λ b q. got (a, b) q)) ≡ stepOf w x
-  forget w a (fault m) = refl
-  forget w a (got b r) = refl
-
-  pub rest-fault : (f : ℕ) → times n component .parse (drop p (bits s)) ≡ fault f → stepAt (rest E n t) s p ≡ Fault f
-  rest-fault f e = ap (stepOf (bits s)) (both-fault (times n component) (λ p. times t (tile E)) (drop p (bits s)) f e)
-
-  pub rest-got : (a : List ℕ) (q : ℕ) → times n component .parse (drop p (bits s)) ≡ got a (drop q (bits s)) → stepAt (rest E n t) s p ≡ stepAt (times t (tile E)) s q
-  rest-got a q e =
-      ap (stepOf (bits s)) (both-got (times n component) (λ p. times t (tile E)) (drop p (bits s)) a (drop q (bits s)) (times t (tile E) .parse (drop q (bits s))) e refl)
-      ∙ forget (bits s) a (times t (tile E) .parse (drop q (bits s)))
+use Rattle.sheet_tiles.specs.Steps.{stepAt}
+use Rattle.sheet_check.specs.Steps.{headOf, checkedOf}
+use Rattle.sheet_tiles.proofs.Turns.{step-at}
 
 -- ---- the head's answer, taken apart
 refused-is : (n m : ℕ) → _≡_ {A = Checked} (Refused n) (Refused m) → n ≡ m

@@ -1,12 +1,12 @@
 -- The sheet's reader and writer are exact inverses on what they accept, in every edition whose number fits its field. Assumes nothing.
 use mathlib.Core.Path.{_≡_, refl, ap}
-use Prim.Native.Nat.{ℕ, zero, suc, _+_, _*_, _^_, _≤_}
-use mathlib.Core.Bool.{Bool, true, cond}
+use Prim.Native.Nat.{ℕ, zero, suc, _+_, _*_}
+use mathlib.Core.Bool.{true}
 use mathlib.Core.List.{List, [], _∷_}
 use lib.Dec.{T, leb}
 use lib.Pow.{areBytes}
 use lib.ListN.{length}
-use Rattle.format.specs.Format.{Format, field, checked, mapped, above, both, literal, none, cons, times, counted, Answer, accepted, refused, readOf, encode}
+use Rattle.format.specs.Format.{field, checked, above, both, times, accepted, readOf, encode}
 use Rattle.format.specs.Tests.{and-r}
 use Rattle.format.specs.Lawful.{Lawful, field-lawful, checked-lawful, mapped-lawful, above-lawful, both-lawful, literal-lawful, none-lawful, cons-lawful, times-lawful, counted-lawful}
 use Rattle.format.specs.Files.{decode-encode, encode-decode}

@@ -1,13 +1,13 @@
 -- What a header that was read says: it takes 86 bits, and its numbers are within their ranges. Assumes nothing.
-use mathlib.Core.Path.{_≡_, refl, sym, ap, _∙_}
-use Prim.Native.Nat.{ℕ, pred, _+_, _*_, _^_, _≤_, _<_}
+use mathlib.Core.Path.{_≡_, refl, ap}
+use Prim.Native.Nat.{ℕ, pred, _*_, _^_, _≤_, _<_}
 use native.Mathlib.Omega.{arith}
 use native.Mathlib.Nat.{mul-le-mul}
 use mathlib.Core.Bool.{Bool, _&&_}
-use mathlib.Core.List.{List, _++_}
+use mathlib.Core.List.{List}
 use lib.Dec.{T, ltb, ltb→lt}
 use lib.ListN.{length, drop, length-append}
-use Rattle.format.specs.Format.{got, Format, field, checked, above, both, literal}
+use Rattle.format.specs.Format.{got, field, above}
 use Rattle.format.specs.Tests.{and-l, and-r}
 use Rattle.format.specs.Fixed.{Fixed, field-fixed, checked-fixed, above-fixed, both-fixed, literal-fixed}
 use Rattle.pattern.specs.Pattern.{weighs}

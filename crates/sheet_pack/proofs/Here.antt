@@ -2,7 +2,7 @@
 use mathlib.Core.Path.{_≡_, refl, sym, ap, ap₂, _∙_, subst⁻¹}
 use Prim.Native.Nat.{ℕ, suc, _+_, _-_, _*_, _≤_, _<_}
 use native.Mathlib.Omega.{arith}
-use mathlib.Core.List.{List, _∷_, _++_}
+use mathlib.Core.List.{List, _∷_}
 use lib.ListN.{length, length-append}
 use lib.Ieee.{Float}
 use Rattle.lists.specs.Every.{sum}
@@ -14,7 +14,7 @@ use Rattle.job.specs.Job.{Job, job, tileSize, sizeOf, countsPart, coloursPart, 
 use Rattle.job.specs.Tiles.{counts-placed, colours-placed, counts-length, tile-three, tile-near}
 use Rattle.sheet_format.specs.Sheet.{edition1, Colour}
 use Rattle.sheet_pack.specs.Packed.{coloursOf, tilesFrom, coloursBits, tileBits, Counted, Tabled}
-use Rattle.sheet_pack.specs.Prints.{length-coloursOf, length-coloursBits}
+use Rattle.sheet_pack.specs.Prints.{length-coloursBits}
 
 pub none-before : (tb : List ℕ) → sum (sizeOf tb) 0 ≡ 0
 unfolding sum

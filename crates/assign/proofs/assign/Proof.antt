@@ -1,6 +1,6 @@
 -- `assign::assign` meets its contract: a refusal writes nothing, and the rest is the walk over the tiles. Assumes nothing.
 use native.Mathlib.Omega.{arith}
-use Rattle.assign.proofs.Fills.{stop, go, done}
+use Rattle.assign.proofs.Answers.{stop, go, done}
 use borrow.Author.Needs.{needs}
 use Rattle.assign.proofs.assign.Statement.{statement}
 use Rattle.assign.proofs.assign.Tie as tie

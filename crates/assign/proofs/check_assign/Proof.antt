@@ -1,5 +1,5 @@
 -- `assign::check_assign` meets its contract: the rules of every call without samples, with its own room. Assumes nothing.
-use Rattle.assign.proofs.Fills.{checked}
+use Rattle.assign.proofs.Answers.{checked}
 use borrow.Author.Needs.{needs}
 use Rattle.assign.proofs.check_assign.Statement.{statement}
 use Rattle.assign.proofs.check_assign.Tie as tie

@@ -1,15 +1,13 @@
 -- `gather` meets its contract. The loop's invariant: v is the number of the bytes passed. Assumes nothing.
 use Prim.Native.Nat.{ℕ, _≤_, _+_, _-_, _*_}
-use mathlib.Core.Path.{_≡_, refl, ap, _∙_}
+use mathlib.Core.Path.{_≡_, ap, _∙_}
 use native.Mathlib.Omega.{arith}
 use native.Mathlib.Nat.{sub-self}
-use lib.ListN.{take, drop, length, getD}
+use lib.ListN.{take, drop, getD}
 use Rattle.bits.specs.Bits.{num, bits}
 use Rattle.bits.proofs.Gathered.{gathered-lt, gather-step}
 use Rattle.bits.proofs.gather.Statement.{statement}
 use Rattle.bits.proofs.gather.Tie as tie
-use Rattle.bits.proofs.gather.Reads as reads
-use Rattle.bits.proofs.gather.Lts as lts
 
 abbrev Inv-loop : tie.InvT-loop
 Inv-loop s first end v₀ j₀ v j = (first ≤ j) × (j ≤ end) × (v ≡ num (bits (take (j - first) (drop first s))))

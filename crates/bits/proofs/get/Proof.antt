@@ -7,9 +7,6 @@ use Rattle.bits.proofs.Gathered.{field-read, shl-some}
 use borrow.Author.Needs.{needs}
 use Rattle.bits.proofs.get.Statement.{statement}
 use Rattle.bits.proofs.get.Tie as tie
-use Rattle.bits.proofs.get.Reads as reads
-use Rattle.bits.proofs.get.Lts as lts
-use Rattle.bits.proofs.gather.Reads as gather-reads
 
 add-end : tie.Need-add-end
 add-end c = search needs

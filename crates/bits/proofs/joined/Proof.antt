@@ -5,8 +5,6 @@ use Rattle.bits.proofs.Spelled.{high-fits, joined-is, joined-fits}
 use borrow.Author.Needs.{needs}
 use Rattle.bits.proofs.joined.Statement.{statement}
 use Rattle.bits.proofs.joined.Tie as tie
-use Rattle.bits.proofs.joined.Reads as reads
-use Rattle.bits.proofs.joined.Lts as lts
 
 shl-high : tie.Need-shl-high
 shl-high c = search needs

@@ -8,11 +8,6 @@ use Rattle.bits.proofs.Spelled.{put-done}
 use borrow.Author.Needs.{needs}
 use Rattle.bits.proofs.put.Statement.{statement}
 use Rattle.bits.proofs.put.Tie as tie
-use Rattle.bits.proofs.put.Reads as reads
-use Rattle.bits.proofs.put.Lts as lts
-use Rattle.bits.proofs.get.Reads as get-reads
-use Rattle.bits.proofs.joined.Reads as joined-reads
-use Rattle.bits.proofs.spell.Reads as spell-reads
 
 add-end : tie.Need-add-end
 add-end c = search needs

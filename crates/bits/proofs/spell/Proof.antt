@@ -8,8 +8,6 @@ use Rattle.bits.specs.Bits.{bits, bitsOf}
 use Rattle.bits.proofs.Spelled.{spell-step, spell-end}
 use Rattle.bits.proofs.spell.Statement.{statement}
 use Rattle.bits.proofs.spell.Tie as tie
-use Rattle.bits.proofs.spell.Reads as reads
-use Rattle.bits.proofs.spell.Lts as lts
 
 abbrev Inv-loop : tie.InvT-loop
 Inv-loop s₀ first end x j₀ s j =

@@ -1,4 +1,9 @@
--- `run_advance::advance` meets its contract, refused or not. Assumes nothing.
+-- `run_advance::advance` meets its contract, refused or not: each is a law of proofs/Answered.antt. The job is written out where it
+-- would be found only by comparing all that is lent. Assumes nothing.
+use mathlib.Core.Path.{refl}
+use denote.Ref.{now}
+use Rattle.job.specs.Job.{job, tileSize}
+use Rattle.quantizer.specs.Course.{course}
 use Rattle.calls.specs.Accepted.{few-pixels}
 use Rattle.run_advance.proofs.Answered.{refused, work-asks, advanced}
 use borrow.Author.Needs.{needs}
@@ -9,19 +14,19 @@ refuses-advance-requires : tie.Need-refuses-advance-requires
 refuses-advance-requires c κs = search needs
 
 same-length : tie.Need-same-length
-same-length c = search needs
+same-length c = refl
 
 same-length-2 : tie.Need-same-length-2
-same-length-2 c = search needs
+same-length-2 c = refl
 
 same-length-3 : tie.Need-same-length-3
-same-length-3 c = search needs
+same-length-3 c = refl
 
 same-length-4 : tie.Need-same-length-4
-same-length-4 c = search needs
+same-length-4 c = refl
 
 same-length-5 : tie.Need-same-length-5
-same-length-5 c = search needs
+same-length-5 c = refl
 
 returns : tie.Need-returns
 returns c = refused _ _ _ _ _ _ _ _ (c .before .refuses-advance .ensures) _ (c .if1 .taken)
@@ -45,7 +50,11 @@ same-length-10 : tie.Need-same-length-10
 same-length-10 c = search needs
 
 returns-2 : tie.Need-returns-2
-returns-2 c = advanced _ _ _ _ _ _ _ _ (c .before .before .before .before .before .before .before .before .before .before .before .before .before .before .before .before .before .refuses-advance .ensures) _ (c .before .before .before .before .before .before .before .before .before .before .before .before .before .before .before .before .if1 .left) _ (c .before .before .before .before .before .before .before .before .before .before .advance-work .ensures)
+returns-2 c =
+    let worked = c .before .before .before .before .before .before .before .before .before .before in
+    let passed = worked .before .before .before .before .before .before in
+    let a = passed .before .before .before .before .before .before .before .before .before .before .before .before .before .before .before .before .args in
+    advanced tileSize (course (job (a .s) (a .c) (a .t) (a .weight) (now (a .tiles)) (now (a .colours)) (now (a .counts))) (a .n) (now (a .samples))) (now (a .order)) (now (a .hints)) (now (a .palette)) (now (a .least)) (now (a .words)) _ (passed .before .refuses-advance .ensures) (a .allotment) (passed .if1 .left) _ (worked .advance-work .ensures)
 
 pub advance-spec : {M : Type 1} → statement M
 advance-spec =

@@ -1,4 +1,8 @@
--- `run_draw::draw` meets its contract: what is asked and left is a law of proofs/Steps.antt. Assumes nothing.
+-- `run_draw::draw` meets its contract: what is asked and left is a law of proofs/Steps.antt. Its job is written out, since finding
+-- it means comparing all that is lent. Assumes nothing.
+use denote.Ref.{now}
+use Rattle.job.specs.Job.{job}
+use Rattle.quantizer.specs.Course.{course}
 use Rattle.run_draw.proofs.Steps.{going-by, drawn-by}
 use borrow.Author.Needs.{needs}
 use Rattle.run_draw.proofs.draw.Statement.{statement}
@@ -14,7 +18,7 @@ alpha-of-requires : tie.Need-alpha-of-requires
 alpha-of-requires c κs = search needs
 
 draw-requires : tie.Need-draw-requires
-draw-requires c κs = going-by _ _ _ _ (c .before .before .before .before .before .before .before .before .before .before .before .before .before .args .r) _ _ (c .before .before .before .before .before .subs-of .ensures) (c .before .before .before .before .have-of .ensures) (c .before .before .before .before .before .before .before .before .before .before .before .before .before .pre .going)
+draw-requires c κs = let a = c .before .before .before .before .before .before .before .before .before .before .before .before .before .args in going-by (course (job (a .s) (a .c) (a .t) (a .weight) (now (a .tiles)) (now (a .colours)) (now (a .counts))) (a .n) (now (a .samples))) (now (a .order)) (now (a .hints)) (now (a .palette)) (a .r) _ _ (c .before .before .before .before .before .subs-of .ensures) (c .before .before .before .before .have-of .ensures) (c .before .before .before .before .before .before .before .before .before .before .before .before .before .pre .going)
 
 sub-t29 : tie.Need-sub-t29
 sub-t29 c = search needs
@@ -29,7 +33,7 @@ same-length-3 : tie.Need-same-length-3
 same-length-3 c = search needs
 
 returns : tie.Need-returns
-returns c = drawn-by _ _ _ _ (c .before .before .before .before .before .before .before .before .before .before .before .before .before .before .before .before .before .before .before .before .args .r) _ _ (c .before .before .before .before .before .before .before .before .before .before .before .before .subs-of .ensures) (c .before .before .before .before .before .before .before .before .before .before .before .have-of .ensures) _ (c .before .before .before .before .before .before .before .before .before .before .alpha-of .ensures) _ _ _ _ _ (c .before .before .before .before .before .before .draw .ensures .0) (c .before .before .before .before .before .before .draw .ensures .1 .0) (c .before .before .before .before .before .before .draw .ensures .1 .1)
+returns c = let a = c .before .before .before .before .before .before .before .before .before .before .before .before .before .before .before .before .before .before .before .before .args in drawn-by (course (job (a .s) (a .c) (a .t) (a .weight) (now (a .tiles)) (now (a .colours)) (now (a .counts))) (a .n) (now (a .samples))) (now (a .order)) (now (a .hints)) (now (a .palette)) (a .r) _ _ (c .before .before .before .before .before .before .before .before .before .before .before .before .subs-of .ensures) (c .before .before .before .before .before .before .before .before .before .before .before .have-of .ensures) _ (c .before .before .before .before .before .before .before .before .before .before .alpha-of .ensures) _ _ _ _ _ (c .before .before .before .before .before .before .draw .ensures .0) (c .before .before .before .before .before .before .draw .ensures .1 .0) (c .before .before .before .before .before .before .draw .ensures .1 .1)
 
 pub draw-spec : {M : Type 1} → statement M
 draw-spec =

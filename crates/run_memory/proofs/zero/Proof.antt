@@ -32,7 +32,7 @@ loop-less : tie.Need-loop-less Inv-loop μ-loop
 loop-less c = omega (arith, c .before .loop .inv .1 .0)
 
 loop-again : tie.Need-loop-again Inv-loop μ-loop
-loop-again c = (omega (arith, c .before .loop .inv .1 .0), (simp length-set (c .before .loop .inv .1 .0), fill-more nan _ _ _ (c .loop-test .taken) (c .before .loop .inv .1 .1)))
+loop-again c = (omega (arith, c .before .loop .inv .1 .0), (simp length-set (c .before .loop .inv .1 .0), fill-more nan (c .before .loop .numbers) _ (c .before .loop .i) (c .loop-test .taken) (c .before .loop .inv .1 .1)))
 
 same-length : tie.Need-same-length Inv-loop μ-loop
 same-length c = c .before .loop .inv .1 .0

@@ -1,6 +1,6 @@
 -- `fill_colours` meets its contract. The loop's invariant: what is left to store, at some sum, gives the whole. Assumes nothing.
 use Prim.Native.Nat.{ℕ, _≤_, _-_, _*_, _+_}
-use mathlib.Core.Path.{_≡_, refl, sym, ap, _∙_, subst}
+use mathlib.Core.Path.{_≡_, refl, sym, _∙_, subst}
 use native.Mathlib.Omega.{arith}
 use native.Mathlib.Nat.{sub-zero, add-zero}
 use lib.ListN.{length, length-set}

@@ -1,5 +1,5 @@
 -- `fill_tiles` meets its contract. The loop's invariant: what is left to store gives the whole, and has room. Assumes nothing.
-use Prim.Native.Nat.{ℕ, _≤_, _-_, _*_, _+_}
+use Prim.Native.Nat.{ℕ, _≤_, _-_, _*_}
 use mathlib.Core.Path.{_≡_, refl, sym, _∙_, subst}
 use native.Mathlib.Omega.{arith}
 use native.Mathlib.Nat.{sub-zero, zero-add}

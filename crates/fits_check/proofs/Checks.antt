@@ -1,0 +1,47 @@
+-- What the checks of one tile answer. Assumes nothing.
+use Prim.Native.Nat.{ℕ, _<_}
+use mathlib.Core.Path.{_≡_, refl, sym, ap, _∙_}
+use mathlib.Core.Bool.{Bool, true, false, not}
+use mathlib.Core.List.{List}
+use native.Mathlib.Omega.{arith}
+use lib.Dec.{eqb}
+use lib.Ieee.{Float}
+use lib.ListN.{length}
+use borrow.Author.Tests.{eq-eqb, ne-eqb}
+use Rattle.job.specs.Rules.{numbered}
+use Rattle.job.specs.Passing.{stops, goes, skips, fails, none}
+use Rattle.job.specs.Job.{Job, isEmpty}
+use Rattle.job.specs.Checks.{plainAnswer}
+use Rattle.fits_check.specs.One.{oneRules, oneAnswer, singleAnswer}
+use Rattle.fits_check.specs.Passes.{one-tile, one-plain}
+
+module _ (size : ℕ) (J : Job) (palette : List Float) (n : ℕ) where
+  -- ---- what the checks answer
+  pub one-many : (J .T ≡ 1 → ⊥) → 2 ≡ oneAnswer size J palette n
+  unfolding oneAnswer
+  one-many h = fails _ _ _ (ne-eqb _ _ h)
+
+  pub one-checked : J .T ≡ 1 → (r : ℕ) → r ≡ plainAnswer size J palette (eqb n (J .T)) → r ≡ oneAnswer size J palette n
+  unfolding oneAnswer plainAnswer
+  one-checked h r e = skips _ _ _ _ (eq-eqb _ _ h) e
+
+  module _ (a : ℕ) (e : a ≡ oneAnswer size J palette n) where
+    pub single-stops : (a ≡ 0 → ⊥) → a ≡ singleAnswer size J palette n
+    unfolding oneAnswer singleAnswer numbered
+    single-stops h = stops (oneRules size J palette n) _ a refl e h
+
+    module _ (z : a ≡ 0) where
+      answered : oneAnswer size J palette n ≡ 0
+      answered = sym e ∙ z
+
+      pub one-listed : 1 < length (J .tiles)
+      one-listed = omega (arith, one-tile size J palette n answered, one-plain size J palette n answered .ready .table)
+
+      -- ---- the single fit's own rule
+      pub single-empty : (r : Bool) → r ≡ isEmpty J 0 → r ≡ true → 15 ≡ singleAnswer size J palette n
+      unfolding oneAnswer singleAnswer numbered
+      single-empty r f h = goes (oneRules size J palette n) _ a 15 refl e z (fails _ _ _ (ap not (sym f ∙ h)))
+
+      pub single-passes : (r : Bool) → r ≡ isEmpty J 0 → r ≡ false → 0 ≡ singleAnswer size J palette n
+      unfolding oneAnswer singleAnswer numbered
+      single-passes r f h = goes (oneRules size J palette n) _ a 0 refl e z (skips _ _ _ _ (ap not (sym f ∙ h)) none)

@@ -1,0 +1,84 @@
+-- The loop of an advance: where it starts, what a step asks and leaves, and what its end comes to. Assumes nothing.
+use mathlib.Core.Path.{_≡_, sym, ap, subst, _∙_}
+use mathlib.Core.Logic.{inl, inr}
+use mathlib.Core.Bool.{Bool, true, false, _&&_}
+use mathlib.Core.List.{List}
+use Prim.Native.Nat.{ℕ, _+_, _<_}
+use lib.Dec.{ltb}
+use lib.Ieee.{Float}
+use lib.ListN.{length}
+use borrow.Author.Tests.{ltb-true, ltb-false}
+use Rattle.lists.specs.Tests.{and-l, and-r}
+use Rattle.quantizer.specs.Course.{Course}
+use Rattle.stages.specs.declared.Record.{Record}
+use Rattle.stages.specs.State.{State, stateWith, draws}
+use Rattle.stages.specs.Stages.{going, step, advance, drawsOf}
+use Rattle.stages.specs.Calls.{recordOf, wordsOf, memory, memoryOf, outcome}
+use Rattle.calls.specs.Cases.{decide}
+use Rattle.calls.specs.Whilsts.{Far, far-start, far-step, far-stop, far-end}
+use Rattle.calls.specs.Fit.{Fit, step-fit}
+use Rattle.run_steps.specs.Running.{Running, Ongoing}
+
+-- of `a` draws from the first state, m are made and s is reached; both states are runs
+pub record Advancing (K : Course) (a : ℕ) (first : State) (m : ℕ) (s : State) : Type 0 where
+  pub from : Fit K first
+  pub running : Running K s
+  pub far : Far (going K) (step K) a first m s
+
+pub begun : (K : Course) (a : ℕ) (o h : List ℕ) (p l : List Float) (w : List ℕ) (r : Record) → r ≡ recordOf w → Running K (stateWith o h p l (recordOf w))
+    → Advancing K a (stateWith o h p l r) 0 (stateWith o h p l r)
+begun K a o h p l w r e R =
+    let Q = subst (λ (x : Record). Running K (stateWith o h p l x)) (sym e) R in
+    record { from = Q .fit; running = Q; far = far-start (going K) (step K) a (stateWith o h p l r) }
+
+module _ {K : Course} {a : ℕ} {first : State} {m : ℕ} {s : State} (A : Advancing K a first m s) where
+  module _ (t : Bool) (e : t ≡ (ltb m a && draws (s .stage))) where
+    pub ongoing : t ≡ true → Ongoing K s
+    ongoing h = record { running = A .running; going = and-r (ltb m a) (draws (s .stage)) (sym e ∙ h) }
+
+    pub allotted : t ≡ true → m < a
+    allotted h = ltb-true m a (and-l (ltb m a) (draws (s .stage)) (sym e ∙ h))
+
+    pub gone-on : t ≡ true → (z : State) → z ≡ step K s → Advancing K a first (m + 1) z
+    gone-on h z q =
+        let R = A .running in
+        let d = ongoing h .going in
+        record {
+          from = A .from;
+          running = record { size = R .size; small = R .small; room = R .room; passed = R .passed; fit = subst (Fit K) (sym q) (step-fit (R .size) (R .small) K (R .room) (R .passed) s (R .fit) d) };
+          far = subst (Far (going K) (step K) a first (m + 1)) (sym q) (far-step (going K) (step K) (A .far) (allotted h) d);
+        }
+
+    ended : t ≡ false → (s ≡ advance K a first) × (m ≡ drawsOf K a first)
+    ended h = elim (decide (ltb m a)) [
+      | inl y ↦ far-stop (going K) (step K) (A .far) (subst (λ (x : Bool). (x && draws (s .stage)) ≡ false) y (sym e ∙ h))
+      | inr n ↦ far-end (going K) (step K) (A .far) (ltb-false m a n)
+    ]
+
+-- the lengths of the memory stay
+module _ {K : Course} {a : ℕ} {first : State} {m : ℕ} {s : State} (A : Advancing K a first m s) where
+  pub order-kept : length (s .order) ≡ length (first .order)
+  order-kept = A .running .fit .sound .dealt .size ∙ sym (A .from .sound .dealt .size)
+
+  pub hints-kept : length (s .hints) ≡ length (first .hints)
+  hints-kept = A .running .fit .sound .hints ∙ sym (A .from .sound .hints)
+
+  pub palette-kept : length (s .palette) ≡ length (first .palette)
+  palette-kept = A .running .fit .sound .held .size ∙ sym (A .from .sound .held .size)
+
+  pub least-kept : length (s .least) ≡ length (first .least)
+  least-kept = A .running .fit .sound .room ∙ sym (A .from .sound .room)
+
+-- what is left once the record is written
+pub worked : (K : Course) (a : ℕ) (o h : List ℕ) (p l : List Float) (w : List ℕ) (r : Record) → r ≡ recordOf w
+    → (m : ℕ) (o2 h2 : List ℕ) (p2 l2 : List Float) (r2 : Record) → Advancing K a (stateWith o h p l r) m (stateWith o2 h2 p2 l2 r2)
+    → (t : Bool) → t ≡ (ltb m a && draws (r2 .stage)) → t ≡ false
+    → (w2 : List ℕ) → w2 ≡ wordsOf r2
+    → outcome 0 m (memory o2 h2 p2 l2 w2) ≡ outcome 0 (drawsOf K a (stateWith o h p l (recordOf w))) (memoryOf (advance K a (stateWith o h p l (recordOf w))))
+unfolding memoryOf
+worked K a o h p l w r e m o2 h2 p2 l2 r2 A t f n w2 q =
+    let z = ended A t f n in
+    subst (λ (x : Record). outcome 0 m (memory o2 h2 p2 l2 w2) ≡ outcome 0 (drawsOf K a (stateWith o h p l x)) (memoryOf (advance K a (stateWith o h p l x)))) e
+    (ap (λ (x : ℕ). outcome 0 x (memory o2 h2 p2 l2 w2)) (z .1)
+    ∙ ap (λ (x : List ℕ). outcome 0 (drawsOf K a (stateWith o h p l r)) (memory o2 h2 p2 l2 x)) q
+    ∙ ap (λ (x : State). outcome 0 (drawsOf K a (stateWith o h p l r)) (memoryOf x)) (z .0))

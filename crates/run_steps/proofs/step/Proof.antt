@@ -1,0 +1,38 @@
+-- `run_steps::step` meets its contract: what is asked and left is a law of proofs/Steps.antt. Assumes nothing.
+use Rattle.run_steps.proofs.Steps.{draw-asks, settle-asks, stepped}
+use borrow.Author.Needs.{needs}
+use Rattle.run_steps.proofs.step.Statement.{statement}
+use Rattle.run_steps.proofs.step.Tie as tie
+
+draw-requires : tie.Need-draw-requires
+draw-requires c κs = draw-asks _ _ _ _ _ (c .before .before .before .before .before .before .before .before .before .before .before .args .r) (c .before .before .before .before .before .before .before .before .before .before .before .pre)
+
+settle-requires : tie.Need-settle-requires
+settle-requires c κs = settle-asks _ _ _ _ _ (c .before .before .before .before .before .before .before .before .before .before .before .before .before .before .before .before .before .before .before .before .before .before .args .r) _ _ _ (c .before .before .before .before .before .before .before .before .before .before .draw .result) (c .before .before .before .before .before .before .before .before .before .before .draw .ensures) (c .before .before .before .before .before .before .before .before .before .before .before .before .before .before .before .before .before .before .before .before .before .before .pre)
+
+same-length : tie.Need-same-length
+same-length c = search needs
+
+same-length-2 : tie.Need-same-length-2
+same-length-2 c = search needs
+
+same-length-3 : tie.Need-same-length-3
+same-length-3 c = search needs
+
+same-length-4 : tie.Need-same-length-4
+same-length-4 c = search needs
+
+returns : tie.Need-returns
+returns c = stepped _ _ _ _ (c .before .before .before .before .before .before .before .before .before .before .before .before .before .before .before .before .before .before .before .before .before .before .before .before .before .before .before .before .before .args .least .now) (c .before .before .before .before .before .before .before .before .before .before .before .before .before .before .before .before .before .before .before .before .before .before .before .before .before .before .before .before .before .args .r) _ _ _ (c .before .before .before .before .before .before .before .before .before .before .before .before .before .before .before .before .before .draw .result) (c .before .before .before .before .before .before .before .before .before .before .before .before .before .before .before .before .before .draw .ensures) _ (c .before .before .before .before .before .before .settle .ensures)
+
+pub step-spec : {M : Type 1} → statement M
+step-spec =
+    tie.close
+    (tie.spec
+    draw-requires
+    settle-requires
+    same-length
+    same-length-2
+    same-length-3
+    same-length-4
+    returns)

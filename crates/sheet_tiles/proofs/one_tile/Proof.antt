@@ -1,0 +1,55 @@
+-- `one_tile` meets its contract, by each answer to the number of colours. Assumes nothing.
+use Prim.Native.Nat.{ℕ, _≤_, _-_, _*_, _+_}
+use mathlib.Core.Path.{_≡_, refl, sym, ap, _∙_}
+use mathlib.Core.Bool.{true, false}
+use native.Mathlib.Omega.{arith}
+use lib.ListN.{length}
+use native.Mathlib.Nat.{sub-zero}
+use Rattle.format.specs.Format.{times, next, got}
+use Rattle.bits.specs.Bits.{bits}
+use Rattle.sheet_tiles.proofs.Turns.{tile-short, tile-many, tile-read}
+use borrow.Author.Needs.{needs}
+use Rattle.sheet_tiles.proofs.one_tile.Statement.{statement}
+use Rattle.sheet_format.specs.Sheet.{edition1}
+use Rattle.sheet_tiles.proofs.one_tile.Tie as tie
+
+mul-end : tie.Need-mul-end
+mul-end c = search needs
+
+sub-if1 : tie.Need-sub-if1
+sub-if1 c = search needs
+
+returns : tie.Need-returns
+returns c = sym (tile-short edition1 (c .before .before .args .s .now) (c .before .before .args .p) (omega arith))
+
+get-requires : tie.Need-get-requires
+get-requires c κs = search needs
+
+returns-2 : tie.Need-returns-2
+returns-2 c = sym (tile-many edition1 (c .before .before .before .before .args .s .now) (c .before .before .before .before .args .p) (c .before .get .result) (omega arith) (c .before .get .ensures) (omega arith))
+
+add-tile-colours : tie.Need-add-tile-colours
+add-tile-colours c = search needs
+
+cast-tile-colours : tie.Need-cast-tile-colours
+cast-tile-colours c = search needs
+
+tile-colours-requires : tie.Need-tile-colours-requires
+tile-colours-requires c κs = search needs
+
+returns-3 : tie.Need-returns-3
+returns-3 c = c .tile-colours .ensures ∙ sym (tile-read edition1 (c .before .before .before .before .before .args .s .now) (c .before .before .before .before .before .args .p) (c .before .before .get .result) (omega arith) (c .before .before .get .ensures) (omega arith))
+
+pub one-tile-spec : {M : Type 1} → statement M
+one-tile-spec =
+    tie.close
+    (tie.spec
+    mul-end
+    sub-if1
+    returns
+    get-requires
+    returns-2
+    add-tile-colours
+    cast-tile-colours
+    tile-colours-requires
+    returns-3)

@@ -1,0 +1,43 @@
+-- `palette_then_tiles` meets its contract: a fault of the palette comes before the tiles'. Assumes nothing.
+use Prim.Native.Nat.{ℕ, _≤_, _-_}
+use mathlib.Core.Path.{_≡_, sym, _∙_}
+use native.Mathlib.Omega.{arith}
+use mathlib.Core.List.{List}
+use lib.ListN.{length, drop}
+use Rattle.bits.specs.Bits.{bits}
+use Rattle.bits.specs.Bytes.{length-bits}
+use Rattle.format.specs.Format.{times, got}
+use Rattle.sheet_format.specs.Sheet.{component, edition1}
+use Rattle.format.specs.Lawful.{times-lawful}
+use Rattle.sheet_format.specs.Exact.{component-lawful}
+use Rattle.sheet_tiles.proofs.Turns.{step-fault, step-at}
+use Rattle.sheet_tiles.proofs.Rest.{rest-fault, rest-got}
+use borrow.Author.Needs.{needs}
+use Rattle.sheet_tiles.proofs.palette_then_tiles.Statement.{statement}
+use Rattle.sheet_tiles.proofs.palette_then_tiles.Tie as tie
+
+components-requires : tie.Need-components-requires
+components-requires c κs = search needs
+
+enum-known-f : tie.Need-enum-known-f
+enum-known-f c = search needs
+
+enum-known-q : tie.Need-enum-known-q
+enum-known-q c = search needs
+
+abbrev reading : (c : tie.After-known-told2) → (a : List ℕ) × (times (c .before .before .before .before .before .args .n) component .parse (drop (c .before .before .before .before .before .args .p) (bits (c .before .before .before .before .before .args .s .now))) ≡ got a (drop (c .before .q .given .0 .0) (bits (c .before .before .before .before .before .args .s .now)))) × (c .before .q .given .0 .0 ≤ length (bits (c .before .before .before .before .before .args .s .now)))
+reading c = step-at (times (c .before .before .before .before .before .args .n) component) (times-lawful (c .before .before .before .before .before .args .n) component component-lawful) (bits (c .before .before .before .before .before .args .s .now)) (c .before .before .before .before .before .args .p) (rw length-bits (omega arith)) (c .before .q .given .0 .0) (sym (c .before .q .given .1) ∙ c .before .before .before .components .ensures)
+
+all-tiles-requires : tie.Need-all-tiles-requires
+all-tiles-requires c κs = omega (arith, reading c .2, length-bits (c .before .before .before .before .before .args .s .now))
+
+returns : tie.Need-returns
+returns c = sym (rest-fault edition1 (c .before .before .before .before .before .args .s .now) (c .before .before .before .before .before .args .p) (c .before .before .before .before .before .args .n) (c .before .before .before .before .before .args .t) (c .before .f .given .0 .0) (step-fault (bits (c .before .before .before .before .before .args .s .now)) _ (c .before .f .given .0 .0) (sym (c .before .f .given .1) ∙ c .before .before .before .components .ensures)))
+
+returns-2 : tie.Need-returns-2
+returns-2 c = c .all-tiles .ensures ∙ sym (rest-got edition1 (c .before .before .before .before .before .before .args .s .now) (c .before .before .before .before .before .before .args .p) (c .before .before .before .before .before .before .args .n) (c .before .before .before .before .before .before .args .t) (reading (c .before) .0) (c .before .before .q .given .0 .0) (reading (c .before) .1))
+
+pub palette-then-tiles-spec : {M : Type 1} → statement M
+palette-then-tiles-spec =
+    tie.close
+    (tie.spec components-requires enum-known-f enum-known-q all-tiles-requires returns returns-2)
