@@ -7,12 +7,14 @@ use lib.Dec.{eqb}
 use lib.Ieee.{Float}
 use lib.ListN.{length}
 use borrow.Author.Tests.{eq-eqb, ne-eqb, eqb-true}
-use Rattle.lists.specs.Tests.{and-l, and-r}
+use Rattle.lists.proofs.Tests.{and-l, and-r}
 use Rattle.job.specs.Job.{Job}
 use Rattle.job.specs.Checks.{plainAnswer}
-use Rattle.job.specs.Ready.{Plain, plain-ready}
-use Rattle.fits.specs.Shown.{shown}
-use Rattle.assign.specs.Assign.{Held, outcome, assigned, roomFor, assignAnswer, assignDef, Ready}
+use Rattle.job.specs.Gives.{Plain}
+use Rattle.job.proofs.Ready.{plain-ready}
+use Rattle.fits.proofs.Shown.{shown}
+use Rattle.assign_tiles.specs.Tiles.{Held, assigned, Ready}
+use Rattle.assign.specs.Assign.{outcome, roomFor, assignAnswer, assignDef}
 
 module _ (size : ℕ) (J : Job) (palette : List Float) (h : Held) where
   pub checked : (room : Bool) (r : ℕ) → room ≡ roomFor (J .T) (length (h .hints)) (length (h .out)) → r ≡ plainAnswer size J palette room → r ≡ assignAnswer size J palette h

@@ -1,1 +1,3 @@
 mod Answers
+pub mod Reading
+pub mod Only

@@ -1,3 +1,1 @@
 pub mod Assign
-pub mod Reading
-pub mod Only

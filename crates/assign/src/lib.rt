@@ -2,7 +2,8 @@
 // It first asks for the number of the first rule broken, over shared slices, so that a refusal writes nothing.
 ghost use mathlib.Core.Path.{_≡_};
 ghost use Rattle.job.specs.Job.{job, tileSize};
-ghost use Rattle.assign.specs.Assign.{held, outcome, roomFor, assignAnswer, assignDef};
+ghost use Rattle.assign_tiles.specs.Tiles.{held};
+ghost use Rattle.assign.specs.Assign.{outcome, roomFor, assignAnswer, assignDef};
 
 // Whether both lent slices have a place for each tile.
 fn has_room(t: usize, hints: usize, out: usize) -> bool

@@ -11,10 +11,10 @@ use lib.ListN.{length, set}
 use borrow.Author.Tests.{eqb-true, eqb-false}
 use Rattle.stats.specs.declared.Near.{Near}
 use Rattle.job.specs.Job.{Job, sizeOf, isEmpty}
-use Rattle.job.specs.Tiles.{tile-listed}
+use Rattle.job.proofs.Tiles.{tile-listed}
 use Rattle.palette_tile.specs.Tiles.{fitAt, winner, hintsOf, Fitted}
-use Rattle.palette_tile.specs.Hints.{hint-kept, hint-written}
-use Rattle.palette_tile.specs.Present.{winner-below}
+use Rattle.palette_tile.proofs.Hints.{hint-kept, hint-written}
+use Rattle.palette_tile.proofs.Present.{winner-below}
 use Rattle.assign_tiles.specs.Tiles.{Held, held, subpaletteOf, subpalettes, assignStep, assigned, Ready, Turn}
 
 -- ---- a tile

@@ -10,8 +10,8 @@ use lib.Pow.{pow-mono, pow-pos, shl-exact}
 use lib.ListN.{length, getD, take, drop, length-drop}
 use lib.Seq.{take-suc, getD-drop, drop-drop, take-take, length-take-le}
 use Rattle.bits.specs.Bits.{num, bits, fieldAt}
-use Rattle.bits.specs.Numbers.{num-append, num-bitsOf, num-lt, num-part}
-use Rattle.bits.specs.Bytes.{length-bits, bits-append, bits-take, bits-drop}
+use Rattle.bits.proofs.Numbers.{num-append, num-bitsOf, num-lt, num-part}
+use Rattle.bits.proofs.Bytes.{length-bits, bits-append, bits-take, bits-drop}
 
 -- the n bytes from f on
 part-long : (s : List ℕ) (f n : ℕ) → f + n ≤ length s → length (take n (drop f s)) ≡ n

@@ -1,2 +1,5 @@
 pub mod Gathered
 pub mod Spelled
+pub mod Numbers
+pub mod Fields
+pub mod Bytes

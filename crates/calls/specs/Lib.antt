@@ -1,17 +1,5 @@
-pub mod Cases
-pub mod Whilsts
-pub mod Split
 pub mod Place
-pub mod Settling
-pub mod Words
-pub mod Made
 pub mod HandIns
-pub mod Presence
-pub mod Limits
 pub mod Sound
 pub mod Fit
-pub mod Rules
 pub mod Accepted
-pub mod Answers
-pub mod Next
-pub mod Follow

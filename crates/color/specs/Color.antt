@@ -6,7 +6,7 @@ use lib.IntN.{pos}
 use lib.Dec.{T}
 use lib.Ieee.Scale.{finite}
 use lib.Ieee.{Float, nan, binary32, add, sub, mul, div, ofInt, ofBits}
-use Rattle.ieee.specs.Within.{Within}
+use Rattle.ieee.specs.Terms.{Within}
 use Rattle.color.specs.declared.Oklab.{Oklab}
 
 -- each product and each sum is rounded once

@@ -1,5 +1,1 @@
 pub mod Color
-pub mod Puts
-pub mod Sizes
-pub mod Distances
-pub mod Means

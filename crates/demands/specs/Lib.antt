@@ -1,12 +1,7 @@
 -- What a customer reads first: the three demands and the examples. First with Ends and Sheets is the first demand; Calls, Faults, Runners and Prefixes are
 -- what they stand on. Assumes nothing.
-pub mod First
 pub mod Ends
 pub mod Sheets
-pub mod Second
 pub mod Third
 pub mod Examples
 pub mod Calls
-pub mod Faults
-pub mod Runners
-pub mod Prefixes

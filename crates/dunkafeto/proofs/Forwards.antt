@@ -9,7 +9,7 @@ use Rattle.quantizer.specs.Course.{Course}
 use Rattle.stages.specs.Calls.{Memory, Outcome, outcome, Copied, copiedTo, advanceCall}
 use Rattle.assign.specs.Assign as assigning
 use Rattle.dunkafeto.specs.Told.{told, toldRun, toldColours, toldTiles}
-use Rattle.dunkafeto.specs.Few.{draws-few}
+use Rattle.dunkafeto.proofs.Few.{draws-few}
 
 -- ---- calls that make no draw: the number alone is the answer
 pub run-told : (number : ℕ) (m : Memory) (x : Outcome) → outcome number 0 m ≡ x → told number m ≡ toldRun x

@@ -4,7 +4,8 @@ ghost use mathlib.Core.Path.{_≡_};
 ghost use Rattle.job.specs.Job.{job, tileSize};
 ghost use Rattle.quantizer.specs.Course.{course};
 ghost use Rattle.stages.specs.Calls.{memory, startCall, advanceCall, handInCall, resultCall};
-ghost use Rattle.assign.specs.Assign.{held, assignDef};
+ghost use Rattle.assign_tiles.specs.Tiles.{held};
+ghost use Rattle.assign.specs.Assign.{assignDef};
 ghost use Rattle.dunkafeto.specs.Told.{told, toldRun, toldColours, toldTiles};
 
 // Starts a run, as `run_start::start`. It makes no draw.

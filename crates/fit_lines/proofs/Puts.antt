@@ -6,9 +6,9 @@ use native.Mathlib.Numerals.{add-one}
 use mathlib.Core.List.{List, [], _∷_}
 use lib.ListN.{length, getD, drop, set}
 use lib.Seq.{sets, drop-cons, set-comm}
-use Rattle.bits.specs.Fields.{sets-append}
+use Rattle.bits.proofs.Fields.{sets-append}
 use Rattle.io.specs.Digits.{digits, glyph}
-use Rattle.fit_lines.specs.Lengths.{length-digits}
+use Rattle.fit_lines.proofs.Lengths.{length-digits}
 
 -- ---- from the front: what is left to store gives the whole g
 pub word-again : (w l m g : List ℕ) (at i : ℕ) → i < length w → m ≡ set l (at + i) (getD w i 0) → sets l (at + i) (drop i w) ≡ g → sets m (at + (i + 1)) (drop (i + 1) w) ≡ g

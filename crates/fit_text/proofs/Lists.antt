@@ -7,7 +7,7 @@ use lib.Ieee.{Float}
 use Rattle.job.specs.Job.{Job, job, firstOf, sizeOf}
 use Rattle.palette_tile.specs.Tiles.{Shown}
 use Rattle.sheet_parts.specs.Begins.{Begins}
-use Rattle.sheet_parts.specs.Parts.{parts-say, lists-say}
+use Rattle.sheet_parts.proofs.Parts.{parts-say, lists-say}
 use Rattle.fit_lines.specs.Lines.{Stored}
 use Rattle.fit_tiles.specs.Text.{fitText}
 

@@ -18,11 +18,11 @@ use Rattle.sheet.specs.declared.Reading.{Reading}
 use Rattle.sheet.specs.declared.Reading.the-variants as reading
 use Rattle.sheet.specs.Sheets.{jobOf, Room, readOutcome, readDef}
 use Rattle.sheet_parts.specs.Begins.{Begins, Holds}
-use Rattle.sheet_parts.specs.Reads.{Lengths, Given, refused-says, given}
+use Rattle.sheet_parts.proofs.Reads.{Lengths, Given, refused-says, given}
 use Rattle.io.specs.Counts.{Counts}
 use Rattle.fit_lines.specs.Lines.{Stored, refusedLine}
 use Rattle.fit_tiles.specs.Text.{fitText}
-use Rattle.fit_tiles.specs.Lengths.{fit-most}
+use Rattle.fit_tiles.proofs.Lengths.{fit-most}
 use Rattle.fit_text.specs.Fit.{textOf, FitOutcome, fitOutcome, fitDef}
 
 module _ (b : List ℕ) (h : Room) (L : Lengths h) (r : Reading) (after : Room) (e : readOutcome r after ≡ readDef b h) where

@@ -11,19 +11,19 @@ use lib.Seq.{sets, getD-set-same, getD-set-other}
 use lib.Ieee.{Float, binary32, toBits, isNan}
 use borrow.Author.Tests.{eqb-true, eqb-false}
 use Rattle.lists.specs.Count.{hit, count}
-use Rattle.lists.specs.Counting.{hit-same, hit-other}
+use Rattle.lists.proofs.Counting.{hit-same, hit-other}
 use Rattle.lists.specs.Firsts.{firsts, hits}
-use Rattle.lists.specs.Hits.{hits-suc}
-use Rattle.ieee.specs.Plus.{plus-real}
-use Rattle.assign.specs.Assign.{subpaletteOf}
-use Rattle.choice.specs.Scan.{least-good}
+use Rattle.lists.proofs.Hits.{hits-suc}
+use Rattle.ieee.proofs.Plus.{plus-real}
+use Rattle.assign_tiles.specs.Tiles.{subpaletteOf}
+use Rattle.choice.proofs.Scan.{least-good}
 use Rattle.job.specs.Job.{Job, sizeOf, isEmpty}
 use Rattle.palette.specs.Palette.{distAt}
-use Rattle.palette.specs.Sums.{dist-good}
+use Rattle.palette.proofs.Sums.{dist-good}
 use Rattle.palette_tile.specs.Tiles.{tileAt, presentIn, fitAt, winner, Shown}
-use Rattle.palette_tile.specs.Present.{shown-present, winner-below, tile-counted}
+use Rattle.palette_tile.proofs.Present.{shown-present, winner-below, tile-counted}
 use Rattle.fit_lines.specs.Lines.{Stored, tileLine, loadLine, headLine}
-use Rattle.fit_lines.specs.Stores.{both-stored}
+use Rattle.fit_lines.proofs.Stores.{both-stored}
 use Rattle.fit_tiles.specs.Text.{distBits, tileLines, loadOf, loadLines, fitText}
 
 pub not-empty : (n : ℕ) (r : Bool) → r ≡ eqb n 0 → r ≡ false → 1 ≤ n

@@ -4,7 +4,7 @@ use mathlib.Core.Bool.{cond}
 use mathlib.Core.List.{List, [], _++_}
 use lib.Ieee.{Float, binary32, toBits}
 use Rattle.lists.specs.Firsts.{hits}
-use Rattle.assign.specs.Assign.{subpaletteOf}
+use Rattle.assign_tiles.specs.Tiles.{subpaletteOf}
 use Rattle.job.specs.Job.{Job, isEmpty}
 use Rattle.palette_tile.specs.Tiles.{fitAt}
 use Rattle.fit_lines.specs.Lines.{headLine, tileLine, loadLine}

@@ -3,7 +3,7 @@
 ghost use mathlib.Core.Path.{_≡_};
 ghost use Prim.Native.Nat.{ℕ, _+_, _*_, _≤_, _<_};
 ghost use lib.ListN.{length, getD};
-ghost use Rattle.assign.specs.Assign.{subpaletteOf};
+ghost use Rattle.assign_tiles.specs.Tiles.{subpaletteOf};
 ghost use Rattle.fit_lines.specs.Lines.{Stored};
 ghost use Rattle.job.specs.Job.{job};
 ghost use Rattle.palette_tile.specs.Tiles.{Shown, Paired};

@@ -11,13 +11,15 @@ use borrow.Author.Tests.{eqb-true, eq-eqb, ne-eqb}
 use Rattle.stats.specs.declared.Near.{Near}
 use Rattle.stats.specs.declared.Two.{Two}
 use Rattle.job.specs.Rules.{rule, answer, numbered}
-use Rattle.job.specs.Passing.{both-pass}
+use Rattle.job.proofs.Passing.{both-pass}
 use Rattle.job.specs.Job.{Job, sizeOf, isEmpty}
 use Rattle.palette_tile.specs.Tiles.{fitAt, twoAt, Paired, Fitted}
 use Rattle.fits.specs.declared.Single.the-variants.{Best as Fit, Refused as NoFit}
 use Rattle.fits.specs.declared.Pair.the-variants.{Best as Both, Refused as NoBoth}
-use Rattle.fits.specs.Shown.{shown, one-tile, one-plain}
-use Rattle.fits.specs.Fits.{singleOutcome, pairOutcome, oneRules, oneAnswer, singleAnswer, singleDef, pairDef}
+use Rattle.fits.proofs.Shown.{shown}
+use Rattle.fits_check.proofs.Passes.{one-tile, one-plain}
+use Rattle.fits.specs.Fits.{singleOutcome, pairOutcome, singleDef, pairDef}
+use Rattle.fits_check.specs.One.{oneRules, oneAnswer, singleAnswer}
 
 module _ (size : ℕ) (J : Job) (palette : List Float) (n : ℕ) where
   module _ (a : ℕ) (e : a ≡ oneAnswer size J palette n) (z : a ≡ 0) where

@@ -1,4 +1,1 @@
 pub mod Fits
-pub mod Shown
-pub mod Empty
-pub mod Only

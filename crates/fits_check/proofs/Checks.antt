@@ -9,11 +9,11 @@ use lib.Ieee.{Float}
 use lib.ListN.{length}
 use borrow.Author.Tests.{eq-eqb, ne-eqb}
 use Rattle.job.specs.Rules.{numbered}
-use Rattle.job.specs.Passing.{stops, goes, skips, fails, none}
+use Rattle.job.proofs.Passing.{stops, goes, skips, fails, none}
 use Rattle.job.specs.Job.{Job, isEmpty}
 use Rattle.job.specs.Checks.{plainAnswer}
 use Rattle.fits_check.specs.One.{oneRules, oneAnswer, singleAnswer}
-use Rattle.fits_check.specs.Passes.{one-tile, one-plain}
+use Rattle.fits_check.proofs.Passes.{one-tile, one-plain}
 
 module _ (size : ℕ) (J : Job) (palette : List Float) (n : ℕ) where
   -- ---- what the checks answer

@@ -1,1 +1,2 @@
 mod Checks
+pub mod Passes

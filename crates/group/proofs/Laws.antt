@@ -6,7 +6,7 @@ use native.Mathlib.Omega.{arith}
 use lib.Dec.{eqb, ltb}
 use lib.ListN.{length}
 use borrow.Author.Tests.{eqb-true, ltb-false, eq-eqb, ne-eqb}
-use Rattle.lists.specs.Tests.{and-l, and-r}
+use Rattle.lists.proofs.Tests.{and-l, and-r}
 use Rattle.group_refusal.specs.Refusal.{Pixels, Lent, firstOf, fault, sized, refusal}
 use Rattle.group.specs.declared.Grouped.the-variants.{Done, Refused}
 use Rattle.group_turn.specs.Turn.{Filled, filled}

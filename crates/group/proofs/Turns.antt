@@ -16,7 +16,7 @@ use Rattle.group_pixels.specs.declared.Rgba.{Rgba}
 use Rattle.group_pixels.specs.Pixel.{rgbaAt, putRgba, kept, sameBytes}
 use Rattle.group_refusal.specs.Refusal.{Pixels, Lent, lent}
 use Rattle.group.specs.Group.{Entry, total, seenOnce, seenAgain, join, place, entries, indexes, bytesOf, oklabOf, countsOf, over, left, fillTo}
-use Rattle.group.specs.Totals.{by-cases, join-more}
+use Rattle.group.proofs.Totals.{by-cases, join-more}
 use Rattle.group_turn.specs.Turn.{seek, Filled, filled, settled, turn}
 
 -- ---- one more number after what is written

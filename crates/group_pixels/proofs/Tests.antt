@@ -4,12 +4,12 @@ use mathlib.Core.Bool.{Bool, true, false, not, _&&_}
 use Prim.Native.Nat.{ℕ}
 use lib.Dec.{T, eqb}
 use lib.Ieee.{Float, isNan}
-use Rattle.lists.specs.Tests.{and-l, and-r}
-use Rattle.ieee.specs.Bounds.{within-real}
+use Rattle.lists.proofs.Tests.{and-l, and-r}
+use Rattle.ieee.proofs.Bounds.{within-real}
 use Rattle.color.specs.declared.Oklab.{Oklab}
 use Rattle.job.specs.Job.{two}
 use Rattle.job.specs.Checks.{within}
-use Rattle.job.specs.Ready.{within-limit, two-within}
+use Rattle.job.proofs.Ready.{within-limit, two-within}
 use Rattle.group_pixels.specs.declared.Rgba.{Rgba}
 use Rattle.group_pixels.specs.declared.Zero.{Zero}
 use Rattle.group_pixels.specs.declared.Zero.the-variants.{Given, Absent}

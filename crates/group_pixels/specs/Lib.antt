@@ -1,2 +1,1 @@
 pub mod Pixel
-pub mod Alike

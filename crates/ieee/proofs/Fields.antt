@@ -12,7 +12,7 @@ use lib.Ieee.Fits.{down-pos}
 use lib.Ieee.Bits.{ofBits-toBits, toBits-lt, nanBits-above, nanBits-is}
 use lib.Ieee.Scale.{round-same}
 use borrow.Author.Tests.{le-leb, lt-leb}
-use Rattle.ieee.specs.Rings.{odd-neg, round-neg}
+use Rattle.ieee.proofs.Rings.{odd-neg, round-neg}
 use Rattle.ieee.specs.Narrow.{narrowOf, Rounded, Narrowed}
 
 -- ---- a value by its number of smallest values

@@ -12,8 +12,9 @@ use lib.Ieee.{Float, inf, binary32, size, odd, units, fits, toBits, ofBits, ofFi
 use lib.Ieee.Digits.{size-le}
 use lib.Ieee.Exact.{HasValue, units-val}
 use lib.Ieee.Bits.{ofBits-toBits, cond-no}
-use Rattle.ieee.specs.Plus.{value-plus}
-use Rattle.ieee.specs.Keys.{pack, plus-bits, value-key}
+use Rattle.ieee.proofs.Plus.{value-plus}
+use Rattle.ieee.specs.Terms.{pack}
+use Rattle.ieee.proofs.Keys.{plus-bits, value-key}
 use Rattle.ieee.proofs.Rounds.{size-exact}
 
 -- ---- the bits of a value of a of the smallest ones

@@ -5,7 +5,7 @@ ghost use Prim.Native.Nat.{_^_, _≤_, _<_};
 ghost use lib.Dec.{T};
 ghost use lib.Ieee.{binary32, isNan, toBits};
 ghost use lib.Ieee.Nearest.{closest};
-ghost use Rattle.ieee.specs.Cmp.{keyOf};
+ghost use Rattle.ieee.specs.Terms.{keyOf};
 ghost use Rattle.ieee.specs.Narrow.{narrowOf, Rounded, Narrowed};
 
 // The bits of infinity, which are above those of every finite value.

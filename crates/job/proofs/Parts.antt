@@ -8,7 +8,7 @@ use lib.Ieee.{Float}
 use lib.ListN.{length, take, drop}
 use Rattle.lists.specs.Every.{every}
 use Rattle.job.specs.Checks.{firstNot, componentFits, firstBad}
-use Rattle.job.specs.First.{first-none}
+use Rattle.job.proofs.First.{first-none}
 
 -- ---- a part from `a` on of n places
 pub part-is : {A : Type 0} (xs : List A) (a n b m : ℕ) → a ≡ b → n ≡ m → take (a + n - a) (drop a xs) ≡ take m (drop b xs)

@@ -8,7 +8,7 @@ use lib.ListN.{length, getD}
 use lib.Ieee.{Float}
 use lib.Ieee.Positive.{positive}
 use Rattle.lists.specs.Every.{sum}
-use Rattle.ieee.specs.Within.{Within}
+use Rattle.ieee.specs.Terms.{Within}
 use Rattle.color.specs.Color.{Bounded}
 use Rattle.job.specs.Job.{Job, firstOf, sizeOf, countsOf, mostSubpalettes, mostColours, mostTiles, mostTileColours, mostSamples}
 

@@ -9,7 +9,7 @@ use lib.Ieee.{Float}
 use lib.ListN.{length}
 use borrow.Author.Tests.{eqb-true, eq-eqb, ne-eqb, le-leb, lt-leb}
 use Rattle.job.specs.Rules.{Rule, rule, answer, numbered}
-use Rattle.job.specs.Passing.{stops, goes, skips, fails, refuses, passes, none, all-pass}
+use Rattle.job.proofs.Passing.{stops, goes, skips, fails, refuses, passes, none, all-pass}
 use Rattle.job.specs.Job.{Job, mostSamples}
 use Rattle.job.specs.Checks.{sizeRules, shapeRules, formRules, sampledFormRules, nearRules, placeRules, tables, plainAnswer, sampledAnswer}
 

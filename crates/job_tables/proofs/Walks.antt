@@ -8,9 +8,9 @@ use lib.Dec.{eqb, leb}
 use lib.ListN.{length, getD}
 use borrow.Author.Tests.{leb-true, not-false}
 use Rattle.lists.specs.Every.{every, sum}
-use Rattle.lists.specs.Loops.{sum-more, every-fails, every-more, every-end}
-use Rattle.lists.specs.Tests.{and-r}
-use Rattle.job.specs.Ready.{test-room}
+use Rattle.lists.proofs.Loops.{sum-more, every-fails, every-more, every-end}
+use Rattle.lists.proofs.Tests.{and-r}
+use Rattle.job.proofs.Ready.{test-room}
 use Rattle.job.specs.Job.{sizeOf, firstOf, countsPart}
 use Rattle.job.specs.Checks.{tileTest, tileFits, tilesFit, countTest, countFits, partFits, tileCountsFit, countsFit, sampleTest, sampleFits, samplesFit}
 

@@ -10,16 +10,16 @@ use lib.Dec.{T}
 use lib.Ieee.{Float, binary32, binary64, add, mul, div, ofInt, ofBits, fits, isNan}
 use lib.Ieee.Fits.{and-i, fits-widens}
 use borrow.Author.Tests.{eq-eqb, ne-eqb}
-use Rattle.ieee.specs.Plus.{plus-real}
-use Rattle.ieee.specs.Keys.{Good}
+use Rattle.ieee.proofs.Plus.{plus-real}
+use Rattle.ieee.specs.Terms.{Good}
 use Rattle.ieee.specs.Narrow.{narrowOf}
 use Rattle.color.specs.declared.Oklab.{Oklab}
 use Rattle.color.specs.Color.{colourAt, Real}
-use Rattle.color.specs.Sizes.{bounded-finite, sized-real}
+use Rattle.color.proofs.Sizes.{bounded-finite, sized-real}
 use Rattle.palette.specs.Palette.{Tile, nearestOf, Clear}
 use Rattle.mse.specs.declared.Tally.{Tally}
 use Rattle.mse.specs.Mse.{errorOf, stepTally, tileTally, meanOf, Summed}
-use Rattle.mse.specs.Fine.{near-good, target-sized}
+use Rattle.mse.proofs.Fine.{near-good, target-sized}
 
 -- an f64 holds every f32
 widens : (x : Float) → Good binary32 x → T (fits binary64 x && not (isNan x))

@@ -10,17 +10,17 @@ use lib.ListN.{length, set}
 use lib.Dec.{T}
 use lib.Ieee.{Float}
 use borrow.Author.Tests.{eqb-true, eqb-false, eq-eqb}
-use Rattle.ieee.specs.Plus.{plus-real}
+use Rattle.ieee.proofs.Plus.{plus-real}
 use Rattle.job.specs.Job.{Job, sizeOf, tileOf, countsOf, isEmpty, Placed}
-use Rattle.job.specs.Tiles.{colours-placed, counts-placed, counts-length}
+use Rattle.job.proofs.Tiles.{colours-placed, counts-placed, counts-length}
 use Rattle.stats.specs.declared.Near.{Near}
 use Rattle.palette.specs.Palette.{tileWith, subOf}
 use Rattle.palette_tile.specs.Tiles.{tileAt, fitAt, winner, hintStep, hintsOf, Shown, Fitted}
-use Rattle.palette_tile.specs.Present.{winner-below, shown-part}
-use Rattle.palette_tile.specs.Hints.{length-hints, hint-kept, hint-written, hints-none, hints-more}
+use Rattle.palette_tile.proofs.Present.{winner-below, shown-part}
+use Rattle.palette_tile.proofs.Hints.{length-hints, hint-kept, hint-written, hints-none, hints-more}
 use Rattle.mse.specs.declared.Tally.{Tally}
 use Rattle.mse.specs.Mse.{tileTally, tallyStep, nothing, tallyOf, meanOf, mseOf, Summed, Turn, Meaned}
-use Rattle.mse.specs.Fine.{Fine, summed, tally-fine, mean-plus}
+use Rattle.mse.proofs.Fine.{Fine, summed, tally-fine, mean-plus}
 
 module _ (J : Job) (pal : List Float) (n have : ℕ) (hints : List ℕ) (t : ℕ) (a : Tally) (K : Turn J pal n have hints t a) where
   shown : Shown J pal n have

@@ -1,2 +1,1 @@
 pub mod Mse
-pub mod Fine

@@ -9,7 +9,7 @@ use lib.IntN.{pos}
 use lib.Dec.{T, eqb}
 use lib.Ieee.{Float, binary32, binary64, add, mul, div, ofInt, ofBits, isNan}
 use lib.Ieee.Positive.{positive}
-use Rattle.ieee.specs.Within.{Within}
+use Rattle.ieee.specs.Terms.{Within}
 use Rattle.ieee.specs.Narrow.{narrowOf}
 use Rattle.color.specs.Color.{colourAt, Bounded}
 use Rattle.job.specs.Job.{Job, sizeOf, isEmpty}

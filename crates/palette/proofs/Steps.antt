@@ -7,15 +7,16 @@ use native.Mathlib.Omega.{arith}
 use lib.ListN.{getD, length}
 use lib.IntN.{pos}
 use lib.Ieee.{Float, binary32, add, mul, ofInt}
-use Rattle.ieee.specs.Keys.{Good}
+use Rattle.ieee.specs.Terms.{Good}
 use Rattle.color.specs.declared.Oklab.{Oklab}
 use Rattle.color.specs.Color.{sqdistOf, colourAt, Real}
 use Rattle.stats.specs.declared.Near.{Near}
 use Rattle.stats.specs.Stats.{stepNear, leastOf}
-use Rattle.stats.specs.Steps.{near-more}
-use Rattle.choice.specs.Lesser.{lesserOf, least-more, Lanes, lanes-more}
+use Rattle.stats.proofs.Steps.{near-more}
+use Rattle.choice.specs.Lesser.{lesserOf}
+use Rattle.choice.proofs.Lesser.{least-more, Lanes, lanes-more}
 use Rattle.palette.specs.Palette.{Tile, gap, nearestOf, termOf, totalOf, Clear, Measured}
-use Rattle.palette.specs.Sums.{gap-good, tile-real}
+use Rattle.palette.proofs.Sums.{gap-good, tile-real}
 
 pub nearest-step : (s : List Float) (q : Oklab) (w : Float) (i : ℕ) (b r : Near) (p : Oklab) (d : Float) → b ≡ leastOf (gap s q w) i → p ≡ colourAt s i → d ≡ sqdistOf p q w → r ≡ stepNear b i d → r ≡ leastOf (gap s q w) (i + 1)
 unfolding gap

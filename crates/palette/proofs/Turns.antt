@@ -8,15 +8,16 @@ use native.Mathlib.Omega.{arith}
 use lib.ListN.{length}
 use lib.Dec.{ltb}
 use lib.Ieee.{Float, binary32}
-use Rattle.ieee.specs.Keys.{Good}
-use Rattle.ieee.specs.Ranks.{over, over-mono}
+use Rattle.ieee.specs.Terms.{Good}
+use Rattle.ieee.specs.Terms.{over}
+use Rattle.ieee.proofs.Ranks.{over-mono}
 use Rattle.color.specs.Color.{Finite}
 use Rattle.stats.specs.declared.Near.{Near}
-use Rattle.choice.specs.Scan.{least-below}
-use Rattle.choice.specs.Leading.{Leading, lead-start, lead-good, lead-loses, lead-wins, lead-end}
+use Rattle.choice.proofs.Scan.{least-below}
+use Rattle.choice.proofs.Leading.{Leading, lead-start, lead-good, lead-loses, lead-wins, lead-end}
 use Rattle.palette.specs.Palette.{Palette, Tile, subOf, totalOf, tileDistance, distAt, bestFit, Measured, Fits}
-use Rattle.palette.specs.Parts.{sub-room, sub-finite}
-use Rattle.palette.specs.Sums.{total-good, total-end, dist-good}
+use Rattle.palette.proofs.Parts.{sub-room, sub-finite}
+use Rattle.palette.proofs.Sums.{total-good, total-end, dist-good}
 
 module _ (P : Palette) (X : Tile) (w : Float) (F : Fits P X w) (hint : ℕ) where
   good : (i : ℕ) → i < P .subs → Good binary32 (distAt P X w i)

@@ -1,5 +1,1 @@
 pub mod Palette
-pub mod Parts
-pub mod Sums
-pub mod Near
-pub mod Example

@@ -1,1 +1,4 @@
 pub mod Writes
+pub mod Kept
+pub mod Gentle
+pub mod Example

@@ -6,7 +6,7 @@ use native.Mathlib.Omega.{arith}
 use lib.ListN.{getD, length, set}
 use lib.Seq.{paste}
 use lib.Ieee.{Float, nan}
-use Rattle.lists.specs.Copies.{copy-more, copy-done}
+use Rattle.lists.proofs.Copies.{copy-more, copy-done}
 use Rattle.color.specs.declared.Oklab.{Oklab}
 use Rattle.color.specs.Color.{colourAt, putAt}
 use Rattle.palette.specs.Palette.{subOf}

@@ -6,13 +6,13 @@ use native.Mathlib.Omega.{arith}
 use lib.ListN.{length}
 use lib.Ieee.{Float}
 use Rattle.job.specs.Job.{Job, tileOf, countsOf, Placed}
-use Rattle.job.specs.Tiles.{colours-placed, counts-placed, counts-length}
+use Rattle.job.proofs.Tiles.{colours-placed, counts-placed, counts-length}
 use Rattle.stats.specs.declared.Near.{Near}
 use Rattle.stats.specs.declared.Two.{Two}
 use Rattle.palette.specs.Palette.{tileWith, bestFit, Fits, Hinted}
 use Rattle.palette_two.specs.PaletteTwo.{bestTwo}
 use Rattle.palette_tile.specs.Tiles.{presentIn, fitAt, twoAt, Paired, Fitted}
-use Rattle.palette_tile.specs.Present.{tile-fits, tile-hinted}
+use Rattle.palette_tile.proofs.Present.{tile-fits, tile-hinted}
 
 module _ (J : Job) (pal : List Float) (n have : ℕ) (hints : List ℕ) (t : ℕ) (K : Paired J pal n have hints t) where
   pub colours-asked : Placed 3 (J .tiles) t (length (J .colours))

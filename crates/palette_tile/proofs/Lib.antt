@@ -1,1 +1,3 @@
 pub mod Asks
+pub mod Hints
+pub mod Present

@@ -8,7 +8,7 @@ use lib.ListN.{length, set}
 use lib.Ieee.{Float}
 use Rattle.color.specs.Color.{Bounded}
 use Rattle.job.specs.Job.{Job, sizeOf, tileOf, countsOf, isEmpty}
-use Rattle.job.specs.Ready.{Ready}
+use Rattle.job.specs.Gives.{Ready}
 use Rattle.stats.specs.declared.Near.{Near}
 use Rattle.stats.specs.declared.Two.{Two}
 use Rattle.palette.specs.Palette.{Palette, Tile, paletteWith, tileWith, bestFit}

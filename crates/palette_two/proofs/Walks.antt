@@ -12,20 +12,21 @@ use lib.ListN.{length}
 use lib.Dec.{T, ltb}
 use lib.Ieee.{Float, nan, inf, fin, binary32, ofBits, up, down, lt, eq, fits}
 use mathlib.Core.Logic.{inl, inr}
-use Rattle.lists.specs.Tests.{and-l, and-r, and-case, or-l, or-r, or-case, or-none, or-no}
-use Rattle.ieee.specs.Plus.{plus}
-use Rattle.ieee.specs.Keys.{Good}
-use Rattle.ieee.specs.Ranks.{key32, rank, lt-yes, lt-no, yes-lt, eq-yes, eq-no}
+use Rattle.lists.proofs.Tests.{and-l, and-r, and-case, or-l, or-r, or-case, or-none, or-no}
+use Rattle.ieee.specs.Terms.{plus}
+use Rattle.ieee.specs.Terms.{Good}
+use Rattle.ieee.specs.Terms.{key32, rank}
+use Rattle.ieee.proofs.Ranks.{lt-yes, lt-no, yes-lt, eq-yes, eq-no}
 use Rattle.color.specs.declared.Oklab.{Oklab}
 use Rattle.color.specs.Color.{sqdistOf, colourAt, Finite}
 use Rattle.stats.specs.declared.Two.{Two}
 use Rattle.stats.specs.Stats.{pickTwo, stepTwo, leastTwo}
-use Rattle.stats.specs.Steps.{two-more}
-use Rattle.choice.specs.Two.{two-below}
-use Rattle.choice.specs.Runner.{Runner, run-start, run-skips, run-drops, run-follows, run-takes, run-end}
+use Rattle.stats.proofs.Steps.{two-more}
+use Rattle.choice.proofs.Two.{two-below}
+use Rattle.choice.proofs.Runner.{Runner, run-start, run-skips, run-drops, run-follows, run-takes, run-end}
 use Rattle.palette.specs.Palette.{Palette, Tile, subOf, gap, totalOf, tileDistance, distAt, Fits}
-use Rattle.palette.specs.Parts.{sub-room, sub-finite}
-use Rattle.palette.specs.Sums.{total-good, total-end, dist-good}
+use Rattle.palette.proofs.Parts.{sub-room, sub-finite}
+use Rattle.palette.proofs.Sums.{total-good, total-end, dist-good}
 use Rattle.palette_two.specs.declared.Within.the-variants.{Over, Sum}
 use Rattle.palette_two.specs.PaletteTwo.{pickWithin, withinOf, ahead, weighed, bestTwo, Walked}
 

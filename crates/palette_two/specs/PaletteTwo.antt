@@ -6,7 +6,7 @@ use lib.ListN.{length}
 use lib.Dec.{T, ltb}
 use lib.Ieee.{Float, lt, eq}
 use lib.Ieee.Positive.{positive}
-use Rattle.ieee.specs.Plus.{plus}
+use Rattle.ieee.specs.Terms.{plus}
 use Rattle.color.specs.declared.Oklab.{Oklab}
 use Rattle.color.specs.Color.{Finite}
 use Rattle.stats.specs.declared.Two.{Two}

@@ -4,7 +4,7 @@ ghost use mathlib.Core.Bool.{true};
 ghost use lib.Dec.{T};
 ghost use lib.Ieee.{binary32, ofBits, toBits};
 ghost use Rattle.pattern.specs.Pattern.{small, weighs};
-ghost use Rattle.ieee.specs.Within.{Within};
+ghost use Rattle.ieee.specs.Terms.{Within};
 
 // Finite, and at most 2 in magnitude.
 pub fn is_small(b: u32) -> bool

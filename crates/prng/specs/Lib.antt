@@ -1,5 +1,3 @@
 -- Definitions (SplitMix, Shuffle), the public vectors, and what a shuffle keeps. Assumes nothing.
 pub mod SplitMix
 pub mod Shuffle
-pub mod Vectors
-pub mod Shuffled

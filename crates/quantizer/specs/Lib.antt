@@ -5,13 +5,6 @@ pub mod Growing
 pub mod Replacing
 pub mod Refining
 pub mod Drawing
-pub mod Lists
 pub mod Goods
-pub mod Choices
 pub mod Lengths
-pub mod Indexes
-pub mod NoNans
-pub mod Bounds
 pub mod Refines
-pub mod Unused
-pub mod Owners

@@ -10,14 +10,15 @@ use lib.ListN.{getD, length}
 use lib.Ieee.{Float}
 use borrow.Author.Tests.{lt-ltb, le-ltb}
 use Rattle.job.specs.Job.{Job, tileOf, countsOf, Placed}
-use Rattle.job.specs.Tiles.{colours-placed, counts-placed}
+use Rattle.job.proofs.Tiles.{colours-placed, counts-placed}
 use Rattle.palette.specs.Palette.{Tile, tileWith, subOf, Counted}
 use Rattle.palette_tile.specs.Tiles.{tileAt}
-use Rattle.palette_tile.specs.Present.{shown-part, part-colours, part-some, tile-counted}
+use Rattle.palette_tile.proofs.Present.{shown-part, part-colours, part-some, tile-counted}
 use Rattle.quantizer.specs.Sums.{zeros}
 use Rattle.quantizer.specs.Replacing.{Shares, shares, tileShares, ownerOf, spreadStep, spreadOf}
-use Rattle.quantizer.specs.Lengths.{Wide, spread-wide}
-use Rattle.quantizer.specs.Indexes.{owner-below, row-256}
+use Rattle.quantizer.specs.Lengths.{Wide}
+use Rattle.quantizer.proofs.Lengths.{spread-wide}
+use Rattle.quantizer.proofs.Indexes.{owner-below, row-256}
 use Rattle.quantizer_matches.specs.Matches.{Matched}
 use Rattle.quantizer_color_sums.specs.Asked.{ownerIn, Owned, OwnerTurn}
 

@@ -6,20 +6,20 @@ use native.Mathlib.Omega.{arith}
 use lib.ListN.{length, set}
 use lib.Ieee.{Float}
 use Rattle.cycle.specs.Cycle.{Cycle, Drawn, drawn, drawOne}
-use Rattle.cycle.specs.Ready.{sample-below}
+use Rattle.cycle.proofs.Ready.{sample-below}
 use Rattle.color.specs.declared.Oklab.{Oklab}
 use Rattle.color.specs.Color.{colourAt}
 use Rattle.job.specs.Job.{tileOf}
 use Rattle.stats.specs.declared.Near.{Near}
 use Rattle.palette.specs.Palette.{subOf, nearestOf}
 use Rattle.palette_edit.specs.Edits.{nudgedAt}
-use Rattle.palette_edit.specs.Kept.{place-room}
+use Rattle.palette_edit.proofs.Kept.{place-room}
 use Rattle.palette_tile.specs.Tiles.{fitAt, winner, Fitted}
-use Rattle.palette_tile.specs.Present.{shown-present, shown-part, winner-below, part-nearest}
+use Rattle.palette_tile.proofs.Present.{shown-present, shown-part, winner-below, part-nearest}
 use Rattle.quantizer.specs.Course.{Course, sampleTile, samplePlace}
 use Rattle.quantizer.specs.Drawing.{targetOf, moved, movedHints}
 use Rattle.quantizer_sample.specs.Samples.{Told}
-use Rattle.quantizer_sample.specs.Course.{told, tile-full}
+use Rattle.quantizer_sample.proofs.Course.{told, tile-full}
 use Rattle.quantizer_draw.specs.Draws.{movedBy, hintsBy, Drawing, Going}
 
 module _ (K : Course) (pal : List Float) (subs have : ℕ) (hints : List ℕ) (i : ℕ) (D : Drawing K pal subs have hints i) where

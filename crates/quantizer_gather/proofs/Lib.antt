@@ -1,2 +1,3 @@
 pub mod Tiles
 pub mod Turns
+pub mod Through

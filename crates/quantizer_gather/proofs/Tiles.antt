@@ -12,7 +12,7 @@ use Rattle.stats.specs.declared.Near.{Near}
 use Rattle.palette.specs.Palette.{Tile, nearestOf}
 use Rattle.quantizer.specs.Refining.{Gather, gather, addAt, tileGather}
 use Rattle.quantizer_gather.specs.Gathers.{Adding, Gathering}
-use Rattle.quantizer_gather.specs.Through.{place-in, pixels-part, through}
+use Rattle.quantizer_gather.proofs.Through.{place-in, pixels-part, through}
 
 pub added : (sums after : List Float) (cnts : List ℕ) (p m : ℕ) (q x y : Oklab) → x ≡ colourAt sums p → y ≡ plusTimes x q m → after ≡ putAt sums p y
     → gather after (set cnts p (getD cnts p 0 + m)) ≡ addAt (gather sums cnts) p q m

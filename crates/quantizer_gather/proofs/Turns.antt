@@ -10,17 +10,18 @@ use lib.ListN.{length, set}
 use lib.Ieee.{Float}
 use borrow.Author.Tests.{eqb-true, eqb-false}
 use Rattle.job.specs.Job.{Job, sizeOf, tileOf, countsOf, isEmpty, Placed}
-use Rattle.job.specs.Tiles.{colours-placed, counts-placed, counts-length}
+use Rattle.job.proofs.Tiles.{colours-placed, counts-placed, counts-length}
 use Rattle.stats.specs.declared.Near.{Near}
 use Rattle.palette.specs.Palette.{tileWith, subOf}
 use Rattle.palette_tile.specs.Tiles.{tileAt, fitAt, winner, hintStep, hintsOf, Shown, Fitted}
-use Rattle.palette_tile.specs.Present.{winner-below, shown-part}
-use Rattle.palette_tile.specs.Hints.{length-hints, hint-kept, hint-written, hints-none, hints-more}
+use Rattle.palette_tile.proofs.Present.{winner-below, shown-part}
+use Rattle.palette_tile.proofs.Hints.{length-hints, hint-kept, hint-written, hints-none, hints-more}
 use Rattle.quantizer.specs.Refining.{Gather, nothing, tileGather, gatherStep, gatherOf}
-use Rattle.quantizer.specs.Indexes.{row-256}
-use Rattle.quantizer.specs.Refines.{Held, Gathered, nothing-gathered, gathered}
+use Rattle.quantizer.proofs.Indexes.{row-256}
+use Rattle.quantizer.specs.Refines.{Held, Gathered}
+use Rattle.quantizer.proofs.Refines.{nothing-gathered, gathered}
 use Rattle.quantizer_gather.specs.Gathers.{Gathering, Turned}
-use Rattle.quantizer_gather.specs.Through.{gathering}
+use Rattle.quantizer_gather.proofs.Through.{gathering}
 
 module _ (J : Job) (pal : List Float) (hints : List ℕ) (t : ℕ) (A : Gather) (K : Turned J pal hints t A) where
   shown : Shown J pal (J .S) (J .C)

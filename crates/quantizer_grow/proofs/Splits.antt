@@ -12,19 +12,20 @@ use lib.Dec.{eqb}
 use lib.Ieee.{Float}
 use borrow.Author.Tests.{eq-eqb, ne-eqb}
 use Rattle.stats.specs.Stats.{valueAt, NoNan}
-use Rattle.stats.specs.Choices.{max-below}
+use Rattle.stats.proofs.Choices.{max-below}
 use Rattle.job.specs.Job.{Job}
 use Rattle.palette_edit.specs.Edits.{colourCopied}
-use Rattle.palette_edit.specs.Kept.{place-room}
-use Rattle.palette_tile.specs.Present.{shown-present}
+use Rattle.palette_edit.proofs.Kept.{place-room}
+use Rattle.palette_tile.proofs.Present.{shown-present}
 use Rattle.quantizer.specs.Sums.{zeros, sumsAt, greatest}
 use Rattle.quantizer.specs.Growing.{needsOf, splitOf, grownBy, grown}
-use Rattle.quantizer.specs.Lengths.{length-needs, length-grown-by}
-use Rattle.quantizer.specs.Lists.{length-zeros, length-sums}
-use Rattle.quantizer.specs.Indexes.{row-256}
-use Rattle.quantizer.specs.Goods.{AllGood, zeros-good, sums-no-nan}
-use Rattle.quantizer.specs.Choices.{greatest-below}
-use Rattle.quantizer.specs.NoNans.{needs-good}
+use Rattle.quantizer.proofs.Lengths.{length-needs, length-grown-by}
+use Rattle.quantizer.proofs.Lists.{length-zeros, length-sums}
+use Rattle.quantizer.proofs.Indexes.{row-256}
+use Rattle.quantizer.specs.Goods.{AllGood}
+use Rattle.quantizer.proofs.Goods.{zeros-good, sums-no-nan}
+use Rattle.quantizer.proofs.Choices.{greatest-below}
+use Rattle.quantizer.proofs.NoNans.{needs-good}
 use Rattle.quantizer_needs.specs.Asked.{splitSums, Growing}
 use Rattle.quantizer_grow.specs.Split.{Split}
 

@@ -11,14 +11,15 @@ use Rattle.color.specs.declared.Oklab.{Oklab}
 use Rattle.color.specs.Color.{colourAt}
 use Rattle.stats.specs.declared.Near.{Near}
 use Rattle.stats.specs.declared.Two.{Two}
-use Rattle.choice.specs.Scan.{least-below}
-use Rattle.choice.specs.Two.{two-below}
+use Rattle.choice.proofs.Scan.{least-below}
+use Rattle.choice.proofs.Two.{two-below}
 use Rattle.palette.specs.Palette.{Tile, gap, nearestOf}
 use Rattle.palette_two.specs.PaletteTwo.{nearestTwoOf}
 use Rattle.quantizer.specs.Sums.{bump}
 use Rattle.quantizer.specs.Growing.{tileNeeds}
 use Rattle.quantizer.specs.Replacing.{Shares, addShares, tileShares}
-use Rattle.quantizer.specs.Lengths.{Wide, tile-wide, length-tile-needs}
+use Rattle.quantizer.specs.Lengths.{Wide}
+use Rattle.quantizer.proofs.Lengths.{tile-wide, length-tile-needs}
 use Rattle.quantizer_matches.specs.Matches.{Matched}
 
 -- ---- the nearest alone

@@ -11,16 +11,16 @@ use lib.Dec.{eqb}
 use lib.Ieee.{Float}
 use borrow.Author.Tests.{eqb-true, eqb-false, eq-eqb, ne-eqb}
 use Rattle.job.specs.Job.{Job, sizeOf, tileOf, countsOf, Placed}
-use Rattle.job.specs.Tiles.{colours-placed, counts-placed, counts-length}
+use Rattle.job.proofs.Tiles.{colours-placed, counts-placed, counts-length}
 use Rattle.stats.specs.declared.Near.{Near}
 use Rattle.palette.specs.Palette.{Tile, tileWith, subOf, Counted}
 use Rattle.palette_tile.specs.Tiles.{tileAt, fitAt, winner, hintStep, hintsOf, Shown, Fitted}
-use Rattle.palette_tile.specs.Present.{winner-below, shown-part, part-colours, part-some, tile-counted}
-use Rattle.palette_tile.specs.Hints.{length-hints, hint-kept, hint-written, hints-none, hints-more}
+use Rattle.palette_tile.proofs.Present.{winner-below, shown-part, part-colours, part-some, tile-counted}
+use Rattle.palette_tile.proofs.Hints.{length-hints, hint-kept, hint-written, hints-none, hints-more}
 use Rattle.quantizer.specs.Sums.{zeros}
 use Rattle.quantizer.specs.Growing.{tileNeeds, needStep, needsOf, grownHints}
-use Rattle.quantizer.specs.Lengths.{length-needs}
-use Rattle.quantizer.specs.Indexes.{row-256}
+use Rattle.quantizer.proofs.Lengths.{length-needs}
+use Rattle.quantizer.proofs.Indexes.{row-256}
 use Rattle.quantizer_matches.specs.Matches.{Matched}
 use Rattle.quantizer_needs.specs.Asked.{splitSums, NeedTurn, Growing}
 

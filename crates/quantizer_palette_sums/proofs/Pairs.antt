@@ -10,11 +10,12 @@ use lib.Ieee.{Float}
 use Rattle.stats.specs.declared.Two.{Two}
 use Rattle.job.specs.Job.{Job}
 use Rattle.palette_tile.specs.Tiles.{Shown}
-use Rattle.palette_tile.specs.Present.{pair-below}
+use Rattle.palette_tile.proofs.Present.{pair-below}
 use Rattle.quantizer.specs.Sums.{zeros}
 use Rattle.quantizer.specs.Replacing.{Shares, shares, shareWith, pairAt, sharesOf, pairHints}
-use Rattle.quantizer.specs.Lengths.{Wide, shares-wide, length-pair-hints}
-use Rattle.quantizer.specs.Indexes.{shown-subs}
+use Rattle.quantizer.specs.Lengths.{Wide}
+use Rattle.quantizer.proofs.Lengths.{shares-wide, length-pair-hints}
+use Rattle.quantizer.proofs.Indexes.{shown-subs}
 use Rattle.quantizer_palette_sums.specs.Asked.{PairTurn}
 
 -- ---- a tile

@@ -10,15 +10,16 @@ use lib.ListN.{length}
 use lib.Ieee.{Float}
 use borrow.Author.Tests.{lt-ltb, le-ltb}
 use Rattle.job.specs.Job.{Job}
-use Rattle.palette_tile.specs.Present.{shown-part}
+use Rattle.palette_tile.proofs.Present.{shown-part}
 use Rattle.quantizer.specs.Replacing.{Shares, ownerOf, spreadOf, swapIn, colourSwapped, recoloured, coloursReplaced}
-use Rattle.quantizer.specs.Lengths.{Wide, spread-wide}
-use Rattle.quantizer.specs.Indexes.{owner-below, row-256}
+use Rattle.quantizer.specs.Lengths.{Wide}
+use Rattle.quantizer.proofs.Lengths.{spread-wide}
+use Rattle.quantizer.proofs.Indexes.{owner-below, row-256}
 use Rattle.quantizer.specs.Goods.{AllGood}
-use Rattle.quantizer.specs.NoNans.{spread-good}
+use Rattle.quantizer.proofs.NoNans.{spread-good}
 use Rattle.quantizer_color_sums.specs.Asked.{Owned}
 use Rattle.quantizer_recolor.specs.Row.{Row}
-use Rattle.quantizer_recolor.specs.Lengths.{length-recoloured}
+use Rattle.quantizer_recolor.proofs.Lengths.{length-recoloured}
 
 -- before subpalette i
 pub record Recolouring (J : Job) (first pal : List Float) (A : Shares) (i : ℕ) : Type 0 where

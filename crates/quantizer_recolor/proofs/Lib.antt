@@ -1,2 +1,4 @@
 pub mod Rows
 pub mod Colours
+pub mod Lengths
+pub mod Row

@@ -14,8 +14,9 @@ use Rattle.color.specs.Color.{colourAt, putAt, overOf}
 use Rattle.job.specs.Job.{Job}
 use Rattle.palette_tile.specs.Tiles.{Shown}
 use Rattle.quantizer.specs.Refining.{Gather, gatherOf, meanStep, meansOf, refined}
-use Rattle.quantizer.specs.Lengths.{length-means}
-use Rattle.quantizer.specs.Refines.{Gathered, gathered}
+use Rattle.quantizer.proofs.Lengths.{length-means}
+use Rattle.quantizer.specs.Refines.{Gathered}
+use Rattle.quantizer.proofs.Refines.{gathered}
 use Rattle.quantizer_refine.specs.Means.{Meaning}
 
 -- ---- one colour

@@ -11,18 +11,19 @@ use lib.Ieee.{Float}
 use borrow.Author.Tests.{lt-ltb, le-ltb}
 use Rattle.job.specs.Job.{Job}
 use Rattle.palette_tile.specs.Tiles.{Shown}
-use Rattle.palette_tile.specs.Present.{shown-part}
+use Rattle.palette_tile.proofs.Present.{shown-part}
 use Rattle.quantizer.specs.declared.Swap.{Swap}
 use Rattle.quantizer.specs.Replacing.{Shares, sharesOf, pairAt, pairHints, ownerOf, swapOf, swapIn, subSwapped, coloursReplaced, subReplaced, replaced, replacedHints}
-use Rattle.quantizer.specs.Lengths.{Wide, shares-wide, length-replaced-hints}
-use Rattle.quantizer.specs.Indexes.{shown-subs}
+use Rattle.quantizer.specs.Lengths.{Wide}
+use Rattle.quantizer.proofs.Lengths.{shares-wide, length-replaced-hints}
+use Rattle.quantizer.proofs.Indexes.{shown-subs}
 use Rattle.quantizer.specs.Goods.{AllGood}
-use Rattle.quantizer.specs.NoNans.{shares-good}
-use Rattle.quantizer.specs.Owners.{pair-hint}
+use Rattle.quantizer.proofs.NoNans.{shares-good}
+use Rattle.quantizer.proofs.Owners.{pair-hint}
 use Rattle.quantizer_swap.specs.Choosing.{Choosing}
-use Rattle.quantizer_swap.specs.Parts.{part-choosing, part-below, part-swap}
+use Rattle.quantizer_swap.proofs.Parts.{part-choosing, part-below, part-swap}
 use Rattle.quantizer_color_sums.specs.Asked.{ownerIn, Owned}
-use Rattle.quantizer_recolor.specs.Lengths.{length-colours-replaced}
+use Rattle.quantizer_recolor.proofs.Lengths.{length-colours-replaced}
 use Rattle.quantizer_replace.specs.Weakest.{noSwap, weakestOf}
 
 -- ---- the sums of the subpalettes may be chosen among

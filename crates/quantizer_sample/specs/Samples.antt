@@ -5,7 +5,7 @@ use mathlib.Core.List.{List}
 use lib.ListN.{getD, length}
 use lib.Ieee.{Float}
 use Rattle.job.specs.Job.{sizeOf, Placed}
-use Rattle.job.specs.Ready.{Sampled}
+use Rattle.job.specs.Gives.{Sampled}
 use Rattle.quantizer.specs.Course.{Course}
 
 -- sample i is there, and so are its tile and its colour

@@ -11,7 +11,7 @@ use Rattle.color.specs.Color.{colourAt, putAt, black, plusOf, overOf, sumOf}
 use Rattle.job.specs.Job.{coloursPart}
 use Rattle.quantizer.specs.Course.{Course, sampleTile, samplePlace, sampleColour}
 use Rattle.quantizer.specs.Seeding.{seedMean, seeded}
-use Rattle.quantizer_sample.specs.Course.{told, colour-is}
+use Rattle.quantizer_sample.proofs.Course.{told, colour-is}
 use Rattle.quantizer_seed.specs.Seeds.{Averaging, Seeding}
 
 module _ (K : Course) where

@@ -10,19 +10,20 @@ use lib.ListN.{length, set, take}
 use lib.Ieee.{Float}
 use borrow.Author.Tests.{eqb-true, eqb-false}
 use Rattle.job.specs.Job.{Job, sizeOf, isEmpty}
-use Rattle.job.specs.Tiles.{tile-listed}
+use Rattle.job.proofs.Tiles.{tile-listed}
 use Rattle.stats.specs.declared.Near.{Near}
 use Rattle.stats.specs.Stats.{valueAt, NoNan}
 use Rattle.palette_tile.specs.Tiles.{fitAt, hintStep, hintsOf, Shown, Fitted}
-use Rattle.palette_tile.specs.Present.{winner-below}
-use Rattle.palette_tile.specs.Hints.{length-hints, hint-kept, hint-written, hints-none, hints-more}
+use Rattle.palette_tile.proofs.Present.{winner-below}
+use Rattle.palette_tile.proofs.Hints.{length-hints, hint-kept, hint-written, hints-none, hints-more}
 use Rattle.quantizer.specs.Sums.{bump, zeros, sumsAt, greatest}
 use Rattle.quantizer.specs.Seeding.{distanceStep, distancesOf, worstOf}
-use Rattle.quantizer.specs.Lists.{length-zeros}
-use Rattle.quantizer.specs.Goods.{AllGood, sums-no-nan}
-use Rattle.quantizer.specs.Lengths.{length-distances}
-use Rattle.quantizer.specs.Indexes.{shown-subs}
-use Rattle.quantizer.specs.NoNans.{distances-good}
+use Rattle.quantizer.proofs.Lists.{length-zeros}
+use Rattle.quantizer.specs.Goods.{AllGood}
+use Rattle.quantizer.proofs.Goods.{sums-no-nan}
+use Rattle.quantizer.proofs.Lengths.{length-distances}
+use Rattle.quantizer.proofs.Indexes.{shown-subs}
+use Rattle.quantizer.proofs.NoNans.{distances-good}
 use Rattle.quantizer_seed.specs.Seeds.{Turned}
 
 module _ (J : Job) (pal : List Float) (n : ℕ) (hints : List ℕ) (t : ℕ) (d : List Float) (K : Turned J pal n hints t d) where

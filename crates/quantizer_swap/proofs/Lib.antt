@@ -1,1 +1,3 @@
 pub mod Swaps
+pub mod Parts
+pub mod Choosing

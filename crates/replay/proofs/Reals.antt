@@ -10,7 +10,7 @@ use lib.Dec.{T}
 use lib.ListN.{getD, length, set}
 use lib.Seq.{getD-set-same, getD-set-other}
 use lib.Ieee.{Float, nan, inf, fin, eq, isNan}
-use Rattle.lists.specs.Runs.{lt→ne}
+use Rattle.lists.proofs.Runs.{lt→ne}
 
 pub real-of-same : (x : Float) → eq x x ≡ true → T (not (isNan x))
 unfolding eq isNan

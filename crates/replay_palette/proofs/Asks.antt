@@ -10,10 +10,11 @@ use lib.ListN.{length, take}
 use lib.Seq.{length-take-le}
 use lib.Ieee.{Float}
 use borrow.Author.Tests.{eqb-true}
-use Rattle.color.specs.Sizes.{bounded-wider}
+use Rattle.color.proofs.Sizes.{bounded-wider}
 use Rattle.job.specs.Job.{Job}
 use Rattle.job.specs.Checks.{plainAnswer}
-use Rattle.job.specs.Ready.{Plain, plain-ready}
+use Rattle.job.specs.Gives.{Plain}
+use Rattle.job.proofs.Ready.{plain-ready}
 use Rattle.palette_tile.specs.Tiles.{Shown}
 
 pub shown-of : (J : Job) (pal : List Float) (n have r : ℕ) → r ≡ plainAnswer 64 J pal true → (n ≡ 0 → ⊥) → n ≤ J .S → (have ≡ 0 → ⊥) → have ≤ J .C → eqb r 0 ≡ true → Shown J pal n have

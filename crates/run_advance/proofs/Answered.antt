@@ -10,8 +10,8 @@ use Rattle.quantizer.specs.Course.{Course}
 use Rattle.stages.specs.State.{stateWith}
 use Rattle.stages.specs.Stages.{advance, drawsOf}
 use Rattle.stages.specs.Calls.{Outcome, recordOf, stateOf, memory, memoryOf, outcome, answered, advanceAnswer, advanceCall}
-use Rattle.calls.specs.Accepted.{job-passed}
-use Rattle.calls.specs.Answers.{advance-opened}
+use Rattle.calls.proofs.Accepted.{job-passed}
+use Rattle.calls.proofs.Answers.{advance-opened}
 use Rattle.run_steps.specs.Running.{Running}
 
 module _ (size : ℕ) (K : Course) (o h : List ℕ) (p l : List Float) (w : List ℕ) (a : ℕ) (e : a ≡ advanceAnswer size K (memory o h p l w)) where

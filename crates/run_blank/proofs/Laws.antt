@@ -10,7 +10,7 @@ use Rattle.cycle.specs.Cycle.{Cycle, cycle, after}
 use Rattle.quantizer.specs.Course.{Course}
 use Rattle.quantizer.specs.Sums.{zeros}
 use Rattle.quantizer.specs.Seeding.{seeded}
-use Rattle.quantizer.specs.Lists.{length-zeros}
+use Rattle.quantizer.proofs.Lists.{length-zeros}
 use Rattle.quantizer_seed.specs.Seeds.{Seeding}
 use Rattle.stages.specs.State.{stateWith}
 use Rattle.run_blank.specs.Blanks.{dealt, Blanking}

@@ -6,10 +6,10 @@ use mathlib.Core.List.{List, [], _++_}
 use lib.Dec.{eqb}
 use borrow.Author.Tests.{eqb-true, eqb-false}
 use Rattle.job.specs.Rules.{Rule, answer, numbered}
-use Rattle.job.specs.Passing.{stops, goes, all-pass}
+use Rattle.job.proofs.Passing.{stops, goes, all-pass}
 use Rattle.job.specs.Job.{Job}
 use Rattle.job.specs.Checks.{sizeRules, sampledAnswer}
-use Rattle.job.specs.Ready.{sizes-of, sampled-ready}
+use Rattle.job.proofs.Ready.{sizes-of, sampled-ready}
 use Rattle.quantizer.specs.Course.{course}
 use Rattle.stages.specs.declared.Record.{Record}
 use Rattle.stages.specs.State.{stateWith}

@@ -1,2 +1,1 @@
 pub mod Drawable
-pub mod Draws

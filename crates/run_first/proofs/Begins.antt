@@ -2,8 +2,10 @@
 use mathlib.Core.Path.{_≡_, subst⁻¹}
 use Rattle.quantizer.specs.Course.{Course}
 use Rattle.stages.specs.State.{State}
-use Rattle.calls.specs.Place.{Placed, first-placed}
-use Rattle.calls.specs.Sound.{Sound, fresh-sound, first-sound}
+use Rattle.calls.specs.Place.{Placed}
+use Rattle.calls.proofs.Place.{first-placed}
+use Rattle.calls.specs.Sound.{Sound}
+use Rattle.calls.proofs.Sound.{fresh-sound, first-sound}
 use Rattle.run_round.specs.Settles.{Standing}
 use Rattle.run_first.specs.Starts.{firstRound, Beginning}
 

@@ -9,11 +9,11 @@ use Rattle.quantizer.specs.Course.{Course, course}
 use Rattle.stages.specs.declared.Record.{Record}
 use Rattle.stages.specs.State.{State, stateWith}
 use Rattle.stages.specs.Stages.{openSeeding, enterGrowing, settle}
-use Rattle.calls.specs.Sound.{all-shown}
+use Rattle.calls.proofs.Sound.{all-shown}
 use Rattle.run_record.specs.Sized.{sized}
 use Rattle.run_keeping.specs.Closing.{Lent}
 use Rattle.run_seeding.specs.Seeds.{Doubling}
-use Rattle.run_round.specs.Orders.{entry-any, open-any}
+use Rattle.run_round.proofs.Orders.{entry-any, open-any}
 use Rattle.run_first.specs.Starts.{firstRound, Beginning}
 use Rattle.run_first.proofs.Begins.{sound}
 

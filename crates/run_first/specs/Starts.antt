@@ -4,7 +4,7 @@ use mathlib.Core.Path.{_≡_}
 use mathlib.Core.Bool.{Bool, cond}
 use lib.Dec.{ltb}
 use lib.ListN.{length}
-use Rattle.job.specs.Ready.{Sampled}
+use Rattle.job.specs.Gives.{Sampled}
 use Rattle.quantizer.specs.Course.{Course}
 use Rattle.stages.specs.State.{State}
 use Rattle.stages.specs.Stages.{openSeeding, enterGrowing, fresh}

@@ -9,21 +9,22 @@ use lib.Dec.{eqb}
 use lib.Ieee.{Float}
 use lib.ListN.{length}
 use borrow.Author.Tests.{eq-eqb, ne-eqb, eqb-true}
-use Rattle.color.specs.Sizes.{bounded-wider}
+use Rattle.color.proofs.Sizes.{bounded-wider}
 use Rattle.job.specs.Job.{two}
-use Rattle.job.specs.Ready.{two-within, components-within}
+use Rattle.job.proofs.Ready.{two-within, components-within}
 use Rattle.quantizer.specs.Course.{Course, b}
 use Rattle.stages.specs.declared.Record.{Record}
 use Rattle.stages.specs.State.{State, stateWith, at}
 use Rattle.stages.specs.Stages.{finishRound, settle, handIn}
 use Rattle.stages.specs.Calls.{Memory, memory, recordOf, wordsOf, stateOf, memoryOf, outcome, coloursRoom, handInAnswer, handInCall}
-use Rattle.calls.specs.Cases.{decide}
-use Rattle.calls.specs.Place.{Placed, final-placed, made-at-3}
-use Rattle.calls.specs.Settling.{settle-done, settle-more, finish-placed}
+use Rattle.calls.proofs.Cases.{decide}
+use Rattle.calls.specs.Place.{Placed}
+use Rattle.calls.proofs.Place.{final-placed, made-at-3}
+use Rattle.calls.proofs.Settling.{settle-done, settle-more, finish-placed}
 use Rattle.calls.specs.Sound.{Held}
-use Rattle.calls.specs.Accepted.{job-passed}
-use Rattle.calls.specs.Answers.{handIn-opened}
-use Rattle.calls.specs.Next as next
+use Rattle.calls.proofs.Accepted.{job-passed}
+use Rattle.calls.proofs.Answers.{handIn-opened}
+use Rattle.calls.proofs.Next as next
 use Rattle.run_refine.specs.Refines.{refinedTimes, placedAt, finalDraws, Handed}
 
 -- ---- what follows a stop

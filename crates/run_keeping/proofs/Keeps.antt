@@ -7,10 +7,10 @@ use native.Mathlib.Omega.{arith}
 use lib.Dec.{T, ltb, ltb→lt, not-T}
 use lib.Ieee.{Float, binary32, lt, ofBits, toBits, isNan, nanBits}
 use lib.Ieee.Bits.{nanBits-above}
-use Rattle.ieee.specs.Bounds.{within-real}
-use Rattle.mse.specs.Fine.{mse-error}
+use Rattle.ieee.proofs.Bounds.{within-real}
+use Rattle.mse.proofs.Fine.{mse-error}
 use Rattle.mse.specs.Mse.{mseOf}
-use Rattle.calls.specs.Limits.{error-bits}
+use Rattle.calls.proofs.Limits.{error-bits}
 use Rattle.job.specs.Job.{Job}
 use Rattle.palette_tile.specs.Tiles.{Shown, hintsOf}
 use Rattle.quantizer.specs.Course.{Course}

@@ -9,7 +9,7 @@ use mir.Val.{Fits}
 use mir.Syntax.{w64}
 use mir.Facts.{fits-le, fits-lit}
 use borrow.Author.Tests.{eq-eqb, ne-eqb, leb-true, ltb-true}
-use Rattle.lists.specs.Tests.{and-l, and-r}
+use Rattle.lists.proofs.Tests.{and-l, and-r}
 use Rattle.quantizer.specs.Course.{Course, b}
 use Rattle.stages.specs.State.{draws}
 use Rattle.stages.specs.Record.{roundsOf, drawsIn, before, placeFits, madeBy}

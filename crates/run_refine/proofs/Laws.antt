@@ -12,7 +12,7 @@ use Rattle.quantizer.specs.Refining.{refined}
 use Rattle.stages.specs.declared.Record.{Record}
 use Rattle.stages.specs.State.{State, stateWith}
 use Rattle.stages.specs.Stages.{refinedOnce}
-use Rattle.calls.specs.Sound.{all-shown, refined-held, hinted}
+use Rattle.calls.proofs.Sound.{all-shown, refined-held, hinted}
 use Rattle.run_refine.specs.Refines.{refinedTimes, placedAt, finalDraws, Refinable}
 
 -- ---- the final draws

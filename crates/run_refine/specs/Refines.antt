@@ -4,7 +4,7 @@ use mathlib.Core.Path.{_≡_}
 use mathlib.Core.Bool.{cond}
 use lib.Dec.{eqb}
 use lib.ListN.{length}
-use Rattle.job.specs.Ready.{Ready}
+use Rattle.job.specs.Gives.{Ready}
 use Rattle.quantizer.specs.Course.{Course}
 use Rattle.stages.specs.declared.Record.{Record}
 use Rattle.stages.specs.State.{State}

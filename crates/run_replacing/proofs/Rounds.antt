@@ -5,8 +5,8 @@ use mathlib.Core.List.{List, []}
 use lib.ListN.{length}
 use lib.Ieee.{Float, binary32, lt, ofBits}
 use borrow.Author.Tests.{lt-ltb, le-ltb}
-use Rattle.palette_tile.specs.Hints.{length-hints}
-use Rattle.calls.specs.Cases.{both}
+use Rattle.palette_tile.proofs.Hints.{length-hints}
+use Rattle.calls.proofs.Cases.{both}
 use Rattle.run_record.specs.Sized.{sized}
 use Rattle.run_keeping.specs.Closing.{Whole, Lent, Ending}
 use Rattle.quantizer.specs.Course.{Course}

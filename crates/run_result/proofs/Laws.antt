@@ -7,7 +7,7 @@ use lib.ListN.{length}
 use borrow.Author.Tests.{eq-eqb, ne-eqb, eqb-true}
 use Rattle.quantizer.specs.Course.{Course}
 use Rattle.stages.specs.Calls.{Memory, copiedTo, coloursRoom, resultAnswer, resultCall}
-use Rattle.calls.specs.Answers.{result-opened}
+use Rattle.calls.proofs.Answers.{result-opened}
 
 module _ (size : ℕ) (K : Course) (m : Memory) (out : List Float) (a : ℕ) (e : a ≡ resultAnswer size K m out) where
   pub refused : (a ≡ 0 → ⊥) → copiedTo a out ≡ resultCall size K m out

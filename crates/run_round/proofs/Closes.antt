@@ -8,21 +8,23 @@ use native.Mathlib.Omega.{arith}
 use lib.Dec.{eqb}
 use lib.Ieee.{Float}
 use borrow.Author.Tests.{eq-eqb, ne-eqb}
-use Rattle.lists.specs.Tests.{and-l}
+use Rattle.lists.proofs.Tests.{and-l}
 use Rattle.quantizer.specs.Course.{Course, course}
 use Rattle.stages.specs.declared.Record.{Record}
 use Rattle.stages.specs.State.{State, stateWith, draws}
 use Rattle.stages.specs.Stages.{closeSeeding, closeGrowing, closeReplacing, finishRound, due, settle}
-use Rattle.calls.specs.Cases.{stage0, stage1, stage2, stage4}
-use Rattle.calls.specs.Place.{Placed, seeding, growing, replacing, reducing, finishing, over, quiet, togo}
-use Rattle.calls.specs.Settling.{settle-done, settle-more, finish-placed, togo-less}
-use Rattle.calls.specs.Presence.{seeding-rounds, growing-rounds}
-use Rattle.calls.specs.Sound.{Second, all-shown, in2, out2, finish-sound}
+use Rattle.calls.proofs.Cases.{stage0, stage1, stage2, stage4}
+use Rattle.calls.specs.Place.{Placed, seeding, growing, replacing, reducing, finishing, over}
+use Rattle.calls.proofs.Place.{quiet, togo}
+use Rattle.calls.proofs.Settling.{settle-done, settle-more, finish-placed, togo-less}
+use Rattle.calls.proofs.Presence.{seeding-rounds, growing-rounds}
+use Rattle.calls.specs.Sound.{Second, in2, out2}
+use Rattle.calls.proofs.Sound.{all-shown, finish-sound}
 use Rattle.run_keeping.specs.Closing.{Lent, Judging}
 use Rattle.run_growing.specs.Grows.{Grown}
 use Rattle.run_seeding.specs.Seeds.{Seeded}
 use Rattle.run_round.specs.Settles.{Standing, Closing}
-use Rattle.run_round.specs.Orders.{seeding-any, growing-any, replacing-any}
+use Rattle.run_round.proofs.Orders.{seeding-any, growing-any, replacing-any}
 
 module _ (K : Course) (o h : List ℕ) (p l : List Float) (r : Record) (A : Closing K (stateWith o h p l r)) where
   lent : Lent (K .job) h p l

@@ -1,1 +1,2 @@
 pub mod Closes
+pub mod Orders

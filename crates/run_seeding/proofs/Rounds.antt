@@ -9,11 +9,11 @@ use borrow.Author.Tests.{lt-ltb, le-ltb}
 use Rattle.job.specs.Job.{Job}
 use Rattle.palette_edit.specs.Edits.{subCopied}
 use Rattle.palette_tile.specs.Tiles.{Shown, hintsOf}
-use Rattle.palette_tile.specs.Hints.{length-hints}
+use Rattle.palette_tile.proofs.Hints.{length-hints}
 use Rattle.quantizer.specs.Course.{Course}
 use Rattle.quantizer.specs.Seeding.{duplicated, worstOf}
-use Rattle.quantizer.specs.Indexes.{worst-below}
-use Rattle.quantizer.specs.Bounds.{row-in}
+use Rattle.quantizer.proofs.Indexes.{worst-below}
+use Rattle.quantizer.proofs.Bounds.{row-in}
 use Rattle.stages.specs.declared.Record.{Record}
 use Rattle.stages.specs.State.{State, stateWith}
 use Rattle.stages.specs.Stages.{noticed, openSeeding, enterGrowing, closeSeeding}

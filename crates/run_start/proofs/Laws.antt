@@ -14,9 +14,9 @@ use Rattle.stages.specs.declared.Record.{Record}
 use Rattle.stages.specs.State.{State, stateWith}
 use Rattle.stages.specs.Stages.{settle, fresh, start}
 use Rattle.stages.specs.Calls.{Memory, memory, wordsOf, memoryOf, outcome, startAnswer, startCall}
-use Rattle.calls.specs.Accepted.{job-passed}
-use Rattle.calls.specs.Answers.{start-opened}
-use Rattle.calls.specs.Next as next
+use Rattle.calls.proofs.Accepted.{job-passed}
+use Rattle.calls.proofs.Answers.{start-opened}
+use Rattle.calls.proofs.Next as next
 use Rattle.run_blank.specs.Blanks.{dealt, Blanking}
 use Rattle.run_first.specs.Starts.{firstRound, Beginning}
 

@@ -7,9 +7,9 @@ use lib.Ieee.{Float}
 use lib.ListN.{length, getD}
 use borrow.Author.Tests.{ne-eqb, lt-ltb, le-ltb}
 use Rattle.lists.specs.Every.{every}
-use Rattle.lists.specs.Loops.{every-fails, every-more}
+use Rattle.lists.proofs.Loops.{every-fails, every-more}
 use Rattle.job.specs.Rules.{Rule, rule, answer, numbered}
-use Rattle.job.specs.Passing.{stops, goes, fails}
+use Rattle.job.proofs.Passing.{stops, goes, fails}
 use Rattle.job.specs.Checks.{firstBad, componentsFit}
 use Rattle.quantizer.specs.Course.{Course}
 use Rattle.stages.specs.declared.Record.{Record}

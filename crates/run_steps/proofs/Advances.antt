@@ -8,15 +8,16 @@ use lib.Dec.{ltb}
 use lib.Ieee.{Float}
 use lib.ListN.{length}
 use borrow.Author.Tests.{ltb-true, ltb-false}
-use Rattle.lists.specs.Tests.{and-l, and-r}
+use Rattle.lists.proofs.Tests.{and-l, and-r}
 use Rattle.quantizer.specs.Course.{Course}
 use Rattle.stages.specs.declared.Record.{Record}
 use Rattle.stages.specs.State.{State, stateWith, draws}
 use Rattle.stages.specs.Stages.{going, step, advance, drawsOf}
 use Rattle.stages.specs.Calls.{recordOf, wordsOf, memory, memoryOf, outcome}
-use Rattle.calls.specs.Cases.{decide}
-use Rattle.calls.specs.Whilsts.{Far, far-start, far-step, far-stop, far-end}
-use Rattle.calls.specs.Fit.{Fit, step-fit}
+use Rattle.calls.proofs.Cases.{decide}
+use Rattle.calls.proofs.Whilsts.{Far, far-start, far-step, far-stop, far-end}
+use Rattle.calls.specs.Fit.{Fit}
+use Rattle.calls.proofs.Fit.{step-fit}
 use Rattle.run_steps.specs.Running.{Running, Ongoing}
 
 -- of `a` draws from the first state, m are made and s is reached; both states are runs

@@ -7,10 +7,10 @@ use Rattle.quantizer.specs.Course.{Course}
 use Rattle.stages.specs.declared.Record.{Record}
 use Rattle.stages.specs.State.{State, stateWith}
 use Rattle.stages.specs.Stages.{subsOf, haveOf, draw, settle, step}
-use Rattle.calls.specs.Place.{draw-place}
-use Rattle.calls.specs.Sound.{draw-sound}
+use Rattle.calls.proofs.Place.{draw-place}
+use Rattle.calls.proofs.Sound.{draw-sound}
 use Rattle.run_draw.specs.Drawable.{Drawable}
-use Rattle.run_draw.specs.Draws.{drawable, draw-beside}
+use Rattle.run_draw.proofs.Draws.{drawable, draw-beside}
 use Rattle.run_round.specs.Settles.{Standing}
 use Rattle.run_steps.specs.Running.{Ongoing}
 

@@ -11,18 +11,19 @@ use lib.Seq.{sets, length-sets, length-take-le}
 use lib.Ieee.{Float}
 use borrow.Author.Tests.{le-leb, lt-leb, eq-eqb, ne-eqb}
 use Rattle.bits.specs.Bits.{bitsOf, bits}
-use Rattle.bits.specs.Numbers.{num-lt}
-use Rattle.bits.specs.Bytes.{bits-set}
-use Rattle.bits.specs.Fields.{sets-append}
+use Rattle.bits.proofs.Numbers.{num-lt}
+use Rattle.bits.proofs.Bytes.{bits-set}
+use Rattle.bits.proofs.Fields.{sets-append}
 use Rattle.format.specs.Format.{bytesOf, bytesFor, encode}
-use Rattle.format.specs.Tests.{and-in}
-use Rattle.format.specs.Files.{bits-bytesOf, bytesOf-bits}
+use Rattle.format.proofs.Tests.{and-in}
+use Rattle.format.proofs.Files.{bits-bytesOf, bytesOf-bits}
 use Rattle.job.specs.Job.{Job}
 use Rattle.job.specs.Checks.{plainAnswer}
-use Rattle.job.specs.Ready.{Ready, Lent, Plain, plain-ready}
+use Rattle.job.specs.Gives.{Ready, Lent, Plain}
+use Rattle.job.proofs.Ready.{plain-ready}
 use Rattle.sheet_format.specs.Sheet.{edition1, sheet, sizeOf}
 use Rattle.sheet_pack.specs.Packed.{sheetOf, sheetBits}
-use Rattle.sheet_pack.specs.Prints.{sheet-size, sheet-print}
+use Rattle.sheet_pack.proofs.Prints.{sheet-size, sheet-print}
 use Rattle.sheet.specs.declared.Writing.the-variants.{Refused, Bytes}
 use Rattle.sheet.specs.Sheets.{WriteOutcome, writeOutcome, storedIn, writeDef}
 

@@ -1,2 +1,9 @@
 pub mod Outcomes
 pub mod Files
+pub mod Again
+pub mod Taken
+pub mod Kept
+pub mod Floats
+pub mod Inverse
+pub mod Accepted
+pub mod Only

@@ -9,7 +9,7 @@ use lib.ListN.{length}
 use lib.Seq.{sets}
 use lib.Ieee.{Float, binary32, ofBits}
 use borrow.Author.Tests.{leb-true, not-true, not-false}
-use Rattle.lists.specs.Tests.{and-l, and-r}
+use Rattle.lists.proofs.Tests.{and-l, and-r}
 use Rattle.format.specs.Format.{times, Answer, refused, accepted}
 use Rattle.sheet_format.specs.Sheet.{edition1, component, Colour, Sheet, tile, readSheet}
 use Rattle.sheet_format.specs.Lists.{floats, allCounts, allFloats, tableOf}
@@ -19,7 +19,7 @@ use Rattle.sheet_check.specs.Steps.{checkedOf}
 use Rattle.sheet_fill.specs.Fill.{listAt}
 use Rattle.sheet.specs.declared.Reading.the-variants as reading
 use Rattle.sheet.specs.Sheets.{Room, room, ReadOutcome, readOutcome, roomy, readInto, readDef}
-use Rattle.sheet.specs.Accepted.{Accepted}
+use Rattle.sheet.proofs.Accepted.{Accepted}
 
 -- what room there is
 pub record Roomy (t f c p : ℕ) : Type 0 where

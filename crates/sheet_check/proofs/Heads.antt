@@ -7,9 +7,9 @@ use mathlib.Core.Bool.{Bool, true, false, cond}
 use mathlib.Core.List.{List}
 use lib.ListN.{length, drop}
 use Rattle.bits.specs.Bits.{bits, fieldAt}
-use Rattle.bits.specs.Bytes.{length-bits}
+use Rattle.bits.proofs.Bytes.{length-bits}
 use Rattle.format.specs.Format.{Res, fault, got, next, field, above}
-use Rattle.format.specs.Reading.{field-short, field-found, above-short, above-found, checked-fault, checked-got, both-fault, both-got, literal-short, literal-same, literal-other}
+use Rattle.format.proofs.Reading.{field-short, field-found, above-short, above-found, checked-fault, checked-got, both-fault, both-got, literal-short, literal-same, literal-other}
 use Rattle.pattern.specs.Pattern.{weighs}
 use Rattle.sheet_format.specs.Sheet.{Edition, weight, tiled, coloured, sized, dated, header}
 

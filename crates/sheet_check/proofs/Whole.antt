@@ -8,11 +8,11 @@ use lib.Dec.{ltb}
 use lib.ListN.{length, drop}
 use borrow.Author.Tests.{le-leb, lt-leb}
 use Rattle.bits.specs.Bits.{bits}
-use Rattle.bits.specs.Bytes.{length-bits}
+use Rattle.bits.proofs.Bytes.{length-bits}
 use Rattle.format.specs.Format.{Res, fault, got, next, Format, both, clear, refused, accepted, ended, readOf}
-use Rattle.format.specs.Reading.{both-fault, both-got}
-use Rattle.sheet_format.specs.Exact.{rest-lawful}
-use Rattle.sheet_format.specs.Headed.{header-rest, header-sized, header-long}
+use Rattle.format.proofs.Reading.{both-fault, both-got}
+use Rattle.sheet_format.proofs.Exact.{rest-lawful}
+use Rattle.sheet_format.proofs.Headed.{header-rest, header-sized, header-long}
 use Rattle.sheet_format.specs.Sheet.{Edition, edition1, Header, Colour, Parts, whole, header, rest, sheet, readSheet}
 use Rattle.sheet_tiles.specs.declared.Step.the-variants.{At}
 use Rattle.sheet_check.specs.declared.Checked.{Checked}

@@ -6,15 +6,15 @@ use mathlib.Core.List.{List, _∷_}
 use lib.ListN.{length, length-append}
 use lib.Ieee.{Float}
 use Rattle.lists.specs.Every.{sum}
-use Rattle.lists.specs.Loops.{sum-more}
+use Rattle.lists.proofs.Loops.{sum-more}
 use Rattle.bits.specs.Bits.{bitsOf}
-use Rattle.bits.specs.Numbers.{length-bitsOf}
+use Rattle.bits.proofs.Numbers.{length-bitsOf}
 use Rattle.color.specs.Color.{Bounded}
 use Rattle.job.specs.Job.{Job, job, tileSize, sizeOf, countsPart, coloursPart, Placed}
-use Rattle.job.specs.Tiles.{counts-placed, colours-placed, counts-length, tile-three, tile-near}
+use Rattle.job.proofs.Tiles.{counts-placed, colours-placed, counts-length, tile-three, tile-near}
 use Rattle.sheet_format.specs.Sheet.{edition1, Colour}
 use Rattle.sheet_pack.specs.Packed.{coloursOf, tilesFrom, coloursBits, tileBits, Counted, Tabled}
-use Rattle.sheet_pack.specs.Prints.{length-coloursBits}
+use Rattle.sheet_pack.proofs.Prints.{length-coloursBits}
 
 pub none-before : (tb : List ℕ) → sum (sizeOf tb) 0 ≡ 0
 unfolding sum

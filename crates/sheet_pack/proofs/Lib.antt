@@ -1,3 +1,4 @@
 pub mod Writes
 pub mod Here
 pub mod Whole
+pub mod Prints

@@ -10,14 +10,14 @@ use lib.ListN.{length, replicate}
 use lib.Seq.{sets, length-sets}
 use lib.Ieee.{Float, binary32, toBits}
 use Rattle.bits.specs.Bits.{bitsOf, written}
-use Rattle.bits.specs.Fields.{written-sets}
+use Rattle.bits.proofs.Fields.{written-sets}
 use Rattle.format.specs.Format.{bytesFor}
 use Rattle.job.specs.Job.{Job}
-use Rattle.job.specs.Ready.{Ready, Lent}
+use Rattle.job.specs.Gives.{Ready, Lent}
 use Rattle.sheet_format.specs.Sheet.{edition1, sizeOf}
 use Rattle.sheet_format.specs.Lists.{patterns}
 use Rattle.sheet_pack.specs.Packed.{tilesFrom, sheetOf, words, tilesBits, headBits, sheetBits}
-use Rattle.sheet_pack.specs.Prints.{content-size, palette-size, head-long}
+use Rattle.sheet_pack.proofs.Prints.{content-size, palette-size, head-long}
 use Rattle.sheet_pack.proofs.Writes.{run-put}
 
 zeros : (n : ℕ) → bitsOf n 0 ≡ replicate n false

@@ -9,15 +9,15 @@ use lib.ListN.{length, getD, take, drop, length-drop}
 use lib.Seq.{sets, drop-cons, drop-drop, length-take-le, getD-take, getD-drop}
 use lib.Ieee.{Float, nan, binary32, toBits}
 use Rattle.bits.specs.Bits.{bits, bitsOf, written}
-use Rattle.bits.specs.Numbers.{length-bitsOf}
-use Rattle.bits.specs.Bytes.{length-bits}
-use Rattle.bits.specs.Fields.{length-written, sets-append, written-sets}
-use Rattle.ieee.specs.Within.{Within}
+use Rattle.bits.proofs.Numbers.{length-bitsOf}
+use Rattle.bits.proofs.Bytes.{length-bits}
+use Rattle.bits.proofs.Fields.{length-written, sets-append, written-sets}
+use Rattle.ieee.specs.Terms.{Within}
 use Rattle.color.specs.Color.{Bounded}
 use Rattle.sheet_format.specs.Sheet.{edition1, Colour}
 use Rattle.sheet_format.specs.Lists.{patterns}
 use Rattle.sheet_pack.specs.Packed.{coloursOf, tilesFrom, words, coloursBits, tileBits, tilesBits, headBits}
-use Rattle.sheet_pack.specs.Prints.{length-words, length-coloursOf, three}
+use Rattle.sheet_pack.proofs.Prints.{length-words, length-coloursOf, three}
 
 -- ---- a field, and a run of bits, at the head of what is left
 pub field-put : (l m : List Bool) (q k v : ℕ) (t g : List Bool) → q + k ≤ length l → m ≡ written l q k v → sets l q (bitsOf k v ++ t) ≡ g → sets m (q + k) t ≡ g

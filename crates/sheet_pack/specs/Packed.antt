@@ -6,7 +6,7 @@ use lib.ListN.{length, getD, take, drop}
 use lib.Ieee.{Float, binary32, toBits}
 use Rattle.bits.specs.Bits.{bitsOf}
 use Rattle.job.specs.Job.{Job, job, tileSize, coloursPart, countsPart}
-use Rattle.job.specs.Ready.{Ready}
+use Rattle.job.specs.Gives.{Ready}
 use Rattle.sheet_format.specs.Sheet.{Edition, Colour, Sheet}
 use Rattle.sheet_format.specs.Lists.{patterns}
 

@@ -10,7 +10,7 @@ ghost use Rattle.bits.specs.Bits.{bits};
 ghost use Rattle.format.specs.Format.{bytesFor};
 ghost use Rattle.color.specs.Color.{Bounded};
 ghost use Rattle.job.specs.Job.{job, tileSize};
-ghost use Rattle.job.specs.Ready.{Ready, Lent};
+ghost use Rattle.job.specs.Gives.{Ready, Lent};
 ghost use Rattle.sheet_format.specs.Sheet.{edition1, sizeOf};
 ghost use Rattle.sheet_format.specs.Lists.{patterns};
 ghost use Rattle.sheet_pack.specs.Packed.{words, coloursBits, tileBits, tilesBits, headBits, sheetBits, coloursOf, tilesFrom, sheetOf, Counted, Tabled};

@@ -1,3 +1,1 @@
 pub mod Begins
-pub mod Parts
-pub mod Reads

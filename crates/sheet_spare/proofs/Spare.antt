@@ -10,8 +10,8 @@ use lib.ListN.{length, drop, length-drop}
 use lib.Seq.{take-all}
 use borrow.Author.Tests.{eq-eqb, ne-eqb, lt-ltb, le-ltb}
 use Rattle.bits.specs.Bits.{bits, bitsOf, num, fieldAt}
-use Rattle.bits.specs.Numbers.{bitsOf-num}
-use Rattle.bits.specs.Bytes.{length-bits}
+use Rattle.bits.proofs.Numbers.{bitsOf-num}
+use Rattle.bits.proofs.Bytes.{length-bits}
 use Rattle.format.specs.Format.{clear}
 
 zero-bits : (n : ℕ) → clear (bitsOf n 0) ≡ true

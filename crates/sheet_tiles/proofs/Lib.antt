@@ -1,2 +1,3 @@
 pub mod Turns
 mod Rest
+pub mod Entries

@@ -6,7 +6,7 @@ use mathlib.Core.List.{List}
 use lib.ListN.{drop}
 use Rattle.bits.specs.Bits.{bits}
 use Rattle.format.specs.Format.{Res, fault, got, next, times}
-use Rattle.format.specs.Reading.{both-fault, both-got}
+use Rattle.format.proofs.Reading.{both-fault, both-got}
 use Rattle.sheet_format.specs.Sheet.{Edition, component, Colour, tile, rest}
 use Rattle.sheet_tiles.specs.declared.Step.the-variants.{Fault}
 use Rattle.sheet_tiles.specs.Steps.{stepOf, stepAt}

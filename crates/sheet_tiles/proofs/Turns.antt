@@ -9,10 +9,10 @@ use lib.ListN.{length, drop, length-drop, length-append}
 use lib.Seq.{drop-drop, drop-append-seam}
 use borrow.Author.Tests.{le-leb, lt-leb}
 use Rattle.bits.specs.Bits.{bits, fieldAt}
-use Rattle.bits.specs.Bytes.{length-bits}
+use Rattle.bits.proofs.Bytes.{length-bits}
 use Rattle.format.specs.Format.{Res, fault, got, next, Format, field, none, cons, times}
-use Rattle.format.specs.Lawful.{Lawful}
-use Rattle.format.specs.Reading.{field-short, field-found, checked-fault, checked-got}
+use Rattle.format.proofs.Lawful.{Lawful}
+use Rattle.format.proofs.Reading.{field-short, field-found, checked-fault, checked-got}
 use Rattle.sheet_format.specs.Sheet.{Edition, Colour, entry, colours, tile}
 use Rattle.sheet_tiles.specs.declared.Step.{Step}
 use Rattle.sheet_tiles.specs.declared.Step.the-variants.{Fault, At}

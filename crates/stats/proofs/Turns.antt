@@ -7,7 +7,8 @@ use native.Mathlib.Numerals.{add-one}
 use borrow.Author.Tests.{le-leb, lt-leb}
 use lib.Dec.{T, leb}
 use lib.Ieee.{Float, binary32, fits, toBits}
-use Rattle.ieee.specs.Cmp.{tle, keyOf, tle-is-key}
+use Rattle.ieee.specs.Terms.{tle, keyOf}
+use Rattle.ieee.proofs.Cmp.{tle-is-key}
 use Rattle.stats.specs.Stats.{NoNan, argmaxOf, argminOf}
 
 module _ (d : ℕ → Float) (F : (i : ℕ) → T (fits binary32 (d i))) (n : ℕ) (R : NoNan d n) (i best : ℕ) (I : i < n) (B : best < n) (a b : ℕ) (A : a ≡ keyOf binary32 (toBits binary32 (d best))) (C : b ≡ keyOf binary32 (toBits binary32 (d i))) where

@@ -5,7 +5,7 @@ use mathlib.Core.List.{List}
 use lib.ListN.{getD}
 use lib.Dec.{T, eqb}
 use lib.Ieee.{Float, nan, inf, lt, isNan}
-use Rattle.ieee.specs.Cmp.{tle}
+use Rattle.ieee.specs.Terms.{tle}
 use Rattle.stats.specs.declared.Near.{Near}
 use Rattle.stats.specs.declared.Two.{Two}
 

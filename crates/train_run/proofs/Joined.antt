@@ -7,7 +7,7 @@ use Rattle.job.specs.Job.{tileSize}
 use Rattle.quantizer.specs.Course.{Course}
 use Rattle.stages.specs.Calls.{Memory, Outcome, outcome, startCall, advanceCall, handInCall}
 use Rattle.training.specs.Training.{cut, all, trained, goCall, stopCall, reductionCalls, drawnCalls, finishedCalls, Trainable}
-use Rattle.training.specs.ByCalls.{calls-train}
+use Rattle.training.proofs.ByCalls.{calls-train}
 
 module _ (K : Course) where
   -- a call's memory, from its outcome

@@ -1,1 +1,3 @@
 pub mod Stores
+pub mod Named
+pub mod Numbers

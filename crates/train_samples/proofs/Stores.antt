@@ -8,9 +8,9 @@ use lib.ListN.{length, getD, set}
 use Rattle.lists.specs.Every.{sum}
 use Rattle.job.specs.Job.{countsPart}
 use Rattle.fit_lines.specs.Lines.{Stored}
-use Rattle.fit_lines.specs.Stores.{both-stored}
+use Rattle.fit_lines.proofs.Stores.{both-stored}
 use Rattle.train_samples.specs.Samples.{alike, tileSamples, units, samplesTo, unitsTo, Countable}
-use Rattle.train_samples.specs.Numbers.{sum-grows, length-tile, length-samples}
+use Rattle.train_samples.proofs.Numbers.{sum-grows, length-tile, length-samples}
 
 -- nothing is stored
 pub nothing : (l : List ℕ) (at : ℕ) → Stored l l at at []

@@ -12,10 +12,11 @@ use borrow.Author.Tests.{le-leb, eq-eqb}
 use Rattle.format.specs.Format.{bytesOf, bytesFor, encode}
 use Rattle.job.specs.Job.{Job, tileSize}
 use Rattle.job.specs.Checks.{plainAnswer}
-use Rattle.job.specs.Ready.{Plain, plain-ready}
+use Rattle.job.specs.Gives.{Plain}
+use Rattle.job.proofs.Ready.{plain-ready}
 use Rattle.sheet_format.specs.Sheet.{edition1, sheet, sizeOf}
 use Rattle.sheet_pack.specs.Packed.{sheetOf}
-use Rattle.sheet_pack.specs.Prints.{sheet-size, sheet-print}
+use Rattle.sheet_pack.proofs.Prints.{sheet-size, sheet-print}
 use Rattle.sheet.specs.declared.Writing.{Writing}
 use Rattle.sheet.specs.declared.Writing.the-variants.{Refused, Bytes}
 use Rattle.sheet.specs.Sheets.{WriteOutcome, writeOutcome, storedIn, writeDef}

@@ -8,10 +8,10 @@ use lib.ListN.{length, getD, take, replicate, length-replicate}
 use lib.Seq.{length-take-le, getD-take, ext-getD}
 use lib.Ieee.{Float}
 use Rattle.job.specs.Job.{tileSize}
-use Rattle.job.specs.Ready.{Sampled}
+use Rattle.job.specs.Gives.{Sampled}
 use Rattle.quantizer.specs.Course.{Course}
 use Rattle.stages.specs.Calls.{memory}
-use Rattle.calls.specs.Accepted.{job-passed}
+use Rattle.calls.proofs.Accepted.{job-passed}
 use Rattle.training.specs.Training.{trained, Trainable}
 use Rattle.train_sheet.specs.Trained.{trainedPalette, Drawable}
 

@@ -8,19 +8,20 @@ use lib.Dec.{ltb}
 use lib.ListN.{length, getD}
 use lib.Ieee.{Float}
 use borrow.Author.Tests.{eq-eqb, le-leb, lt-ltb}
-use Rattle.lists.specs.Tests.{and-i}
+use Rattle.lists.proofs.Tests.{and-i}
 use Rattle.job.specs.Job.{Job, tileSize, mostSamples, two}
 use Rattle.job.specs.Rules.{Passed, numbered}
-use Rattle.job.specs.Passing.{all-pass, pass-all}
+use Rattle.job.proofs.Passing.{all-pass, pass-all}
 use Rattle.job.specs.Checks.{componentsFit, sampleTest, sampleFits, samplesFit, plainRules, plainAnswer}
-use Rattle.job.specs.Ready.{Ready, plain-ready}
-use Rattle.job.specs.Tiles.{counts-length, counts-placed}
+use Rattle.job.specs.Gives.{Ready}
+use Rattle.job.proofs.Ready.{plain-ready}
+use Rattle.job.proofs.Tiles.{counts-length, counts-placed}
 use Rattle.quantizer.specs.Course.{course}
 use Rattle.stages.specs.Calls.{jobRules}
-use Rattle.calls.specs.Limits.{every-all}
+use Rattle.calls.proofs.Limits.{every-all}
 use Rattle.train_samples.specs.Samples.{units, samplesTo, unitsTo, Countable}
-use Rattle.train_samples.specs.Numbers.{length-samples}
-use Rattle.train_samples.specs.Named.{sample-named}
+use Rattle.train_samples.proofs.Numbers.{length-samples}
+use Rattle.train_samples.proofs.Named.{sample-named}
 
 module _ (J : Job) (p : List Float) (h : plainAnswer tileSize J p true ≡ 0) where
   passed : Passed (plainRules tileSize J p true)

@@ -17,12 +17,12 @@ use Rattle.stages.specs.Calls.{Memory, memory, jobRules}
 use Rattle.calls.specs.Accepted.{Roomy}
 use Rattle.sheet_format.specs.Sheet.{edition1, sheet}
 use Rattle.sheet_pack.specs.Packed.{sheetOf}
-use Rattle.sheet.specs.Inverse.{sets-front}
+use Rattle.sheet.proofs.Inverse.{sets-front}
 use Rattle.sheet_parts.specs.Begins.{Writable}
 use Rattle.fit_lines.specs.Lines.{Stored, refusedLine}
-use Rattle.training.specs.ByCalls.{trained-fits}
+use Rattle.training.proofs.ByCalls.{trained-fits}
 use Rattle.train_samples.specs.Samples.{samplesTo, unitsTo}
-use Rattle.train_samples.specs.Numbers.{length-samples}
+use Rattle.train_samples.proofs.Numbers.{length-samples}
 use Rattle.train_sheet.specs.Trained.{courseOf, trainedPalette, trainedFile, jobText, Drawable, Sheeted}
 use Rattle.train_sheet.proofs.Rules.{palette-long, repainted, run-passed}
 use Rattle.train_sheet.proofs.Files.{still-writable}

@@ -6,7 +6,7 @@ use lib.ListN.{take}
 use lib.Ieee.{Float}
 use Rattle.job.specs.Job.{Job, job, firstOf, sizeOf}
 use Rattle.sheet_parts.specs.Begins.{Writable, Begins}
-use Rattle.sheet_parts.specs.Parts.{parts-say, lists-say}
+use Rattle.sheet_parts.proofs.Parts.{parts-say, lists-say}
 use Rattle.fit_lines.specs.Lines.{Stored}
 use Rattle.train_sheet.specs.Trained.{jobText}
 

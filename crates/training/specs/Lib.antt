@@ -1,4 +1,1 @@
 pub mod Training
-pub mod Cuts
-pub mod Stops
-pub mod ByCalls

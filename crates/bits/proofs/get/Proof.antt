@@ -1,8 +1,8 @@
 -- `get` meets its contract: the field is a part of the number of the bytes that it touches. Assumes nothing.
 use native.Mathlib.Omega.{arith}
 use Rattle.bits.specs.Bits.{bits}
-use Rattle.bits.specs.Bytes.{length-bits}
-use Rattle.bits.specs.Fields.{field-lt}
+use Rattle.bits.proofs.Bytes.{length-bits}
+use Rattle.bits.proofs.Fields.{field-lt}
 use Rattle.bits.proofs.Gathered.{field-read, shl-some}
 use borrow.Author.Needs.{needs}
 use Rattle.bits.proofs.get.Statement.{statement}

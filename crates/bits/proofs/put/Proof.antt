@@ -2,8 +2,8 @@
 use Prim.Native.Nat.{_+_, _-_, _*_, _/_, _%_}
 use native.Mathlib.Omega.{arith}
 use Rattle.bits.specs.Bits.{bits}
-use Rattle.bits.specs.Bytes.{length-bits}
-use Rattle.bits.specs.Fields.{field-lt}
+use Rattle.bits.proofs.Bytes.{length-bits}
+use Rattle.bits.proofs.Fields.{field-lt}
 use Rattle.bits.proofs.Spelled.{put-done}
 use borrow.Author.Needs.{needs}
 use Rattle.bits.proofs.put.Statement.{statement}

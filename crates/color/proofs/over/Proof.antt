@@ -1,7 +1,7 @@
 -- `color::over` meets its contract: a count up to 2 ^ 24 casts exactly. Assumes nothing.
 use borrow.Author.Needs.{needs}
 use lib.Ieee.{binary32}
-use Rattle.ieee.specs.Goods.{count-exact}
+use Rattle.ieee.proofs.Goods.{count-exact}
 use Rattle.color.proofs.over.Statement.{statement}
 use Rattle.color.proofs.over.Tie as tie
 

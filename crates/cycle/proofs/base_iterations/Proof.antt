@@ -1,6 +1,6 @@
 -- `cycle::base_iterations` meets its contract, by the law on the Rust's tenth. Assumes nothing.
 use mathlib.Core.Path.{sym}
-use Rattle.cycle.specs.Tenths.{tenth-is}
+use Rattle.cycle.proofs.Tenths.{tenth-is}
 use Rattle.cycle.proofs.base_iterations.Statement.{statement}
 use Rattle.cycle.proofs.base_iterations.Tie as tie
 

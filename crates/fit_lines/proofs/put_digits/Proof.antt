@@ -6,7 +6,7 @@ use native.Mathlib.Nat.{mod-lt}
 use lib.ListN.{length, set, length-set}
 use lib.Seq.{sets}
 use Rattle.io.specs.Digits.{digits}
-use Rattle.fit_lines.specs.Lengths.{length-digits}
+use Rattle.fit_lines.proofs.Lengths.{length-digits}
 use Rattle.fit_lines.proofs.Puts.{digits-again, digits-end}
 use Rattle.fit_lines.proofs.put_digits.Statement.{statement}
 use Rattle.fit_lines.proofs.put_digits.Tie as tie

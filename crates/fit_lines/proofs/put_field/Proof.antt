@@ -5,8 +5,8 @@ use mathlib.Core.List.{List}
 use native.Mathlib.Omega.{arith}
 use Rattle.io.specs.Digits.{digits}
 use Rattle.fit_lines.specs.Lines.{Stored, decimal}
-use Rattle.fit_lines.specs.Lengths.{width-most}
-use Rattle.fit_lines.specs.Stores.{both-stored}
+use Rattle.fit_lines.proofs.Lengths.{width-most}
+use Rattle.fit_lines.proofs.Stores.{both-stored}
 use borrow.Author.Needs.{needs}
 use Rattle.fit_lines.proofs.put_field.Statement.{statement}
 use Rattle.fit_lines.proofs.put_field.Tie as tie

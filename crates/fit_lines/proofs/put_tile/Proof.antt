@@ -1,8 +1,8 @@
 -- `put_tile` meets its contract: two fields, the distance and the line's end. Assumes nothing.
 use native.Mathlib.Omega.{arith}
 use Rattle.fit_lines.specs.Lines.{tileLine, tileWord, subWord}
-use Rattle.fit_lines.specs.Lengths.{field-most, length-digits}
-use Rattle.fit_lines.specs.Stores.{both-stored}
+use Rattle.fit_lines.proofs.Lengths.{field-most, length-digits}
+use Rattle.fit_lines.proofs.Stores.{both-stored}
 use borrow.Author.Needs.{needs}
 use Rattle.fit_lines.proofs.put_tile.Statement.{statement}
 use Rattle.fit_lines.proofs.put_tile.Tie as tie

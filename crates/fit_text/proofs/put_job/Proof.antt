@@ -2,7 +2,7 @@
 use Prim.Native.Nat.{ℕ, _+_, _*_}
 use mathlib.Core.Path.{sym, ap₂}
 use native.Mathlib.Omega.{arith}
-use Rattle.sheet_parts.specs.Parts.{few-tiles, tiles-long, few-colours, colours-long, counts-long, palette-long, front-long}
+use Rattle.sheet_parts.proofs.Parts.{few-tiles, tiles-long, few-colours, colours-long, counts-long, palette-long, front-long}
 use Rattle.fit_text.proofs.Lists.{shown-parts, parts-printed}
 use borrow.Author.Needs.{needs}
 use Rattle.fit_text.proofs.put_job.Statement.{statement}

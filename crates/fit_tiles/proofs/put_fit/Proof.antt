@@ -1,7 +1,7 @@
 -- `put_fit` meets its contract: the head, the tiles and the loads, one after another. Assumes nothing.
 use native.Mathlib.Omega.{arith}
 use Rattle.job.specs.Job.{job}
-use Rattle.fit_tiles.specs.Lengths.{head-most, tile-lines-most}
+use Rattle.fit_tiles.proofs.Lengths.{head-most, tile-lines-most}
 use Rattle.fit_tiles.proofs.Tiles.{zero-at, all-stored}
 use borrow.Author.Needs.{needs}
 use Rattle.fit_tiles.proofs.put_fit.Statement.{statement}

@@ -6,7 +6,7 @@ use lib.ListN.{length, getD, length-set}
 use Rattle.job.specs.Job.{job}
 use Rattle.fit_lines.specs.Lines.{Stored}
 use Rattle.fit_tiles.specs.Text.{tileLines, loadOf}
-use Rattle.fit_tiles.specs.Lengths.{tile-most}
+use Rattle.fit_tiles.proofs.Lengths.{tile-most}
 use Rattle.fit_tiles.proofs.Tiles.{sub-below, lines-none, lines-more, load-none, load-few, load-more}
 use Rattle.fit_tiles.proofs.put_tiles.Statement.{statement}
 use Rattle.fit_tiles.proofs.put_tiles.Tie as tie

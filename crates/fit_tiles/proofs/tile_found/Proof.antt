@@ -6,7 +6,7 @@ use lib.Dec.{T}
 use lib.Ieee.{Float, isNan}
 use Rattle.job.specs.Job.{job, sizeOf}
 use Rattle.stats.specs.declared.Near.{Near}
-use Rattle.palette_tile.specs.Present.{winner-below}
+use Rattle.palette_tile.proofs.Present.{winner-below}
 use Rattle.fit_tiles.proofs.Tiles.{empty-sub, full-sub, not-empty, dist-real}
 use borrow.Author.Needs.{needs}
 use Rattle.fit_tiles.proofs.tile_found.Statement.{statement}

@@ -2,8 +2,8 @@
 use mathlib.Core.Path.{sym, ap, _∙_}
 use borrow.Author.Tests.{not-true, not-false}
 use borrow.Author.Needs.{needs}
-use Rattle.lists.specs.Tests.{and-no-l}
-use Rattle.group_pixels.specs.Alike.{same-kept}
+use Rattle.lists.proofs.Tests.{and-no-l}
+use Rattle.group_pixels.proofs.Alike.{same-kept}
 use Rattle.group_pixels.specs.Pixel.{inGamut, clash}
 use Rattle.group_pixels.proofs.Tests.{on, same-told, bits-told}
 use Rattle.group_pixels.proofs.clash.Statement.{statement}

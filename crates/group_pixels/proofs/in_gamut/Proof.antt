@@ -2,7 +2,7 @@
 use mathlib.Core.Path.{sym, _∙_}
 use borrow.Author.Tests.{not-true, not-false}
 use borrow.Author.Needs.{needs}
-use Rattle.lists.specs.Tests.{and-no-l}
+use Rattle.lists.proofs.Tests.{and-no-l}
 use Rattle.group_pixels.specs.Pixel.{inGamut}
 use Rattle.group_pixels.proofs.Tests.{on}
 use Rattle.group_pixels.proofs.in_gamut.Statement.{statement}

@@ -3,7 +3,7 @@ use mathlib.Core.Bool.{not}
 use mathlib.Core.Path.{sym, ap}
 use borrow.Author.Tests.{eq-eqb, ne-eqb}
 use borrow.Author.Needs.{needs}
-use Rattle.lists.specs.Tests.{and-no-l}
+use Rattle.lists.proofs.Tests.{and-no-l}
 use Rattle.group_pixels.specs.Pixel.{kept}
 use Rattle.group_pixels.proofs.Tests.{on}
 use Rattle.group_pixels.proofs.is_kept.Statement.{statement}

@@ -2,7 +2,7 @@
 use mathlib.Core.Path.{refl}
 use borrow.Author.Tests.{eq-eqb, ne-eqb}
 use borrow.Author.Needs.{needs}
-use Rattle.lists.specs.Tests.{and-no-l}
+use Rattle.lists.proofs.Tests.{and-no-l}
 use Rattle.group_pixels.proofs.Tests.{on, is-given, is-absent}
 use Rattle.group_pixels.proofs.is_zero.Statement.{statement}
 use Rattle.group_pixels.proofs.is_zero.Tie as tie

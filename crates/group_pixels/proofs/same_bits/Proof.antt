@@ -1,7 +1,7 @@
 -- `group_pixels::same_bits` meets its contract: component by component; a component that is in range is no NaN, so that it has bits. Assumes nothing.
 use mathlib.Core.Path.{refl, sym}
 use borrow.Author.Tests.{eq-eqb, ne-eqb}
-use Rattle.lists.specs.Tests.{and-no-l}
+use Rattle.lists.proofs.Tests.{and-no-l}
 use Rattle.group_pixels.specs.Pixel.{sameBits}
 use Rattle.group_pixels.proofs.Tests.{on, l-real, a-real, b-real}
 use Rattle.group_pixels.proofs.same_bits.Statement.{statement}

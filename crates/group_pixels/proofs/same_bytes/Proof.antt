@@ -1,7 +1,7 @@
 -- `group_pixels::same_bytes` meets its contract: byte by byte. Assumes nothing.
 use mathlib.Core.Path.{refl, sym}
 use borrow.Author.Tests.{eq-eqb, ne-eqb}
-use Rattle.lists.specs.Tests.{and-no-l}
+use Rattle.lists.proofs.Tests.{and-no-l}
 use Rattle.group_pixels.specs.Pixel.{sameBytes}
 use Rattle.group_pixels.proofs.Tests.{on}
 use Rattle.group_pixels.proofs.same_bytes.Statement.{statement}

@@ -1,7 +1,7 @@
 -- `group_refusal::refuses` meets its contract: the refusals in the order of the table. Assumes nothing.
 use borrow.Author.Tests.{eq-eqb, ne-eqb}
 use borrow.Author.Needs.{needs}
-use Rattle.lists.specs.Tests.{and-no-l}
+use Rattle.lists.proofs.Tests.{and-no-l}
 use Rattle.group_refusal.specs.Refusal.{sized}
 use Rattle.group_pixels.proofs.Tests.{on}
 use Rattle.group_refusal.proofs.Passes.{too-many, misfit, fitting}

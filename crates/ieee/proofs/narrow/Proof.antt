@@ -2,8 +2,8 @@
 use borrow.Author.Needs.{needs}
 use native.Mathlib.Omega.{arith}
 use lib.Ieee.{binary32}
-use Rattle.ieee.specs.Order.{of-true}
-use Rattle.ieee.specs.Keys.{real-bits}
+use Rattle.ieee.proofs.Order.{of-true}
+use Rattle.ieee.proofs.Keys.{real-bits}
 use Rattle.ieee.proofs.Fields.{size-under, clear-sign, set-sign}
 use Rattle.ieee.proofs.narrow.Statement.{statement}
 use Rattle.ieee.proofs.narrow.Tie as tie

@@ -4,7 +4,7 @@ use borrow.Author.Tests.{lt-ltb, le-ltb}
 use native.Mathlib.Omega.{arith}
 use lib.Ieee.{binary32, toBits}
 use lib.Ieee.Bits.{toBits-lt}
-use Rattle.ieee.specs.Order.{of-true}
+use Rattle.ieee.proofs.Order.{of-true}
 use Rattle.ieee.proofs.total_key.Statement.{statement}
 use Rattle.ieee.proofs.total_key.Tie as tie
 

@@ -5,8 +5,8 @@ use mathlib.Core.Bool.{true}
 use lib.ListN.{length}
 use borrow.Author.Needs.{needs}
 use Rattle.lists.specs.Every.{every}
-use Rattle.lists.specs.Loops.{every-more}
-use Rattle.job.specs.First.{first-at}
+use Rattle.lists.proofs.Loops.{every-more}
+use Rattle.job.proofs.First.{first-at}
 use Rattle.job.specs.Checks.{componentFits, firstBad}
 use Rattle.job.proofs.Parts.{searched-all}
 use Rattle.job.proofs.first_bad.Statement.{statement}

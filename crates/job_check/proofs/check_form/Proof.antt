@@ -1,7 +1,7 @@
 -- `job_check::check_form` meets its contract, return by return: each is a law of proofs/Answers.antt. Assumes nothing.
 use denote.Ref.{now}
 use native.Mathlib.Omega.{arith}
-use Rattle.job.specs.Ready.{sizes-of}
+use Rattle.job.proofs.Ready.{sizes-of}
 use Rattle.job_check.proofs.Answers.{form-sizes, form-shapes, form-palette, form-room, form-passes}
 use borrow.Author.Needs.{needs}
 use Rattle.job_check.proofs.check_form.Statement.{statement}

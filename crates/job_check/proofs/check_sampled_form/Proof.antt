@@ -1,6 +1,6 @@
 -- `job_check::check_sampled_form` meets its contract, return by return: each is a law of proofs/Answers.antt. Assumes nothing.
 use denote.Ref.{now}
-use Rattle.job.specs.Ready.{sizes-of}
+use Rattle.job.proofs.Ready.{sizes-of}
 use Rattle.job_check.proofs.Answers.{sampled-sizes, sampled-many, sampled-shapes, sampled-unpaired, sampled-room, sampled-none, sampled-passes}
 use borrow.Author.Needs.{needs}
 use Rattle.job_check.proofs.check_sampled_form.Statement.{statement}

@@ -1,5 +1,5 @@
 -- `job_limits::check_sizes` meets its contract, return by return. Assumes nothing.
-use Rattle.job.specs.Passing.{refuses, passes, none}
+use Rattle.job.proofs.Passing.{refuses, passes, none}
 use borrow.Author.Needs.{needs}
 use Rattle.job_limits.proofs.check_sizes.Statement.{statement}
 use Rattle.job_limits.proofs.check_sizes.Tie as tie

@@ -1,7 +1,7 @@
 -- `job_rules::check_near` meets its contract, return by return. Assumes nothing.
 use mathlib.Core.Path.{sym, _∙_}
 use borrow.Author.Tests.{eq-eqb, ne-eqb}
-use Rattle.job.specs.Passing.{fails, skips, none}
+use Rattle.job.proofs.Passing.{fails, skips, none}
 use borrow.Author.Needs.{needs}
 use Rattle.job_rules.proofs.check_near.Statement.{statement}
 use Rattle.job_rules.proofs.check_near.Tie as tie

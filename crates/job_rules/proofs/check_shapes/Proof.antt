@@ -1,6 +1,6 @@
 -- `job_rules::check_shapes` meets its contract, return by return. Assumes nothing.
 use borrow.Author.Tests.{eq-eqb, ne-eqb}
-use Rattle.job.specs.Passing.{fails, skips, none}
+use Rattle.job.proofs.Passing.{fails, skips, none}
 use borrow.Author.Needs.{needs}
 use Rattle.job_rules.proofs.check_shapes.Statement.{statement}
 use Rattle.job_rules.proofs.check_shapes.Tie as tie

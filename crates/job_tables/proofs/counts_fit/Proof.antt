@@ -5,9 +5,9 @@ use mathlib.Core.Bool.{true}
 use native.Mathlib.Omega.{arith}
 use borrow.Author.Needs.{needs}
 use Rattle.lists.specs.Every.{every}
-use Rattle.lists.specs.Loops.{every-end}
+use Rattle.lists.proofs.Loops.{every-end}
 use Rattle.job.specs.Checks.{tileCountsFit, countsFit}
-use Rattle.job.specs.Ready.{tile-inside}
+use Rattle.job.proofs.Ready.{tile-inside}
 use Rattle.job_tables.proofs.Walks.{all-counted-fails, all-counted-more}
 use Rattle.job_tables.proofs.counts_fit.Statement.{statement}
 use Rattle.job_tables.proofs.counts_fit.Tie as tie

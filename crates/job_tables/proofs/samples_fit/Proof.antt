@@ -5,7 +5,7 @@ use mathlib.Core.Path.{_≡_, refl}
 use mathlib.Core.Bool.{true}
 use Rattle.job.specs.Checks.{sampleFits, samplesFit}
 use Rattle.lists.specs.Every.{every}
-use Rattle.lists.specs.Loops.{every-end}
+use Rattle.lists.proofs.Loops.{every-end}
 use borrow.Author.Needs.{needs}
 use Rattle.job_tables.proofs.samples_fit.Statement.{statement}
 use Rattle.job_tables.proofs.samples_fit.Tie as tie

@@ -1,6 +1,6 @@
 -- `mse::mean` meets its contract: the count is exact in f64, and the quotient is no NaN. Assumes nothing.
 use lib.Ieee.{binary64}
-use Rattle.ieee.specs.Goods.{count-exact}
+use Rattle.ieee.proofs.Goods.{count-exact}
 use Rattle.mse.proofs.Sums.{mean-none, mean-some}
 use Rattle.mse.proofs.mean.Statement.{statement}
 use Rattle.mse.proofs.mean.Tie as tie

@@ -7,10 +7,11 @@ use mathlib.Core.Logic.{⊎-elim}
 use native.Mathlib.Omega.{arith}
 use borrow.Author.Needs.{needs}
 use lib.Dec.{ltb}
-use Rattle.ieee.specs.Ranks.{over, half-asked, half-not, over-by-first, over-by-second, over-by-none}
+use Rattle.ieee.specs.Terms.{over}
+use Rattle.ieee.proofs.Ranks.{half-asked, half-not, over-by-first, over-by-second, over-by-none}
 use lib.Ieee.{binary32}
-use Rattle.ieee.specs.Goods.{count-exact}
-use Rattle.choice.specs.Leading.{Leading, lead-skips}
+use Rattle.ieee.proofs.Goods.{count-exact}
+use Rattle.choice.proofs.Leading.{Leading, lead-skips}
 use Rattle.palette.specs.Palette.{paletteWith, tileWith, totalOf, distAt}
 use Rattle.palette.proofs.Steps.{total-step, walk-asks}
 use Rattle.palette.proofs.Turns.{part-asks, turn-asks, turn-start, turn-left, turn-reached, turn-end}

@@ -4,7 +4,7 @@ use Prim.Native.Nat.{_*_, _≤_, _-_}
 use native.Mathlib.Omega.{arith}
 use borrow.Author.Needs.{needs}
 use lib.Ieee.{ofBits, div}
-use Rattle.choice.specs.Lesser.{Lanes, lanes-start, lanes-end}
+use Rattle.choice.proofs.Lesser.{Lanes, lanes-start, lanes-end}
 use Rattle.palette.specs.Palette.{gap}
 use Rattle.palette.proofs.Steps.{fours-step, least-end}
 use Rattle.palette.proofs.least_by_fours.Statement.{statement}

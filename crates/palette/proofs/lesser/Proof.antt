@@ -1,6 +1,6 @@
 -- `palette::lesser` meets its contract, branch by branch. Assumes nothing.
 use borrow.Author.Needs.{needs}
-use Rattle.choice.specs.Lesser.{lesser-taken, lesser-left}
+use Rattle.choice.proofs.Lesser.{lesser-taken, lesser-left}
 use Rattle.palette.proofs.lesser.Statement.{statement}
 use Rattle.palette.proofs.lesser.Tie as tie
 

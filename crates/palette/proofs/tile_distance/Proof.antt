@@ -4,7 +4,7 @@ use mathlib.Core.Path.{_≡_, refl, ap, _∙_}
 use native.Mathlib.Omega.{arith}
 use borrow.Author.Needs.{needs}
 use lib.Ieee.{binary32}
-use Rattle.ieee.specs.Goods.{count-exact}
+use Rattle.ieee.proofs.Goods.{count-exact}
 use Rattle.palette.specs.Palette.{tileWith, totalOf}
 use Rattle.palette.proofs.Steps.{total-step, walk-asks}
 use Rattle.palette.proofs.tile_distance.Statement.{statement}

@@ -1,5 +1,5 @@
 -- `palette_edit::nudged` meets its contract, component by component. Assumes nothing.
-use Rattle.color.specs.Puts.{colour-eq}
+use Rattle.color.proofs.Puts.{colour-eq}
 use borrow.Author.Needs.{needs}
 use Rattle.palette_edit.proofs.nudged.Statement.{statement}
 use Rattle.palette_edit.proofs.nudged.Tie as tie

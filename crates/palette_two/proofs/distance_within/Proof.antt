@@ -7,7 +7,7 @@ use native.Mathlib.Omega.{arith}
 use borrow.Author.Needs.{needs}
 use lib.Dec.{T}
 use lib.Ieee.{binary32, lt}
-use Rattle.ieee.specs.Goods.{count-exact}
+use Rattle.ieee.proofs.Goods.{count-exact}
 use Rattle.palette.specs.Palette.{tileWith, totalOf}
 use Rattle.palette.proofs.Steps.{total-step, walk-asks}
 use Rattle.palette_two.proofs.Walks.{none-over, over-already, not-over}

@@ -1,6 +1,6 @@
 -- `palette_two::weigh` meets its contract: each branch is a case of `ahead`. Assumes nothing.
 use mathlib.Core.Logic.{⊎-elim}
-use Rattle.ieee.specs.Ranks.{half-asked, half-not}
+use Rattle.ieee.proofs.Ranks.{half-asked, half-not}
 use Rattle.palette_two.proofs.Walks.{weighed-first, weighed-second, ahead-less, ahead-tie, ahead-none}
 use Rattle.palette_two.proofs.weigh.Statement.{statement}
 use Rattle.palette_two.proofs.weigh.Tie as tie

@@ -1,7 +1,7 @@
 -- `component` meets its contract: a small pattern is no NaN's. Assumes nothing.
 use mathlib.Core.Path.{refl}
 use native.Mathlib.Omega.{arith}
-use Rattle.pattern.specs.Patterns.{small-is, small-back, small-no-nan}
+use Rattle.pattern.proofs.Patterns.{small-is, small-back, small-no-nan}
 use Rattle.pattern.proofs.component.Statement.{statement}
 use Rattle.pattern.proofs.component.Tie as tie
 

@@ -1,7 +1,7 @@
 -- `weight` meets its contract: a weight's pattern is no NaN's. Assumes nothing.
 use mathlib.Core.Path.{refl}
 use native.Mathlib.Omega.{arith}
-use Rattle.pattern.specs.Patterns.{weighs-is, weighs-back, weighs-no-nan}
+use Rattle.pattern.proofs.Patterns.{weighs-is, weighs-back, weighs-no-nan}
 use Rattle.pattern.proofs.weight.Statement.{statement}
 use Rattle.pattern.proofs.weight.Tie as tie
 

@@ -1,6 +1,6 @@
 -- `quantizer_matches::add_match` meets its contract: a count is exact as an f32. Assumes nothing.
 use lib.Ieee.{binary32}
-use Rattle.ieee.specs.Goods.{count-exact}
+use Rattle.ieee.proofs.Goods.{count-exact}
 use borrow.Author.Needs.{needs}
 use Rattle.quantizer_matches.proofs.add_match.Statement.{statement}
 use Rattle.quantizer_matches.proofs.add_match.Tie as tie

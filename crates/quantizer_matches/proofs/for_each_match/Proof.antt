@@ -3,7 +3,7 @@ use Prim.Native.Nat.{_≤_, _-_}
 use mathlib.Core.Path.{_≡_, ap, _∙_}
 use native.Mathlib.Omega.{arith}
 use lib.Ieee.{binary32}
-use Rattle.ieee.specs.Goods.{count-exact}
+use Rattle.ieee.proofs.Goods.{count-exact}
 use Rattle.palette.specs.Palette.{tileWith}
 use Rattle.quantizer.specs.Growing.{tileNeeds}
 use Rattle.quantizer_matches.proofs.Walks.{needs-start, needs-length, near-place, needs-more}

@@ -1,7 +1,7 @@
 -- `float` meets its contract: a pattern that is not above infinity's is no NaN's. Assumes nothing.
 use borrow.Author.Needs.{needs}
 use lib.Ieee.{binary32}
-use Rattle.ieee.specs.Keys.{real-bits, real-of-bits}
+use Rattle.ieee.proofs.Keys.{real-bits, real-of-bits}
 use Rattle.replay.proofs.float.Statement.{statement}
 use Rattle.replay.proofs.float.Tie as tie
 

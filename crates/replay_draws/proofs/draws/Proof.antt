@@ -4,7 +4,7 @@ use Prim.Native.Nat.{ℕ, _+_, _-_, _≤_, zero-le}
 use native.Mathlib.Omega.{arith}
 use lib.ListN.{length}
 use Rattle.cycle.specs.Cycle.{Cycle, Drawn, drawOne}
-use Rattle.cycle.specs.Follow.{after-made}
+use Rattle.cycle.proofs.Follow.{after-made}
 use borrow.Author.Needs.{needs}
 use Rattle.replay_draws.proofs.draws.Statement.{statement}
 use Rattle.replay_draws.proofs.draws.Tie as tie

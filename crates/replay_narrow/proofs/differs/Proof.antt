@@ -7,9 +7,9 @@ use lib.Dec.{T}
 use lib.Ieee.{Float, binary32, binary64, isNan, toBits}
 use lib.Ieee.Bits.{toBits-lt}
 use borrow.Author.Needs.{needs}
-use Rattle.ieee.specs.Keys.{real-bits, real-of-bits}
+use Rattle.ieee.proofs.Keys.{real-bits, real-of-bits}
 use Rattle.ieee.specs.Narrow.{narrowOf}
-use Rattle.ieee.specs.Narrows.{narrow-real, narrow-fits}
+use Rattle.ieee.proofs.Narrows.{narrow-real, narrow-fits}
 use Rattle.replay_narrow.proofs.differs.Statement.{statement}
 use Rattle.replay_narrow.proofs.differs.Tie as tie
 

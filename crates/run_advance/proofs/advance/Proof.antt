@@ -4,7 +4,7 @@ use mathlib.Core.Path.{refl}
 use denote.Ref.{now}
 use Rattle.job.specs.Job.{job, tileSize}
 use Rattle.quantizer.specs.Course.{course}
-use Rattle.calls.specs.Accepted.{few-pixels}
+use Rattle.calls.proofs.Accepted.{few-pixels}
 use Rattle.run_advance.proofs.Answered.{refused, work-asks, advanced}
 use borrow.Author.Needs.{needs}
 use Rattle.run_advance.proofs.advance.Statement.{statement}

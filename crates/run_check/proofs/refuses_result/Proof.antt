@@ -2,7 +2,7 @@
 use native.Mathlib.Omega.{arith}
 use borrow.Author.Tests.{eq-eqb, ne-eqb}
 use Rattle.stages.specs.Calls.{stateOf, memoryRoom, coloursRoom, resultAnswer}
-use Rattle.job.specs.Passing.{fails, skips, none}
+use Rattle.job.proofs.Passing.{fails, skips, none}
 use Rattle.run_check.proofs.Answers.{run-room, run-stops, run-goes}
 use borrow.Author.Needs.{needs}
 use Rattle.run_check.proofs.refuses_result.Statement.{statement}

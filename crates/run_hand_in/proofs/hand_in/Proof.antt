@@ -1,5 +1,5 @@
 -- `run_hand_in::hand_in` meets its contract, refused or not. Assumes nothing.
-use Rattle.calls.specs.Accepted.{few-pixels}
+use Rattle.calls.proofs.Accepted.{few-pixels}
 use Rattle.run_hand_in.proofs.Laws.{refused, same-room, six, handed, accepted}
 use borrow.Author.Needs.{needs}
 use Rattle.run_hand_in.proofs.hand_in.Statement.{statement}

@@ -1,7 +1,7 @@
 -- `run_made::check_record` meets its contract, return by return. Assumes nothing.
 use mathlib.Core.Path.{sym, _∙_}
 use borrow.Author.Tests.{eq-eqb, ne-eqb, not-false}
-use Rattle.job.specs.Passing.{refuses, passes, fails, skips, none}
+use Rattle.job.proofs.Passing.{refuses, passes, fails, skips, none}
 use borrow.Author.Needs.{needs}
 use Rattle.run_made.proofs.check_record.Statement.{statement}
 use Rattle.run_made.proofs.check_record.Tie as tie

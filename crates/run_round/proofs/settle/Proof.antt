@@ -3,7 +3,7 @@ use mathlib.Core.Path.{sym, _∙_}
 use Rattle.job.specs.Job.{job}
 use Rattle.quantizer.specs.Course.{course}
 use Rattle.stages.specs.State.{stateWith}
-use Rattle.calls.specs.Place.{togo}
+use Rattle.calls.proofs.Place.{togo}
 use Rattle.run_round.proofs.Closes.{Settling, begun, to-close, fewer, again, ended}
 use Rattle.run_round.proofs.settle.Statement.{statement}
 use Rattle.run_round.proofs.settle.Tie as tie

@@ -1,5 +1,5 @@
 -- `run_start::start` meets its contract, refused or not. Assumes nothing.
-use Rattle.calls.specs.Accepted.{few-pixels}
+use Rattle.calls.proofs.Accepted.{few-pixels}
 use Rattle.run_start.proofs.Laws.{refused, can-blank, can-deal, six, beginning, accepted}
 use borrow.Author.Needs.{needs}
 use Rattle.run_start.proofs.start.Statement.{statement}

@@ -1,7 +1,7 @@
 -- `run_state::check_state` meets its contract, return by return. Assumes nothing.
 use mathlib.Core.Path.{sym, _∙_}
 use borrow.Author.Tests.{eq-eqb}
-use Rattle.job.specs.Passing.{skips, refuses, passes, none}
+use Rattle.job.proofs.Passing.{skips, refuses, passes, none}
 use Rattle.run_state.proofs.States.{near-fails, record-stops, record-goes}
 use borrow.Author.Needs.{needs}
 use Rattle.run_state.proofs.check_state.Statement.{statement}

@@ -4,7 +4,7 @@ use mathlib.Core.Path.{_≡_, refl}
 use mathlib.Core.Bool.{true}
 use lib.ListN.{length}
 use Rattle.lists.specs.Every.{every}
-use Rattle.lists.specs.Loops.{every-end}
+use Rattle.lists.proofs.Loops.{every-end}
 use Rattle.stages.specs.Record.{entryFits, orderFits}
 use Rattle.run_state.proofs.States.{order-fails, order-more}
 use borrow.Author.Needs.{needs}

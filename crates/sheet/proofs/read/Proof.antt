@@ -3,7 +3,7 @@ use mathlib.Core.Path.{sym, _∙_}
 use native.Mathlib.Omega.{arith}
 use lib.ListN.{length}
 use Rattle.sheet.specs.Sheets.{room}
-use Rattle.sheet.specs.Accepted.{Accepted, accepted-says}
+use Rattle.sheet.proofs.Accepted.{Accepted, accepted-says}
 use Rattle.sheet.proofs.Outcomes.{Roomy, roomy-says, no-room, refused-out, accepted-out}
 use borrow.Author.Needs.{needs}
 use Rattle.sheet.proofs.read.Statement.{statement}

@@ -3,8 +3,8 @@ use mathlib.Core.Path.{sym, ap, _∙_}
 use native.Mathlib.Omega.{arith}
 use borrow.Author.Tests.{not-true, not-false}
 use Rattle.bits.specs.Bits.{bits}
-use Rattle.bits.specs.Bytes.{length-bits}
-use Rattle.bits.specs.Fields.{field-lt}
+use Rattle.bits.proofs.Bytes.{length-bits}
+use Rattle.bits.proofs.Fields.{field-lt}
 use Rattle.sheet_format.specs.Sheet.{edition1}
 use Rattle.sheet_check.specs.Steps.{headOf}
 use Rattle.sheet_check.proofs.Heads.{opening-short, opening-wrong, edition-short, edition-wrong, sizes-short, weight-wrong, head-read}

@@ -6,12 +6,12 @@ use native.Mathlib.Nat.{sub-zero, add-zero}
 use lib.ListN.{length, length-set}
 use lib.Seq.{sets}
 use Rattle.bits.specs.Bits.{bits}
-use Rattle.bits.specs.Bytes.{length-bits}
-use Rattle.bits.specs.Fields.{field-lt}
+use Rattle.bits.proofs.Bytes.{length-bits}
+use Rattle.bits.proofs.Fields.{field-lt}
 use Rattle.sheet_format.specs.Sheet.{edition1, colours}
 use Rattle.sheet_format.specs.Lists.{tileCounts, tileFloats}
 use Rattle.sheet_fill.specs.Fill.{Reads, listAt}
-use Rattle.sheet_fill.specs.Colours.{Filling, filling-now, filling-again, filling-end}
+use Rattle.sheet_fill.proofs.Colours.{Filling, filling-now, filling-again, filling-end}
 use Rattle.sheet_fill.proofs.fill_colours.Statement.{statement}
 use Rattle.sheet_fill.proofs.fill_colours.Tie as tie
 

@@ -12,7 +12,7 @@ use Rattle.pattern.specs.Pattern.{small}
 use Rattle.sheet_format.specs.Sheet.{component}
 use Rattle.sheet_format.specs.Lists.{floats}
 use Rattle.sheet_fill.specs.Fill.{Reads, listAt}
-use Rattle.sheet_fill.specs.Components.{fill-now, fill-again, fill-end}
+use Rattle.sheet_fill.proofs.Components.{fill-now, fill-again, fill-end}
 use Rattle.sheet_fill.proofs.fill_components.Statement.{statement}
 use Rattle.sheet_fill.proofs.fill_components.Tie as tie
 

@@ -6,7 +6,7 @@ use lib.ListN.{length, getD, drop}
 use lib.Seq.{sets}
 use lib.Ieee.{nan}
 use Rattle.bits.specs.Bits.{bits}
-use Rattle.ieee.specs.Bounds.{within-real}
+use Rattle.ieee.proofs.Bounds.{within-real}
 use Rattle.sheet_format.specs.Lists.{patterns}
 use Rattle.sheet_pack.specs.Packed.{words}
 use Rattle.sheet_pack.proofs.Writes.{words-again, words-end}

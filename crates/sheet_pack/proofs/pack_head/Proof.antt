@@ -1,6 +1,6 @@
 -- `pack_head` meets its contract: six fields, one after another. Assumes nothing.
 use native.Mathlib.Omega.{arith}
-use Rattle.bits.specs.Bytes.{length-bits}
+use Rattle.bits.proofs.Bytes.{length-bits}
 use Rattle.sheet_pack.proofs.Writes.{head-done}
 use borrow.Author.Needs.{needs}
 use Rattle.sheet_pack.proofs.pack_head.Statement.{statement}

@@ -2,8 +2,8 @@
 use Prim.Native.Nat.{ℕ, _-_, _*_}
 use mathlib.Core.Path.{ap}
 use native.Mathlib.Omega.{arith}
-use Rattle.bits.specs.Bytes.{length-bits}
-use Rattle.ieee.specs.Bounds.{within-real}
+use Rattle.bits.proofs.Bytes.{length-bits}
+use Rattle.ieee.proofs.Bounds.{within-real}
 use Rattle.job.specs.Job.{job, tileSize}
 use Rattle.sheet_pack.proofs.Whole.{sheet-done}
 use borrow.Author.Needs.{needs}

@@ -2,7 +2,7 @@
 use mathlib.Core.Path.{refl}
 use native.Mathlib.Omega.{arith}
 use lib.ListN.{length}
-use Rattle.bits.specs.Bytes.{length-bits}
+use Rattle.bits.proofs.Bytes.{length-bits}
 use Rattle.sheet_pack.proofs.Writes.{tile-done}
 use borrow.Author.Needs.{needs}
 use Rattle.sheet_pack.proofs.pack_tile.Statement.{statement}

@@ -5,8 +5,8 @@ use mathlib.Core.Bool.{true, false}
 use native.Mathlib.Omega.{arith}
 use lib.ListN.{length}
 use Rattle.bits.specs.Bits.{bits}
-use Rattle.bits.specs.Fields.{field-lt}
-use Rattle.bits.specs.Bytes.{length-bits}
+use Rattle.bits.proofs.Fields.{field-lt}
+use Rattle.bits.proofs.Bytes.{length-bits}
 use Rattle.sheet_spare.proofs.Spare.{spare-some, spare-bytes}
 use borrow.Author.Needs.{needs}
 use Rattle.sheet_spare.proofs.only_spare.Statement.{statement}

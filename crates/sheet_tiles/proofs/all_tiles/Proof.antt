@@ -6,9 +6,9 @@ use lib.ListN.{length}
 use native.Mathlib.Nat.{sub-zero}
 use Rattle.format.specs.Format.{times}
 use Rattle.bits.specs.Bits.{bits}
-use Rattle.bits.specs.Bytes.{length-bits}
+use Rattle.bits.proofs.Bytes.{length-bits}
 use Rattle.sheet_format.specs.Sheet.{tile, edition1}
-use Rattle.sheet_format.specs.Exact.{tile-lawful}
+use Rattle.sheet_format.proofs.Exact.{tile-lawful}
 use Rattle.sheet_tiles.specs.Steps.{stepAt}
 use Rattle.sheet_tiles.proofs.Turns.{turn-end, turn-fault, turn-got, step-fault, step-at}
 use Rattle.sheet_tiles.proofs.all_tiles.Statement.{statement}

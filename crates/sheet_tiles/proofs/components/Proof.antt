@@ -8,7 +8,7 @@ use native.Mathlib.Nat.{sub-zero}
 use Rattle.format.specs.Format.{times}
 use Rattle.sheet_format.specs.Sheet.{component}
 use Rattle.sheet_tiles.specs.Steps.{stepAt}
-use Rattle.sheet_tiles.specs.Entries.{component-short, component-read}
+use Rattle.sheet_tiles.proofs.Entries.{component-short, component-read}
 use Rattle.sheet_tiles.proofs.Turns.{turn-end, turn-fault, turn-got}
 use Rattle.sheet_tiles.proofs.components.Statement.{statement}
 use Rattle.sheet_tiles.proofs.components.Tie as tie

@@ -5,11 +5,11 @@ use native.Mathlib.Omega.{arith}
 use mathlib.Core.List.{List}
 use lib.ListN.{length, drop}
 use Rattle.bits.specs.Bits.{bits}
-use Rattle.bits.specs.Bytes.{length-bits}
+use Rattle.bits.proofs.Bytes.{length-bits}
 use Rattle.format.specs.Format.{times, got}
 use Rattle.sheet_format.specs.Sheet.{component, edition1}
-use Rattle.format.specs.Lawful.{times-lawful}
-use Rattle.sheet_format.specs.Exact.{component-lawful}
+use Rattle.format.proofs.Lawful.{times-lawful}
+use Rattle.sheet_format.proofs.Exact.{component-lawful}
 use Rattle.sheet_tiles.proofs.Turns.{step-fault, step-at}
 use Rattle.sheet_tiles.proofs.Rest.{rest-fault, rest-got}
 use borrow.Author.Needs.{needs}

@@ -6,14 +6,14 @@ use lib.ListN.{length}
 use native.Mathlib.Nat.{sub-zero}
 use Rattle.format.specs.Format.{times}
 use Rattle.bits.specs.Bits.{bits}
-use Rattle.bits.specs.Fields.{field-lt}
-use Rattle.bits.specs.Bytes.{length-bits}
+use Rattle.bits.proofs.Fields.{field-lt}
+use Rattle.bits.proofs.Bytes.{length-bits}
 use Rattle.sheet_format.specs.Sheet.{component, colours, edition1}
-use Rattle.format.specs.Lawful.{times-lawful}
-use Rattle.sheet_format.specs.Exact.{component-lawful}
+use Rattle.format.proofs.Lawful.{times-lawful}
+use Rattle.sheet_format.proofs.Exact.{component-lawful}
 use Rattle.sheet_tiles.specs.Steps.{stepAt}
 use Rattle.sheet_tiles.proofs.Turns.{colours-end, colours-fault, colours-got, step-fault, step-at}
-use Rattle.sheet_tiles.specs.Entries.{entry-short, entry-big, entry-read}
+use Rattle.sheet_tiles.proofs.Entries.{entry-short, entry-big, entry-read}
 use Rattle.sheet_tiles.proofs.tile_colours.Statement.{statement}
 use Rattle.sheet_tiles.proofs.tile_colours.Tie as tie
 

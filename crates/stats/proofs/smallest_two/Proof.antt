@@ -5,7 +5,7 @@ use native.Mathlib.Omega.{arith}
 use borrow.Author.Needs.{needs}
 use lib.Ieee.{ofBits, div}
 use Rattle.stats.specs.Stats.{valueAt, leastTwo}
-use Rattle.stats.specs.Steps.{two-more}
+use Rattle.stats.proofs.Steps.{two-more}
 use Rattle.stats.proofs.smallest_two.Statement.{statement}
 use Rattle.stats.proofs.smallest_two.Tie as tie
 

@@ -1,6 +1,6 @@
 -- `stats::step_near` meets its contract, branch by branch. Assumes nothing.
 use borrow.Author.Needs.{needs}
-use Rattle.stats.specs.Steps.{near-taken, near-left}
+use Rattle.stats.proofs.Steps.{near-taken, near-left}
 use Rattle.stats.proofs.step_near.Statement.{statement}
 use Rattle.stats.proofs.step_near.Tie as tie
 

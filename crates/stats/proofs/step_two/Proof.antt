@@ -1,6 +1,6 @@
 -- `stats::step_two` meets its contract, branch by branch. Assumes nothing.
 use borrow.Author.Needs.{needs}
-use Rattle.stats.specs.Steps.{two-taken, two-followed, two-left}
+use Rattle.stats.proofs.Steps.{two-taken, two-followed, two-left}
 use Rattle.stats.proofs.step_two.Statement.{statement}
 use Rattle.stats.proofs.step_two.Tie as tie
 

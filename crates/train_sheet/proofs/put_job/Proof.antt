@@ -1,9 +1,9 @@
 -- `put_job` meets its contract, by the number of samples. Assumes nothing.
 use native.Mathlib.Omega.{arith}
-use Rattle.sheet_parts.specs.Parts.{front-long}
+use Rattle.sheet_parts.proofs.Parts.{front-long}
 use Rattle.train_sheet.proofs.Rules.{countable}
 use Rattle.train_sheet.proofs.Texts.{none-text, many-text, some-text, sheeted}
-use Rattle.fit_tiles.specs.Lengths.{refused-most}
+use Rattle.fit_tiles.proofs.Lengths.{refused-most}
 use borrow.Author.Needs.{needs}
 use Rattle.train_sheet.proofs.put_job.Statement.{statement}
 use Rattle.train_sheet.proofs.put_job.Tie as tie

@@ -2,7 +2,7 @@
 use Prim.Native.Nat.{_*_}
 use mathlib.Core.Path.{refl}
 use native.Mathlib.Omega.{arith}
-use Rattle.sheet_parts.specs.Parts.{front-long}
+use Rattle.sheet_parts.proofs.Parts.{front-long}
 use Rattle.train_sheet.proofs.Rooms.{few-samples, few-tiles, few-numbers, trainable, from-no-hints}
 use borrow.Author.Needs.{needs}
 use Rattle.train_sheet.proofs.train_palette.Statement.{statement}

@@ -2,7 +2,7 @@
 use Prim.Native.Nat.{ℕ, _+_, _*_}
 use mathlib.Core.Path.{ap₂}
 use native.Mathlib.Omega.{arith}
-use Rattle.sheet_parts.specs.Parts.{few-colours, tiles-long, colours-long, counts-long, palette-long, front-long}
+use Rattle.sheet_parts.proofs.Parts.{few-colours, tiles-long, colours-long, counts-long, palette-long, front-long}
 use Rattle.train_text.proofs.Lists.{parts-writable, parts-written}
 use borrow.Author.Needs.{needs}
 use Rattle.train_text.proofs.put_sheet.Statement.{statement}

@@ -4,7 +4,7 @@ use Prim.Native.Nat.{ℕ}
 use native.Mathlib.Omega.{arith}
 use Rattle.prng.specs.Shuffle.{deck}
 use Rattle.cycle.specs.Cycle.{cycle, ready}
-use Rattle.cycle.specs.Ready.{ready-first, ready-within, ready-again}
+use Rattle.cycle.proofs.Ready.{ready-first, ready-within, ready-again}
 use borrow.Author.Needs.{needs}
 use Rattle.cycle.proofs.SampleCycle.reshuffle.Statement.{statement}
 use Rattle.cycle.proofs.SampleCycle.reshuffle.Tie as tie

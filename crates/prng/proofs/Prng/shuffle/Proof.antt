@@ -7,10 +7,10 @@ use native.Mathlib.Omega.{arith}
 use lib.ListN.{length}
 use borrow.Author.Needs.{needs}
 use Rattle.lists.specs.Count.{swapped}
-use Rattle.lists.specs.Counting.{length-swapped}
+use Rattle.lists.proofs.Counting.{length-swapped}
 use Rattle.prng.specs.SplitMix.{nextState}
 use Rattle.prng.specs.Shuffle.{deck, turn, turns, shuffleOf}
-use Rattle.prng.specs.Shuffled.{turns-front}
+use Rattle.prng.proofs.Shuffled.{turns-front}
 use Rattle.prng.proofs.Prng.shuffle.Statement.{statement}
 use Rattle.prng.proofs.Prng.shuffle.Tie as tie
 

@@ -1,0 +1,14 @@
+-- Only one outcome meets the contract of `assign`. Assumes nothing.
+use Prim.Native.Nat.{ℕ}
+use mathlib.Core.Path.{_≡_, sym, ap, _∙_}
+use mathlib.Core.List.{List}
+use lib.Ieee.{Float}
+use Rattle.job.specs.Job.{Job}
+use Rattle.assign_tiles.specs.Tiles.{Held, held}
+use Rattle.assign.specs.Assign.{Outcome, outcome, assignDef}
+
+pub only-one : (size : ℕ) (J : Job) (palette : List Float) (h : Held) (r s : ℕ) (a b c d : List ℕ)
+    → outcome r (held a c) ≡ assignDef size J palette h → outcome s (held b d) ≡ assignDef size J palette h → (r ≡ s) × (a ≡ b) × (c ≡ d)
+only-one size J palette h r s a b c d x y =
+    let same : outcome r (held a c) ≡ outcome s (held b d) = x ∙ sym y in
+    (ap (λ (z : Outcome). z .number) same, ap (λ (z : Outcome). z .after .hints) same, ap (λ (z : Outcome). z .after .out) same)

@@ -1,0 +1,17 @@
+pub mod Limits
+pub mod Split
+pub mod Whilsts
+pub mod Presence
+pub mod Follow
+pub mod Next
+pub mod Rules
+pub mod Words
+pub mod Made
+pub mod Cases
+pub mod Answers
+pub mod Settling
+pub mod Place
+pub mod Sound
+pub mod HandIns
+pub mod Fit
+pub mod Accepted

@@ -1,0 +1,77 @@
+-- At a place of a run some subpalettes and colours are present, and no more than there are; and places not in use keep theirs through a draw.
+-- Assumes nothing.
+use Prim.Native.Nat.{ℕ, _+_, _*_, _-_, _≤_, _<_}
+use mathlib.Core.Path.{_≡_}
+use mathlib.Core.Logic.{_⊎_}
+use native.Mathlib.Nat.{le-refl}
+use native.Mathlib.Omega.{arith}
+use lib.ListN.{length}
+use lib.Dec.{eqb}
+use borrow.Author.Tests.{eqb-true}
+use Rattle.color.specs.Color.{colourAt, Bounded}
+use Rattle.job.specs.Gives.{Ready}
+use Rattle.palette_edit.specs.Edits.{placeOf}
+use Rattle.palette_tile.specs.Tiles.{Shown}
+use Rattle.quantizer.specs.Course.{Course}
+use Rattle.quantizer.proofs.Unused.{moved-unused}
+use Rattle.stages.specs.State.{State}
+use Rattle.stages.specs.Stages.{subsOf, haveOf, draw, drawWith}
+use Rattle.calls.proofs.Cases.{by-test, both, all-stages}
+use Rattle.calls.specs.Place.{seeding, growing, replacing, reducing, finishing, over, Placed}
+
+module _ (K : Course) (S1 : 1 ≤ K .job .S) (C1 : 1 ≤ K .job .C) (s : State) where
+  pub some-subs : 1 ≤ subsOf K s
+  unfolding subsOf
+  some-subs = both (λ (x : ℕ). 1 ≤ x) (eqb (s .stage) 0) (omega arith) S1
+
+  pub some-colours : 1 ≤ haveOf K s
+  unfolding haveOf
+  some-colours = all-stages (λ (x : ℕ). 1 ≤ x) (s .stage) (omega arith) (omega arith) C1 C1 C1
+
+  pub seeding-rounds : Placed K s → s .stage ≡ 0 → s .rounds + 2 ≤ K .job .S
+  seeding-rounds (seeding k r l e) h = omega arith
+  seeding-rounds (growing k r l e) h = absurd (omega arith)
+  seeding-rounds (replacing k r l e) h = absurd (omega arith)
+  seeding-rounds (reducing k r l e) h = absurd (omega arith)
+  seeding-rounds (finishing k r l e) h = absurd (omega arith)
+  seeding-rounds (over k past r l e) h = absurd (omega arith)
+
+  pub growing-rounds : Placed K s → s .stage ≡ 1 → s .rounds + 2 ≤ K .job .C
+  growing-rounds (seeding k r l e) h = absurd (omega arith)
+  growing-rounds (growing k r l e) h = omega arith
+  growing-rounds (replacing k r l e) h = absurd (omega arith)
+  growing-rounds (reducing k r l e) h = absurd (omega arith)
+  growing-rounds (finishing k r l e) h = absurd (omega arith)
+  growing-rounds (over k past r l e) h = absurd (omega arith)
+
+  pub few-subs : Placed K s → subsOf K s ≤ K .job .S
+  unfolding subsOf
+  few-subs p = by-test (λ (x : ℕ). x ≤ K .job .S) (eqb (s .stage) 0) (λ t. seeding-rounds p (eqb-true (s .stage) 0 t)) (λ _. le-refl (K .job .S))
+
+  pub few-colours : Placed K s → haveOf K s ≤ K .job .C
+  unfolding haveOf
+  few-colours p =
+      both (λ (x : ℕ). x ≤ K .job .C) (eqb (s .stage) 0) C1
+      (by-test (λ (x : ℕ). x ≤ K .job .C) (eqb (s .stage) 1) (λ t. growing-rounds p (eqb-true (s .stage) 1 t))
+      (λ _. both (λ (x : ℕ). x ≤ K .job .C) (eqb (s .stage) 2) (le-refl (K .job .C)) (both (λ (x : ℕ). x ≤ K .job .C) (eqb (s .stage) 4) (le-refl (K .job .C)) (le-refl (K .job .C)))))
+
+-- what a draw asks of the palette
+pub draw-shown : (size : ℕ) → size ≤ 256 → (K : Course) → Ready size (K .job) → (s : State) → Placed K s → length (s .palette) ≡ 3 * (K .job .S * K .job .C) → Bounded (s .palette) 4
+    → Shown (K .job) (s .palette) (subsOf K s) (haveOf K s)
+draw-shown size small K R s p L B =
+    record {
+      size = size;
+      small = small;
+      ready = R;
+      subs = some-subs K (R .sizes .subs) (R .sizes .some) s;
+      most = few-subs K (R .sizes .subs) (R .sizes .some) s p;
+      some = some-colours K (R .sizes .subs) (R .sizes .some) s;
+      present = few-colours K (R .sizes .subs) (R .sizes .some) s p;
+      room = L;
+      near = B;
+    }
+
+pub draw-unused : (K : Course) (s : State) → Shown (K .job) (s .palette) (subsOf K s) (haveOf K s) → (i c : ℕ) → c < K .job .C → (subsOf K s ≤ i) ⊎ (haveOf K s ≤ c)
+    → colourAt (draw K s .palette) (placeOf (K .job .C) i c) ≡ colourAt (s .palette) (placeOf (K .job .C) i c)
+unfolding draw drawWith
+draw-unused K s H i c h u = moved-unused (K .job) (s .palette) (subsOf K s) (haveOf K s) H _ _ _ i c h u

@@ -1,0 +1,90 @@
+-- Laws of what specs/Examples defines. Assumes nothing.
+use Prim.Native.Nat.{ℕ, _+_, _*_, _/_, _≤_, _<_}
+use mathlib.Core.Path.{_≡_, refl, ap, subst⁻¹, _∙_}
+use mathlib.Core.List.{List, [], _∷_}
+use lib.ListN.{length, getD}
+use lib.Dec.{lit≤, lit<}
+use lib.Ieee.{ofBits, neg, le, lt, eq}
+use Rattle.lists.specs.Every.{every, sum}
+use Rattle.lists.specs.Count.{count}
+use Rattle.lists.specs.Firsts.{firsts, hits}
+use Rattle.lists.proofs.Hits.{length-firsts}
+use Rattle.prng.proofs.Shuffled.{shuffle-one}
+use Rattle.cycle.specs.Cycle.{drawAt}
+use Rattle.cycle.proofs.Examples.{tenths, twenty-of-ten, forty-four-of-twenty-five}
+use Rattle.stats.proofs.Examples.{argmax-of-1-3-3, argmin-of-2-1-1, smallest-two-of-2-1-1, smallest-two-of-5}
+use Rattle.stats.specs.declared.Near.{Near}
+use Rattle.job.specs.Job.{job}
+use Rattle.job.specs.Rules.{answer}
+use Rattle.job.specs.Checks.{among, within, weightFits, tileTest, tileFits, tilesFit, countTest, countFits, partFits, tileCountsFit, countsFit, firstNot, componentFits, firstBad, plainAnswer}
+use Rattle.palette.proofs.Example.{middle-first}
+use Rattle.palette_edit.proofs.Example.{half-way}
+use Rattle.palette_tile.specs.Tiles.{fitAt}
+use Rattle.assign_tiles.specs.Tiles.{Held, held}
+use Rattle.assign.specs.Assign.{roomFor, assignAnswer, assignDef}
+use Rattle.quantizer.specs.Course.{Course}
+use Rattle.stages.specs.Calls.{Memory}
+use Rattle.stages.specs.History.{Run}
+use Rattle.calls.proofs.Follow.{run-samples, run-end}
+use Rattle.demands.proofs.Second.{assign-chooses}
+use Rattle.demands.specs.Examples.{Each-twice, Examples, Most-twice, Past, half, sheetJob, sheetPalette}
+
+-- ---- the runs
+-- the draws of a run past its last, by the cycle
+all-draws : (size : ℕ) → size ≤ 256 → (K : Course) (seed s c n : ℕ) {m : Memory} {ds : List ℕ} → Run size K seed m ds → Past s c n K m → ds ≡ firsts (drawAt n seed) ((s + c + 18) * (n / 10))
+all-draws size small K seed s c n r P =
+    run-samples size K seed r
+    ∙ ap (firsts (drawAt (K .n) seed)) (run-end size small K seed r (P .stage))
+    ∙ ap (λ (k : ℕ). firsts (drawAt (K .n) seed) ((k + K .job .C + 18) * (K .n / 10))) (P .subs)
+    ∙ ap (λ (k : ℕ). firsts (drawAt (K .n) seed) ((s + k + 18) * (K .n / 10))) (P .colours)
+    ∙ ap (λ (k : ℕ). firsts (drawAt k seed) ((s + c + 18) * (k / 10))) (P .samples)
+
+module _ (size : ℕ) (small : size ≤ 256) (K : Course) (seed : ℕ) {m : Memory} {ds : List ℕ} (r : Run size K seed m ds) where
+  run-of-20 : Past 1 1 10 K m → Each-twice ds
+  run-of-20 P =
+      let e = all-draws size small K seed 1 1 10 r P in
+      (ap length e ∙ length-firsts (drawAt 10 seed) 20, λ i h. ap (count i) e ∙ twenty-of-ten seed i h)
+
+  run-of-44 : Past 2 2 25 K m → Most-twice ds
+  run-of-44 P =
+      let e = all-draws size small K seed 2 2 25 r P in
+      let x = forty-four-of-twenty-five seed in (
+        ap length e ∙ length-firsts (drawAt 25 seed) 44,
+        subst⁻¹ (λ (xs : List ℕ). hits (λ i. count i xs) 2 25 ≡ 19) e (x .0),
+        subst⁻¹ (λ (xs : List ℕ). hits (λ i. count i xs) 1 25 ≡ 6) e (x .1),
+      )
+
+-- ---- the sheet
+middle : fitAt sheetJob sheetPalette 2 1 2 ≡ record { index = 0; dist = half }
+unfolding fitAt
+middle = middle-first
+
+module _ (a c hint d w x y z : ℕ) where
+  abbrev lent : Held
+  lent = held (a ∷ c ∷ hint ∷ d ∷ []) (w ∷ x ∷ y ∷ z ∷ [])
+
+  accepted : assignAnswer 64 sheetJob sheetPalette lent ≡ 0
+  unfolding assignAnswer plainAnswer answer roomFor among weightFits tilesFit tileFits tileTest countsFit tileCountsFit partFits countFits countTest firstBad firstNot componentFits within every sum ofBits neg le lt eq
+  accepted = refl
+
+  from-any : getD (assignDef 64 sheetJob sheetPalette lent .after .out) 2 0 ≡ 0
+  from-any = assign-chooses 64 (lit≤ tt) sheetJob sheetPalette lent accepted 2 (lit< tt) refl .1 ∙ ap (λ (b : Near). b .index) middle
+
+pub examples : Examples
+examples =
+    record {
+      tenth-of-9 = tenths .0;
+      tenth-of-10 = tenths .1;
+      tenth-of-19 = tenths .2;
+      tenth-of-20 = tenths .3;
+      draws-20 = run-of-20;
+      draws-44 = run-of-44;
+      argmax-takes-last = argmax-of-1-3-3;
+      argmin-takes-first = argmin-of-2-1-1;
+      two-of-2-1-1 = smallest-two-of-2-1-1;
+      two-of-5 = smallest-two-of-5;
+      tile-2 = middle;
+      tile-2-from = from-any;
+      nudge = half-way;
+      shuffle-of-one = shuffle-one;
+    }

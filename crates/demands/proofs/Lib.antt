@@ -1,0 +1,10 @@
+pub mod First
+pub mod Runners
+pub mod Second
+pub mod Prefixes
+pub mod Faults
+pub mod Calls
+pub mod Examples
+pub mod Ends
+pub mod Sheets
+pub mod Third

@@ -1,0 +1,80 @@
+-- The answer of an exported call taken apart: the remainder by 256 is the number that the call's definition gives, and the quotient its draws. Only one
+-- answer and one memory meet a contract. Assumes nothing.
+use Prim.Native.Nat.{ℕ, _+_, _/_, _%_, _<_}
+use mathlib.Core.Path.{_≡_, refl, sym, ap, _∙_}
+use mathlib.Core.Bool.{Bool, true, _&&_}
+use mathlib.Core.List.{List, [], _∷_, _++_}
+use native.Mathlib.Nat.{add-zero, mod-eq-of-lt, div-eq-of-lt, mul-add-mod-self-right, mul-add-div-right}
+use native.Mathlib.Omega.{arith}
+use lib.Dec.{eqb, ltb}
+use lib.Ieee.{Float}
+use lib.ListN.{length}
+use borrow.Author.Tests.{ltb-true}
+use Rattle.lists.proofs.Tests.{and-l, and-r}
+use Rattle.job.specs.Job.{Job, two}
+use Rattle.job.specs.Rules.{Rule, rule, answer}
+use Rattle.job.specs.Checks.{componentsFit, plainRules, plainAnswer}
+use Rattle.quantizer.specs.Course.{Course}
+use Rattle.stages.specs.State.{draws, stops}
+use Rattle.stages.specs.Calls.{Memory, stateOf, Outcome, answered, Copied, coloursRoom, memoryRoom, jobRules, runRules, startAnswer, advanceAnswer, handInAnswer, resultAnswer, startCall, advanceCall, handInCall, resultCall}
+use Rattle.calls.proofs.Cases.{both}
+use Rattle.assign.specs.Assign as assigning
+use Rattle.dunkafeto.specs.Told.{packed, Told, told, toldRun, toldColours, toldTiles}
+
+-- only one answer and one memory are what a definition tells
+pub only-one : {A : Type 0} (r s : ℕ) (a b : A) (x : Told A) → told r a ≡ x → told s b ≡ x → (r ≡ s) × (a ≡ b)
+only-one {A} r s a b x e f = (ap (λ (z : Told A). z .answer) (e ∙ sym f), ap (λ (z : Told A). z .after) (e ∙ sym f))
+
+-- what a host finds in an answer
+pub record Apart (answer number draws : ℕ) : Type 0 where
+  pub low : answer % 256 ≡ number
+  pub rest : answer / 256 ≡ draws
+
+apart : (number draws : ℕ) → number < 256 → Apart (packed number draws) number draws
+apart number draws h =
+    record {
+      low = mul-add-mod-self-right draws 256 number ∙ mod-eq-of-lt h;
+      rest = mul-add-div-right (omega arith) draws number ∙ ap (λ (k : ℕ). draws + k) (div-eq-of-lt h) ∙ add-zero draws;
+    }
+
+-- ---- the number is that of a rule, and each of these is below 256
+abbrev small : List Rule → Bool
+small [] = true
+small (r ∷ rs) = ltb (r .number) 256 && small rs
+
+answer-small : (rs : List Rule) → small rs ≡ true → answer rs < 256
+unfolding answer
+answer-small [] h = omega arith
+answer-small (r ∷ rs) h =
+    both (λ (x : ℕ). x < 256) (r .passed) (answer-small rs (and-r (ltb (r .number) 256) (small rs) h)) (ltb-true (r .number) 256 (and-l (ltb (r .number) 256) (small rs) h))
+
+run-apart : (x : Outcome) → x .number < 256 → Apart (toldRun x .answer) (x .number) (x .drew)
+unfolding toldRun
+run-apart x h = apart (x .number) (x .drew) h
+
+-- ---- the five calls
+module _ (size : ℕ) (K : Course) (m : Memory) where
+  pub start-apart : (seed : ℕ) → let x = startCall size K m seed in Apart (toldRun x .answer) (x .number) (x .drew)
+  start-apart seed = run-apart (startCall size K m seed) (unfold startCall startAnswer answered in
+      both (λ (x : Outcome). x .number < 256) (eqb (startAnswer size K m) 0) (omega arith) (answer-small (jobRules size K (memoryRoom size K m)) refl))
+
+  pub advance-apart : (a : ℕ) → let x = advanceCall size K m a in Apart (toldRun x .answer) (x .number) (x .drew)
+  advance-apart a = run-apart (advanceCall size K m a) (unfold advanceCall advanceAnswer answered in
+      both (λ (x : Outcome). x .number < 256) (eqb (advanceAnswer size K m) 0) (omega arith) (answer-small (runRules size K m (memoryRoom size K m) (draws (stateOf m .stage))) refl))
+
+  pub hand-in-apart : (reduced : List Float) → let x = handInCall size K m reduced in Apart (toldRun x .answer) (x .number) (x .drew)
+  hand-in-apart reduced = run-apart (handInCall size K m reduced) (unfold handInCall handInAnswer answered in
+      both (λ (x : Outcome). x .number < 256) (eqb (handInAnswer size K m reduced) 0) (omega arith)
+      (answer-small (runRules size K m (memoryRoom size K m && coloursRoom size K reduced) (stops (stateOf m .stage)) ++ (rule 7 (componentsFit two reduced) ∷ [])) refl))
+
+  pub result-apart : (out : List Float) → let x = resultCall size K m out in Apart (toldColours x .answer) (x .number) 0
+  unfolding toldColours
+  result-apart out = apart (resultCall size K m out .number) 0 (unfold resultCall resultAnswer in
+      both (λ (x : Copied). x .number < 256) (eqb (resultAnswer size K m out) 0) (omega arith)
+      (answer-small (runRules size K m (memoryRoom size K m && coloursRoom size K out) (eqb (stateOf m .stage) 7)) refl))
+
+pub assign-apart : (size : ℕ) (J : Job) (palette : List Float) (h : assigning.Held) → let x = assigning.assignDef size J palette h in Apart (toldTiles x .answer) (x .number) 0
+unfolding toldTiles
+assign-apart size J palette h = apart (assigning.assignDef size J palette h .number) 0 (unfold assigning.assignDef assigning.assignAnswer plainAnswer in
+    both (λ (x : assigning.Outcome). x .number < 256) (eqb (assigning.assignAnswer size J palette h) 0) (omega arith)
+    (answer-small (plainRules size J palette (assigning.roomFor (J .T) (length (h .hints)) (length (h .out)))) refl))

@@ -1,0 +1,5 @@
+pub mod Tests
+pub mod Reading
+pub mod Lawful
+pub mod Files
+pub mod Fixed

@@ -1,0 +1,10 @@
+pub mod Owners
+pub mod Indexes
+pub mod Lists
+pub mod Choices
+pub mod Bounds
+pub mod Unused
+pub mod NoNans
+pub mod Goods
+pub mod Lengths
+pub mod Refines

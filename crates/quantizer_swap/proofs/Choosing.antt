@@ -1,0 +1,2 @@
+-- Laws of what specs/Choosing defines. Assumes nothing.
+use Rattle.quantizer_swap.proofs.Choosing.{}

@@ -1,0 +1,135 @@
+-- Reader and writer are exact inverses on what they accept: of sheets as bits, and of the public calls' outcomes. Assumes nothing.
+use mathlib.Core.Path.{_≡_, refl, sym, ap, ap₂, _∙_, subst}
+use Prim.Native.Nat.{ℕ, _+_, _≤_}
+use native.Mathlib.Omega.{arith}
+use mathlib.Core.Bool.{Bool, true, false, cond}
+use mathlib.Core.List.{List}
+use lib.Dec.{T, leb, eqb}
+use lib.Pow.{areBytes}
+use lib.ListN.{length, take, drop}
+use lib.Seq.{sets, sets-eq, take-at}
+use lib.Ieee.{Float, binary32, fits}
+use borrow.Author.Tests.{le-leb, eq-eqb, eqb-true, leb-true}
+use Rattle.format.specs.Format.{Answer, refused, accepted, readOf, encode}
+use Rattle.job.specs.Job.{Job, tileSize}
+use Rattle.job.specs.Checks.{plainAnswer}
+use Rattle.job.proofs.Ready.{plain-ready}
+use Rattle.sheet_format.specs.Sheet.{edition1, Sheet, sheet, readSheet}
+use Rattle.sheet_format.proofs.Exact.{sheet-there, sheet-back}
+use Rattle.sheet_format.specs.Lists.{floats, total}
+use Rattle.sheet_check.specs.Steps.{checkedOf}
+use Rattle.sheet_pack.specs.Packed.{sheetOf}
+use Rattle.sheet.specs.declared.Reading.the-variants as reading
+use Rattle.sheet.specs.declared.Writing.the-variants.{Refused, Bytes}
+use Rattle.sheet.specs.Sheets.{jobOf, Room, room, ReadOutcome, readOutcome, roomy, readInto, readDef, WriteOutcome, writeOutcome, storedIn, writeDef}
+use Rattle.sheet.proofs.Floats.{Singles}
+use Rattle.sheet.proofs.Kept.{job-back, palette-back, sheet-good}
+use Rattle.sheet.proofs.Again.{sheet-again}
+use Rattle.sheet.proofs.Accepted.{within-limit, accepted-says}
+use Rattle.sheet.proofs.Taken.{content-counts, taken}
+
+-- what was stored in the first places stands there
+pub sets-front : {A : Type 0} (v l : List A) → length v ≤ length l → take (length v) (sets l 0 v) ≡ v
+sets-front v l h = ap (take (length v)) (sets-eq v l 0 (omega arith)) ∙ take-at v (drop (0 + length v) l) (length v) refl
+
+-- ---- sheets as bits
+pub read-written : (x : Sheet) → T (sheet edition1 .good x) → length (encode (sheet edition1) x) ≤ 65536 → readSheet edition1 (encode (sheet edition1) x) ≡ accepted x
+read-written x g h =
+    ap (λ (b : Bool). cond b (readOf (sheet edition1) (encode (sheet edition1) x)) (refused 13)) (le-leb (length (encode (sheet edition1) x)) 65536 h) ∙ sheet-there edition1 x g
+
+pub written-read : (b : List ℕ) (x : Sheet) → T (areBytes b) → readSheet edition1 b ≡ accepted x → (encode (sheet edition1) x ≡ b) × T (sheet edition1 .good x)
+written-read b x h e = sheet-back edition1 b x h (within-limit b x e .1)
+
+same-sheet : (x y : Sheet) → _≡_ {A = Answer Sheet} (accepted x) (accepted y) → x ≡ y
+same-sheet x y e = cc
+
+-- an accepted sheet has few colours, and its job passes the checks of every call without samples
+accepted-total : (b : List ℕ) (x : Sheet) → readSheet edition1 b ≡ accepted x → total (x .content) ≤ 5140
+accepted-total b x e =
+    let A = accepted-says b (x .subs) (x .each) (x .tiles) (x .weight) (sym (ap checkedOf e)) in
+    subst (λ (y : Sheet). total (y .content) ≤ 5140) (sym (same-sheet x _ (sym e ∙ A .is))) (A .fit)
+
+pub accepted-few : (b : List ℕ) (x : Sheet) → T (areBytes b) → readSheet edition1 b ≡ accepted x → length (jobOf x .counts) ≤ 5140
+accepted-few b x h e = omega (arith, accepted-total b x e, content-counts x (written-read b x h e .1))
+
+pub accepted-job : (b : List ℕ) (x : Sheet) → T (areBytes b) → readSheet edition1 b ≡ accepted x → plainAnswer tileSize (jobOf x) (floats (x .palette)) true ≡ 0
+accepted-job b x h e = let few = accepted-total b x e in taken x (written-read b x h e .1) (omega arith)
+
+-- ---- written, then read
+module _ (J : Job) (palette : List Float) (old : List ℕ) (n : ℕ) (new : List ℕ) (w : writeOutcome (Bytes n) new ≡ writeDef tileSize J palette old) where
+  abbrev file : List ℕ
+  file = encode (sheet edition1) (sheetOf J palette)
+
+  -- what an answer of n bytes says
+  record Wrote : Type 0 where
+    pub passed : plainAnswer tileSize J palette true ≡ 0
+    pub number : n ≡ length file
+    pub stored : new ≡ sets old 0 file
+    pub small : length file ≤ 65536
+    pub room : length file ≤ length old
+
+  refused-not : (m : ℕ) (l : List ℕ) → _≡_ {A = WriteOutcome} (writeOutcome (Bytes n) new) (writeOutcome (Refused m) l) → ⊥
+  refused-not m l e =
+      let a : Bytes n ≡ Refused m = ap (λ (o : WriteOutcome). o .answer) e in
+      let z : _≡_ {A = ℕ} 0 1 = cc in omega arith
+
+  bytes-is : (m : ℕ) (l : List ℕ) → _≡_ {A = WriteOutcome} (writeOutcome (Bytes n) new) (writeOutcome (Bytes m) l) → (n ≡ m) × (new ≡ l)
+  bytes-is m l e =
+      let a : Bytes n ≡ Bytes m = ap (λ (o : WriteOutcome). o .answer) e in
+      (cc, ap (λ (o : WriteOutcome). o .after) e)
+
+  wrote : Wrote
+  unfolding writeDef storedIn
+  wrote = job (eqb (plainAnswer tileSize J palette true) 0) refl w
+    where
+      fit : (b : Bool) → leb (length file) (length old) ≡ b → plainAnswer tileSize J palette true ≡ 0 → length file ≤ 65536
+          → writeOutcome (Bytes n) new ≡ cond b (writeOutcome (Bytes (length file)) (sets old 0 file)) (writeOutcome (Refused 3) old) → Wrote
+      fit true e p s k =
+          let m = bytes-is (length file) (sets old 0 file) k in
+          record { passed = p; number = m .0; stored = m .1; small = s; room = leb-true (length file) (length old) e }
+      fit false e p s k = absurd (refused-not 3 old k)
+
+      limit : (b : Bool) → leb (length file) 65536 ≡ b → plainAnswer tileSize J palette true ≡ 0
+          → writeOutcome (Bytes n) new ≡ cond b (cond (leb (length file) (length old)) (writeOutcome (Bytes (length file)) (sets old 0 file)) (writeOutcome (Refused 3) old)) (writeOutcome (Refused 13) old) → Wrote
+      limit true e p k = fit (leb (length file) (length old)) refl p (leb-true (length file) 65536 e) k
+      limit false e p k = absurd (refused-not 13 old k)
+
+      job : (b : Bool) → eqb (plainAnswer tileSize J palette true) 0 ≡ b
+          → writeOutcome (Bytes n) new ≡ cond b (storedIn file old) (writeOutcome (Refused (plainAnswer tileSize J palette true)) old) → Wrote
+      job true e k = limit (leb (length file) 65536) refl (eqb-true (plainAnswer tileSize J palette true) 0 e) k
+      job false e k = absurd (refused-not (plainAnswer tileSize J palette true) old k)
+
+  -- the bytes that were written
+  front : take n new ≡ file
+  front =
+      let W = wrote in
+      ap₂ (λ (i : ℕ) (l : List ℕ). take i l) (W .number) (W .stored) ∙ sets-front file old (W .room)
+
+  -- are read as the same job, in floats of 32 bits; what isn't filled stays
+  pub read-back : T (fits binary32 (J .weight)) → Singles (J .colours) → Singles palette → (h : Room) → roomy (length (h .tiles)) (length (h .colours)) (length (h .counts)) (length (h .palette)) ≡ true
+      → readDef (take n new) h
+      ≡ readOutcome (reading.Sheet (J .S) (J .C) (J .T) (J .weight)) (room (sets (h .tiles) 0 (J .tiles)) (sets (h .colours) 0 (J .colours)) (sets (h .counts) 0 (J .counts)) (sets (h .palette) 0 palette))
+  unfolding readDef
+  read-back Fw Fc Fp h r =
+      let W = wrote in
+      let P = plain-ready tileSize J palette true (W .passed) in
+      let g = sheet-good J (P .ready) Fc Fw palette (P .lent) Fp in
+      ap (λ (b : Bool). readInto (cond b (readSheet edition1 (take n new)) (refused 3)) h) r
+      ∙ ap (λ (b : List ℕ). readInto (readSheet edition1 b) h) front
+      ∙ ap (λ (a : Answer Sheet). readInto a h) (read-written (sheetOf J palette) g (W .small))
+      ∙ ap₂ {C = ReadOutcome} (λ K p. readOutcome (reading.Sheet (K .S) (K .C) (K .T) (K .weight)) (room (sets (h .tiles) 0 (K .tiles)) (sets (h .colours) 0 (K .colours)) (sets (h .counts) 0 (K .counts)) (sets (h .palette) 0 p)))
+      (job-back J (P .ready) Fc Fw palette (P .lent) Fp) (palette-back J (P .ready) Fc Fw palette (P .lent) Fp)
+
+-- ---- read, then written
+-- the sheet whose job a reading fills in has the bytes that were read, whatever the room
+pub write-back : (b : List ℕ) (x : Sheet) → T (areBytes b) → readSheet edition1 b ≡ accepted x → (old : List ℕ) → length b ≤ length old
+    → writeDef tileSize (jobOf x) (floats (x .palette)) old ≡ writeOutcome (Bytes (length b)) (sets old 0 b)
+unfolding writeDef storedIn
+write-back b x h e old room =
+    let A = accepted-job b x h e in
+    let r = written-read b x h e in
+    let file : encode (sheet edition1) (sheetOf (jobOf x) (floats (x .palette))) ≡ b = ap (encode (sheet edition1)) (sheet-again x (r .1)) ∙ r .0 in
+    ap (λ (t : Bool). cond t (storedIn (encode (sheet edition1) (sheetOf (jobOf x) (floats (x .palette)))) old) (writeOutcome (Refused (plainAnswer tileSize (jobOf x) (floats (x .palette)) true)) old)) (eq-eqb (plainAnswer tileSize (jobOf x) (floats (x .palette)) true) 0 A)
+    ∙ ap (λ (l : List ℕ). storedIn l old) file
+    ∙ ap (λ (t : Bool). cond t (cond (leb (length b) (length old)) (writeOutcome (Bytes (length b)) (sets old 0 b)) (writeOutcome (Refused 3) old)) (writeOutcome (Refused 13) old)) (le-leb (length b) 65536 (within-limit b x e .0))
+    ∙ ap (λ (t : Bool). cond t (writeOutcome (Bytes (length b)) (sets old 0 b)) (writeOutcome (Refused 3) old)) (le-leb (length b) (length old) room)

@@ -1,0 +1,4 @@
+pub mod Components
+pub mod Colours
+pub mod Ends
+pub mod Tiles

@@ -1,0 +1,3 @@
+pub mod Example
+pub mod Headed
+pub mod Exact

@@ -1,0 +1,133 @@
+-- The public calls that `train` makes are accepted, each at its moment, and come to the training that is defined. Assumes nothing.
+use mathlib.Core.Path.{_≡_, refl, sym, ap, subst, subst⁻¹, _∙_}
+use Prim.Native.Nat.{_+_, _*_, _≤_}
+use native.Mathlib.Omega.{arith}
+use mathlib.Core.Bool.{true, false, true≢false}
+use mathlib.Core.Logic.{_⊎_, inl, inr}
+use mathlib.Core.List.{List}
+use lib.ListN.{length}
+use lib.Ieee.{Float}
+use borrow.Author.Tests.{eq-eqb}
+use Rattle.job.specs.Job.{tileSize, two}
+use Rattle.job.specs.Rules.{Passed}
+use Rattle.job.specs.Checks.{componentsFit}
+use Rattle.job.specs.Gives.{Sampled}
+use Rattle.quantizer.specs.Course.{Course}
+use Rattle.stages.specs.State.{State, draws, stops}
+use Rattle.stages.specs.Stages.{going, step, advance, start, handIn}
+use Rattle.stages.specs.Calls.{Memory, stateOf, memoryOf, Outcome, coloursRoom, jobRules, advanceAnswer, handInAnswer, startAnswer, startCall, advanceCall, handInCall}
+use Rattle.calls.proofs.Cases.{decide}
+use Rattle.calls.proofs.Whilsts.{whilst-stop}
+use Rattle.calls.specs.Fit.{Fit}
+use Rattle.calls.proofs.Fit.{start-fit, advance-fit}
+use Rattle.calls.proofs.Accepted.{few-pixels, job-passed, holds}
+use Rattle.calls.specs.Accepted.{Roomy}
+use Rattle.calls.proofs.Answers.{start-closed, advance-opened, advance-closed, handIn-closed}
+use Rattle.calls.proofs.Next.{held-state, done, refused, handIn-leaves}
+use Rattle.training.specs.Training.{cut, all, goOn, handCut, atReduction, atDrawn, atRefined, trained, goCall, stopCall, reductionCalls, drawnCalls, finishedCalls}
+use Rattle.training.proofs.Cuts.{length-cut, cut-fits}
+use Rattle.training.proofs.Stops.{handed-late, handed-refined, handed-last, to-reduction, to-drawn}
+
+module _ (K : Course) (P : Passed (jobRules tileSize K true)) where
+  D : Sampled tileSize (K .job) (K .n) (K .samples) true
+  D = job-passed tileSize K true P
+
+  -- a memory that holds a state that every call accepts
+  record Holds (m : Memory) (s : State) : Type 0 where
+    pub is : m ≡ memoryOf s
+    pub fit : Fit K s
+
+  started : (m : Memory) → Roomy K m → Holds (startCall tileSize K m 0 .after) (start K 0 (m .hints))
+  unfolding startCall
+  started m r = record {
+    is = ap (λ (x : Outcome). x .after) (done (startAnswer tileSize K m) m 0 (start K 0 (m .hints)) (start-closed tileSize K m P r));
+    fit = start-fit tileSize few-pixels K true D 0 (m .hints) (r .hints);
+  }
+
+  -- an advance. At a stop it is refused, and there the definition makes no draw
+  gone : {m : Memory} {s : State} → Holds m s → Holds (goCall K m) (goOn K s)
+  unfolding goOn
+  gone {m} {s} H = record { is = ap (goCall K) (H .is) ∙ by (decide (draws (s .stage))); fit = advance-fit tileSize few-pixels K true D all s (H .fit) }
+    where
+      by : (draws (s .stage) ≡ true) ⊎ (draws (s .stage) ≡ false) → goCall K (memoryOf s) ≡ memoryOf (advance K all s)
+      by (inl d) =
+          unfold advanceCall in
+          ap (λ (x : Outcome). x .after) (done (advanceAnswer tileSize K (memoryOf s)) (memoryOf s) _ (advance K all (stateOf (memoryOf s))) (advance-closed tileSize K (memoryOf s) (holds tileSize K s P (H .fit)) (rw (held-state s) d)))
+          ∙ ap (λ (z : State). memoryOf (advance K all z)) (held-state s)
+      by (inr d) =
+          unfold advanceCall in
+          ap (λ (x : Outcome). x .after) (refused (advanceAnswer tileSize K (memoryOf s)) (memoryOf s) _ (advance K all (stateOf (memoryOf s))) (λ e. true≢false (sym (rw (held-state s) at (advance-opened tileSize K (memoryOf s) e .1)) ∙ d)))
+          ∙ ap memoryOf (sym (whilst-stop (going K) (step K) all s d))
+
+  -- a hand-in at a stop
+  handed : {m : Memory} {s : State} → Holds m s → stops (s .stage) ≡ true → Holds (stopCall K m) (handCut K s)
+  unfolding handCut
+  handed {m} {s} H d = record { is = ap (stopCall K) (H .is) ∙ left; fit = subst (Fit K) (ap stateOf left ∙ held-state (handIn K (cut (s .palette)) s)) (handIn-leaves tileSize few-pixels K (memoryOf s) (cut (memoryOf s .palette)) taken .fit) }
+    where
+      same : memoryOf s .palette ≡ s .palette
+      same = unfold memoryOf in refl
+
+      long : coloursRoom tileSize K (cut (memoryOf s .palette)) ≡ true
+      long = unfold coloursRoom in eq-eqb _ _ (length-cut (memoryOf s .palette) ∙ ap length same ∙ H .fit .sound .held .size)
+
+      taken : handInAnswer tileSize K (memoryOf s) (cut (memoryOf s .palette)) ≡ 0
+      taken =
+          handIn-closed tileSize K (memoryOf s) (cut (memoryOf s .palette)) (holds tileSize K s P (H .fit)) (rw (held-state s) d) long
+          (cut-fits (memoryOf s .palette) (rw same (H .fit .sound .held .bound)))
+
+      left : stopCall K (memoryOf s) ≡ memoryOf (handIn K (cut (s .palette)) s)
+      left =
+          unfold handInCall in
+          ap (λ (x : Outcome). x .after) (done (handInAnswer tileSize K (memoryOf s) (cut (memoryOf s .palette))) (memoryOf s) 0 (handIn K (cut (memoryOf s .palette)) (stateOf (memoryOf s))) taken)
+          ∙ ap (λ (z : State). memoryOf (handIn K (cut (memoryOf s .palette)) z)) (held-state s)
+          ∙ ap (λ (x : List Float). memoryOf (handIn K (cut x) s)) same
+
+  -- ---- the stops, one after the other
+  few : K .job .S + K .job .C ≤ 32
+  few = omega (arith, D .ready .sizes .few, D .ready .sizes .cap)
+
+  module _ (m : Memory) (r : Roomy K m) where
+    at-reduction : Holds (reductionCalls K m) (atReduction K (m .hints))
+    unfolding atReduction
+    at-reduction = gone (started m r)
+
+    reduction-stage : atReduction K (m .hints) .stage ≡ 3
+    unfolding atReduction
+    reduction-stage = to-reduction K (D .ready .sizes .subs) (D .ready .sizes .some) few (D .few) (m .hints)
+
+    passed-reduction : Holds (stopCall K (reductionCalls K m)) (handCut K (atReduction K (m .hints)))
+    passed-reduction = handed at-reduction (ap stops reduction-stage)
+
+    at-drawn : Holds (drawnCalls K (reductionCalls K m)) (atDrawn K (m .hints))
+    unfolding atDrawn
+    at-drawn = gone passed-reduction
+
+    drawn-stage : atDrawn K (m .hints) .stage ≡ 5
+    unfolding atDrawn handCut
+    drawn-stage =
+        to-drawn K (D .ready .sizes .subs) (D .ready .sizes .some) few (D .few) (handCut K (atReduction K (m .hints))) (passed-reduction .fit .rests)
+        (handed-late K (cut (atReduction K (m .hints) .palette)) (atReduction K (m .hints)) reduction-stage)
+
+    at-refined : Holds (stopCall K (drawnCalls K (reductionCalls K m))) (atRefined K (m .hints))
+    unfolding atRefined
+    at-refined = handed at-drawn (ap stops drawn-stage)
+
+    refined-stage : atRefined K (m .hints) .stage ≡ 6
+    unfolding atRefined handCut
+    refined-stage = handed-refined K (cut (atDrawn K (m .hints) .palette)) (atDrawn K (m .hints)) drawn-stage
+
+    finished : Holds (finishedCalls K (drawnCalls K (reductionCalls K m))) (trained K (m .hints))
+    unfolding trained
+    finished = handed at-refined (ap stops refined-stage)
+
+    -- ---- the palette that the calls leave
+    pub calls-train : finishedCalls K (drawnCalls K (reductionCalls K m)) .palette ≡ trained K (m .hints) .palette
+    unfolding memoryOf
+    calls-train = ap (λ (x : Memory). x .palette) (finished .is)
+
+    -- it has its length, and is within 2
+    pub trained-fits : (length (trained K (m .hints) .palette) ≡ 3 * (K .job .S * K .job .C)) × (componentsFit two (trained K (m .hints) .palette) ≡ true)
+    trained-fits = (finished .fit .sound .held .size, subst⁻¹ (λ (x : List Float). componentsFit two x ≡ true) last (cut-fits (atRefined K (m .hints) .palette) (at-refined .fit .sound .held .bound)))
+      where
+        last : trained K (m .hints) .palette ≡ cut (atRefined K (m .hints) .palette)
+        last = unfold trained handCut in handed-last K (cut (atRefined K (m .hints) .palette)) (atRefined K (m .hints)) refined-stage
