@@ -3,7 +3,7 @@
 fn main() {
     let folder = std::env::var("CARGO_MANIFEST_DIR").unwrap() + "/../target/staticlib";
     println!("cargo::rustc-link-search=native={folder}");
-    for name in ["probe_palette", "probe_training", "probe_whole", "probe_calls"] {
+    for name in ["probe_palette", "probe_training", "dunkafeto", "probe_calls"] {
         println!("cargo::rerun-if-changed={folder}/lib{name}.a");
         println!("cargo::rustc-link-lib=static={name}");
     }

@@ -81,7 +81,7 @@ unsafe extern "C" {
         hints_len: usize,
         alpha: f32,
     ) -> u64;
-    fn probe_assign(
+    fn dunkafeto_assign(
         s: usize,
         c: usize,
         t: usize,
@@ -98,8 +98,8 @@ unsafe extern "C" {
         hints_len: usize,
         out: *mut u32,
         out_len: usize,
-    ) -> u32;
-    fn probe_start(
+    ) -> u64;
+    fn dunkafeto_start(
         s: usize,
         c: usize,
         t: usize,
@@ -124,8 +124,8 @@ unsafe extern "C" {
         least_len: usize,
         words: *mut u64,
         words_len: usize,
-    ) -> u32;
-    fn probe_advance(
+    ) -> u64;
+    fn dunkafeto_advance(
         s: usize,
         c: usize,
         t: usize,
@@ -150,10 +150,8 @@ unsafe extern "C" {
         words: *mut u64,
         words_len: usize,
         allotment: u64,
-        drawn: *mut u64,
-        drawn_len: usize,
-    ) -> u32;
-    fn probe_hand_in(
+    ) -> u64;
+    fn dunkafeto_hand_in(
         s: usize,
         c: usize,
         t: usize,
@@ -179,7 +177,7 @@ unsafe extern "C" {
         words_len: usize,
         reduced: *const f32,
         reduced_len: usize,
-    ) -> u32;
+    ) -> u64;
 }
 
 /// A job as it is lent.
@@ -357,8 +355,8 @@ impl Lent {
     }
 
     pub fn assign(&self, memory: &mut Memory, out: &mut [u32]) {
-        let number = unsafe {
-            probe_assign(
+        let answer = unsafe {
+            dunkafeto_assign(
                 self.s,
                 self.c,
                 self.t,
@@ -377,12 +375,12 @@ impl Lent {
                 out.len(),
             )
         };
-        assert_eq!(number, 0);
+        assert_eq!(answer % 256, 0);
     }
 
     pub fn start(&self, memory: &mut Memory, seed: u64) {
-        let number = unsafe {
-            probe_start(
+        let answer = unsafe {
+            dunkafeto_start(
                 self.s,
                 self.c,
                 self.t,
@@ -409,13 +407,12 @@ impl Lent {
                 memory.words.len(),
             )
         };
-        assert_eq!(number, 0);
+        assert_eq!(answer % 256, 0);
     }
 
     pub fn advance(&self, memory: &mut Memory, allotment: u64) {
-        let mut drawn = [0];
-        let number = unsafe {
-            probe_advance(
+        let answer = unsafe {
+            dunkafeto_advance(
                 self.s,
                 self.c,
                 self.t,
@@ -440,19 +437,17 @@ impl Lent {
                 memory.words.as_mut_ptr(),
                 memory.words.len(),
                 allotment,
-                drawn.as_mut_ptr(),
-                drawn.len(),
             )
         };
-        assert_eq!(number, 0);
+        assert_eq!(answer % 256, 0);
     }
 
     /// Hands in the palette, reduced.
     pub fn hand_in(&self, memory: &mut Memory, reduce: fn(Colour) -> Colour) {
         let reduced: Vec<Colour> = memory.palette.as_chunks().0.iter().map(|&colour| reduce(colour)).collect();
         let reduced = reduced.as_flattened();
-        let number = unsafe {
-            probe_hand_in(
+        let answer = unsafe {
+            dunkafeto_hand_in(
                 self.s,
                 self.c,
                 self.t,
@@ -480,6 +475,6 @@ impl Lent {
                 reduced.len(),
             )
         };
-        assert_eq!(number, 0);
+        assert_eq!(answer % 256, 0);
     }
 }

@@ -1,4 +1,4 @@
--- Laws of what specs/Accepted defines. Assumes nothing.
+-- What each call's checks come to: a job that passed, memory of the right lengths that is fit, and the right moment. Assumes nothing.
 use mathlib.Core.Path.{_≡_, refl, sym, subst}
 use mathlib.Core.Bool.{Bool, true, false}
 use mathlib.Core.Logic.{_⊎_, inl, inr}

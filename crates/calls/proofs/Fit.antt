@@ -1,4 +1,4 @@
--- Laws of what specs/Fit defines. Assumes nothing.
+-- What a call may be handed: a run at a place of its record with nothing due, whose memory is sound. Every call keeps it. Assumes nothing.
 use mathlib.Core.Path.{_≡_}
 use mathlib.Core.Bool.{Bool, true, false}
 use mathlib.Core.Logic.{_≢_}

@@ -1,4 +1,4 @@
--- Laws of what specs/HandIns defines. Assumes nothing.
+-- The hand-ins that a run has before it: an advance leaves them as they are, a hand-in takes one from them. Assumes nothing.
 use Prim.Native.Nat.{ℕ, suc, _-_, _*_, _≤_}
 use mathlib.Core.Path.{_≡_, sym, ap, subst, _∙_}
 use mathlib.Core.Bool.{Bool, true, false, _||_}

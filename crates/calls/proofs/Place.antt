@@ -1,4 +1,4 @@
--- Laws of what specs/Place defines. Assumes nothing.
+-- Where a run stands, words 1 to 4 of its record: every step keeps the record's rules, whatever the leaves do to the palette. Assumes nothing.
 use mathlib.Core.Path.{_≡_, refl, sym, ap, _∙_, subst}
 use mathlib.Core.Logic.{_≢_}
 use mathlib.Core.Bool.{Bool, true, false, cond, _&&_, true≢false}

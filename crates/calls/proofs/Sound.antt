@@ -1,4 +1,5 @@
--- Laws of what specs/Sound defines. Assumes nothing.
+-- Every step keeps what the calls check of a run's memory, beside the record's words 1 to 4: lengths, components within 4, order entries below n,
+-- hints for all tiles, and the least palette with its error. Assumes nothing.
 use mathlib.Core.Path.{_≡_, refl, subst⁻¹, _∙_}
 use mathlib.Core.Logic.{_≢_}
 use mathlib.Core.Bool.{Bool, cond}

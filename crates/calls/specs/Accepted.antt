@@ -1,4 +1,4 @@
--- What each call's checks come to: a job that passed, memory of the right lengths that is fit, and the right moment. Assumes nothing.
+-- Memory that the calls of a run accept. Assumes nothing.
 use mathlib.Core.Path.{_≡_}
 use mathlib.Core.Bool.{true}
 use Prim.Native.Nat.{ℕ, _*_}

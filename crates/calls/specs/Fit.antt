@@ -1,4 +1,4 @@
--- What a call may be handed: a run at a place of its record with nothing due, whose memory is sound. Every call keeps it. Assumes nothing.
+-- What a call may be handed: a run at a place of its record with nothing due, whose memory is sound. Assumes nothing.
 use Rattle.quantizer.specs.Course.{Course}
 use Rattle.stages.specs.State.{State}
 use Rattle.calls.specs.Place.{Rests}

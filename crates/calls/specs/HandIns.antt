@@ -1,4 +1,4 @@
--- The hand-ins that a run has before it: an advance leaves them as they are, a hand-in takes one from them. Assumes nothing.
+-- The hand-ins that a stage still has ahead of it. Assumes nothing.
 use Prim.Native.Nat.{ℕ, _-_}
 use mathlib.Core.Bool.{cond}
 use lib.Dec.{ltb}

@@ -1,4 +1,4 @@
--- Where a run stands, words 1 to 4 of its record: every step keeps the record's rules, whatever the leaves do to the palette. Assumes nothing.
+-- Where a run may stand, by words 1 to 4 of its record. Assumes nothing.
 use mathlib.Core.Path.{_≡_}
 use mathlib.Core.Bool.{false}
 use Prim.Native.Nat.{ℕ, suc, _+_, _-_, _*_, _≤_, _<_}

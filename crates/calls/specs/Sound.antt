@@ -1,5 +1,4 @@
--- Every step keeps what the calls check of a run's memory, beside the record's words 1 to 4: lengths, components within 4, order entries below n,
--- hints for all tiles, and the least palette with its error. Assumes nothing.
+-- Memory of a run that is sound, beside the record's words 1 to 4: lengths, bounds, order entries, hints, the least palette. Assumes nothing.
 use mathlib.Core.Path.{_≡_}
 use mathlib.Core.Logic.{_≢_}
 use mathlib.Core.List.{List}

@@ -1,4 +1,5 @@
--- Laws of what specs/Lesser defines. Assumes nothing.
+-- The lesser of two distances, and the least of many in four lanes: where distances are no NaN and have no sign, it does not matter
+-- in which order they are compared. Assumes nothing.
 use Prim.Native.Nat.{ℕ, suc, _+_, _*_, min}
 use mathlib.Core.Path.{_≡_, refl, sym, ap, _∙_}
 use mathlib.Core.Bool.{Bool, true, false, cond}

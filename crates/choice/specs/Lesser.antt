@@ -1,5 +1,4 @@
--- The lesser of two distances, and the least of many in four lanes: where distances are no NaN and have no sign, it does not matter
--- in which order they are compared. Assumes nothing.
+-- The lesser of two values, and a least value taken in four lanes. Assumes nothing.
 use mathlib.Core.Bool.{cond}
 use lib.Ieee.{Float, lt}
 

@@ -1,4 +1,5 @@
--- Laws of what specs/Even defines. Assumes nothing.
+-- The draws are even: after t draws each of the n samples has been drawn t / n times, rounded down or up, and none waits past 2 * n - 1 draws.
+-- Assumes nothing.
 use mathlib.Core.List.{List}
 use mathlib.Core.Logic.{_⊎_, inl, inr}
 use mathlib.Core.Path.{_≡_, ap}

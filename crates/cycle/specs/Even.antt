@@ -1,5 +1,4 @@
--- The draws are even: after t draws each of the n samples has been drawn t / n times, rounded down or up, and none waits past 2 * n - 1 draws.
--- Assumes nothing.
+-- What even draws are: t / n times each, rounded down or up. Assumes nothing.
 use mathlib.Core.Path.{_≡_}
 use Prim.Native.Nat.{ℕ, _+_, _-_, _/_, _%_, _≤_}
 

@@ -1,4 +1,5 @@
--- Laws of what specs/Calls defines. Assumes nothing.
+-- What the first demand says of one call, whose contract is that its outcome is `definition`. Definitions, and how a call that goes by rules meets them.
+-- Assumes nothing.
 use Prim.Native.Nat.{ℕ}
 use mathlib.Core.Path.{_≡_, refl, sym, _∙_}
 use mathlib.Core.Bool.{Bool, true, false, cond}

@@ -1,4 +1,5 @@
--- Laws of what specs/Ends defines. Assumes nothing.
+-- A run ends: each accepted advance by 1 or more and each accepted hand-in brings the finish nearer, and short of the finish one of the two is accepted.
+-- (That one call ends is part of what the prover shows of every function, and the ten contracts ask nothing.) Assumes nothing.
 use Prim.Native.Nat.{ℕ, suc, _+_, _-_, _*_, _≤_, _<_}
 use mathlib.Core.Path.{_≡_, refl, sym, ap, _∙_}
 use mathlib.Core.Bool.{true, false}

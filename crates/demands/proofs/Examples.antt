@@ -1,4 +1,4 @@
--- Laws of what specs/Examples defines. Assumes nothing.
+-- The examples marked P, as one table. Assumes nothing.
 use Prim.Native.Nat.{ℕ, _+_, _*_, _/_, _≤_, _<_}
 use mathlib.Core.Path.{_≡_, refl, ap, subst⁻¹, _∙_}
 use mathlib.Core.List.{List, [], _∷_}

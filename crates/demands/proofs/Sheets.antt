@@ -1,4 +1,5 @@
--- Laws of what specs/Sheets defines. Assumes nothing.
+-- The sheet's numbers, exactly when the table says: 0 for the bytes of a sheet that can be written, 3, 12 and 13. And reader and writer undo each other.
+-- Assumes nothing.
 use Prim.Native.Nat.{ℕ, _≤_}
 use mathlib.Core.Path.{_≡_, refl, sym, ap, subst, _∙_}
 use mathlib.Core.Bool.{Bool, true, false, not, cond, _&&_, _||_, true≢false}

@@ -1,5 +1,4 @@
--- What the first demand says of one call, whose contract is that its outcome is `definition`. Definitions, and how a call that goes by rules meets them.
--- Assumes nothing.
+-- What the first demand says of one call, whose contract is that its outcome is `definition`. Assumes nothing.
 use Prim.Native.Nat.{ℕ}
 use mathlib.Core.Path.{_≡_}
 use mathlib.Core.Logic.{_≢_}

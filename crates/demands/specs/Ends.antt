@@ -1,5 +1,4 @@
--- A run ends: each accepted advance by 1 or more and each accepted hand-in brings the finish nearer, and short of the finish one of the two is accepted.
--- (That one call ends is part of what the prover shows of every function, and the ten contracts ask nothing.) Assumes nothing.
+-- What is ahead of a run, and rows of accepted calls. Assumes nothing.
 use Prim.Native.Nat.{ℕ, suc, _+_, _-_, _*_}
 use mathlib.Core.Path.{_≡_}
 use mathlib.Core.List.{List}

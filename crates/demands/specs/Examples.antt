@@ -20,25 +20,25 @@ use Rattle.stages.specs.Calls.{Memory}
 use Rattle.stages.specs.History.{Run}
 
 -- ---- numbers as f32
-abbrev nought : Float
+abbrev pub nought : Float
 nought = ofBits binary32 0
 
-abbrev quarter : Float
+abbrev pub quarter : Float
 quarter = ofBits binary32 0x3e800000
 
-abbrev half : Float
+abbrev pub half : Float
 half = ofBits binary32 0x3f000000
 
-abbrev one : Float
+abbrev pub one : Float
 one = ofBits binary32 0x3f800000
 
-abbrev two : Float
+abbrev pub two : Float
 two = ofBits binary32 0x40000000
 
-abbrev three : Float
+abbrev pub three : Float
 three = ofBits binary32 0x40400000
 
-abbrev five : Float
+abbrev pub five : Float
 five = ofBits binary32 0x40a00000
 
 -- ---- the sheet of the paper: (0.25, 0, 0) four times; an empty tile; (0.5, 0, 0) twice; (1, 0, 0) once

@@ -1,5 +1,4 @@
--- The sheet's numbers, exactly when the table says: 0 for the bytes of a sheet that can be written, 3, 12 and 13. And reader and writer undo each other.
--- Assumes nothing.
+-- Bytes that are a sheet's. Assumes nothing.
 use Prim.Native.Nat.{ℕ, _≤_}
 use mathlib.Core.Path.{_≡_}
 use mathlib.Core.Bool.{not}

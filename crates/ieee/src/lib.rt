@@ -1,4 +1,4 @@
-// IEEE 754 by bits: an f64 to the nearest f32, and a number that grows with the total order. The laws of the arithmetic are in specs/.
+// IEEE 754 by bits: an f64 to the nearest f32, and a number that grows with the total order. The laws of the arithmetic are in proofs/.
 ghost use mathlib.Core.Path.{_≡_};
 ghost use mathlib.Core.Bool.{not};
 ghost use Prim.Native.Nat.{_^_, _≤_, _<_};

@@ -1,4 +1,4 @@
--- Laws of what specs/Goods defines. Assumes nothing.
+-- Sums of values that are no NaN and have no sign are such too, so that a choice among them may be made. Assumes nothing.
 use Prim.Native.Nat.{ℕ, _+_, _≤_, _<_}
 use mathlib.Core.Path.{subst⁻¹}
 use mathlib.Core.Bool.{not}

@@ -1,4 +1,4 @@
--- Laws of what specs/Lengths defines. Assumes nothing.
+-- Lengths: sums keep the number of their places, palettes and hints theirs. Assumes nothing.
 use Prim.Native.Nat.{ℕ, zero, suc, _*_}
 use mathlib.Core.Path.{_≡_, refl, _∙_}
 use mathlib.Core.Bool.{Bool, true, false, cond}

@@ -1,4 +1,4 @@
--- Laws of what specs/Refines defines. Assumes nothing.
+-- Refinement: each sum is at most 2 for each pixel counted, so the means are within 2, and a palette within 2 or more stays so. Assumes nothing.
 use Prim.Native.Nat.{ℕ, zero, suc, _+_, _*_, _/_, _≤_, _<_}
 use mathlib.Core.Path.{_≡_, subst⁻¹, _∙_}
 use mathlib.Core.Bool.{Bool, cond}

@@ -1,4 +1,4 @@
--- Sums of values that are no NaN and have no sign are such too, so that a choice among them may be made. Assumes nothing.
+-- Sums that are no nan and have no sign. Assumes nothing.
 use Prim.Native.Nat.{ℕ, _<_}
 use mathlib.Core.List.{List}
 use lib.ListN.{getD, length}

@@ -1,4 +1,4 @@
--- Lengths: sums keep the number of their places, palettes and hints theirs. Assumes nothing.
+-- Sums that have a place for each subpalette and colour. Assumes nothing.
 use Prim.Native.Nat.{ℕ}
 use mathlib.Core.Path.{_≡_}
 use lib.ListN.{length}

@@ -1,4 +1,4 @@
--- Refinement: each sum is at most 2 for each pixel counted, so the means are within 2, and a palette within 2 or more stays so. Assumes nothing.
+-- What holds of the sums and counts of a refinement while they are gathered. Assumes nothing.
 use Prim.Native.Nat.{ℕ, _*_, _≤_, _<_}
 use mathlib.Core.Path.{_≡_}
 use lib.ListN.{getD, length}

@@ -10,7 +10,6 @@ use Rattle.cycle.specs.Cycle.{Cycle, cycle, after}
 use Rattle.quantizer.specs.Course.{Course}
 use Rattle.quantizer.specs.Sums.{zeros}
 use Rattle.quantizer.specs.Seeding.{seeded}
-use Rattle.quantizer.proofs.Lists.{length-zeros}
 use Rattle.quantizer_seed.specs.Seeds.{Seeding}
 use Rattle.stages.specs.State.{stateWith}
 use Rattle.run_blank.specs.Blanks.{dealt, Blanking}
@@ -20,12 +19,12 @@ module _ (K : Course) (p l : List Float) (B : Blanking K p l) where
   some-places : 3 ≤ 3 * (K .job .S * K .job .C)
   some-places = mul-le-mul (le-refl 3) (mul-le-mul (B .sampling .passed .ready .sizes .subs) (B .sampling .passed .ready .sizes .some))
 
-  pub can-seed : (z : List Float) → z ≡ zeros (length p) → Seeding K z
-  can-seed z e = record { sampling = B .sampling; room = rw (e, length-zeros (length p), B .one) some-places }
+  pub can-seed : (z : List Float) → length z ≡ length p → Seeding K z
+  can-seed z e = record { sampling = B .sampling; room = rw (e, B .one) some-places }
 
-  pub blanked : (z : List Float) → z ≡ zeros (length p) → (p2 l2 : List Float) → p2 ≡ seeded K z → l2 ≡ zeros (length l)
+  pub blanked : (l2 : List Float) → l2 ≡ zeros (length l) → (z : List Float) → z ≡ zeros (length p) → (p2 : List Float) → p2 ≡ seeded K z
       → (p2 ≡ seeded K (zeros (3 * (K .job .S * K .job .C)))) × (l2 ≡ zeros (3 * (K .job .S * K .job .C)))
-  blanked z e p2 l2 ep el = (ep ∙ ap (seeded K) (e ∙ ap zeros (B .one)), el ∙ ap zeros (B .two))
+  blanked l2 el z e p2 ep = (ep ∙ ap (seeded K) (e ∙ ap zeros (B .one)), el ∙ ap zeros (B .two))
 
 -- ---- the order
 pub dealt-by : (n seed : ℕ) (o : List ℕ) (g m : ℕ) → cycle (deck o g) m ≡ after n seed 0

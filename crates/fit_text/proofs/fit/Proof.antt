@@ -1,7 +1,7 @@
 -- `fit` meets its contract: a refusal's line, or the lines of the job that was read. Assumes nothing.
 use native.Mathlib.Omega.{arith}
 use Rattle.sheet.specs.Sheets.{room}
-use Rattle.sheet_parts.proofs.Reads.{are-bytes}
+use Rattle.sheet_parts.proofs.Readings.{are-bytes}
 use Rattle.fit_text.proofs.Sheets.{no-place, printed, refusal-is, holds, within, text-is, counts}
 use Rattle.fit_tiles.proofs.Lengths.{refused-most}
 use borrow.Author.Needs.{needs}

@@ -1,7 +1,7 @@
 -- `train` meets its contract: a refusal's line, or what is written for the job that was read. Assumes nothing.
 use native.Mathlib.Omega.{arith}
 use Rattle.sheet.specs.Sheets.{room}
-use Rattle.sheet_parts.proofs.Reads.{are-bytes}
+use Rattle.sheet_parts.proofs.Readings.{are-bytes}
 use Rattle.fit_tiles.proofs.Lengths.{refused-most}
 use Rattle.train_text.proofs.Sheets.{no-place, printed, refusal-is, holds, text-is, counts}
 use borrow.Author.Needs.{needs}
