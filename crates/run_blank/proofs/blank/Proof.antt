@@ -13,14 +13,14 @@ zero-requires-2 c κs = search needs
 seed-requires : tie.Need-seed-requires
 seed-requires c κs = can-seed _ _ _ (c .before .before .before .before .before .before .before .before .before .before .before .before .before .before .before .pre) _ (search needs)
 
+returns : tie.Need-returns
+returns c = blanked _ _ _ (c .before .before .before .before .before .before .before .before .before .before .before .before .before .before .before .before .before .before .pre) _ (c .before .before .before .before .before .before .before .before .before .before .zero .ensures) _ (c .before .before .before .before .before .before .zero2 .ensures) _ (c .before .before .seed .ensures)
+
 same-length : tie.Need-same-length
 same-length c = search needs
 
 same-length-2 : tie.Need-same-length-2
 same-length-2 c = search needs
-
-returns : tie.Need-returns
-returns c = blanked _ _ _ (c .before .before .before .before .before .before .before .before .before .before .before .before .before .before .before .before .before .before .pre) _ (c .before .before .before .before .before .before .before .before .before .before .zero .ensures) _ (c .before .before .before .before .before .before .zero2 .ensures) _ (c .before .before .seed .ensures)
 
 pub blank-spec : {M : Type 1} → statement M
 blank-spec =
