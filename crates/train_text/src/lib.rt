@@ -39,31 +39,6 @@ fn put_sheet(
     )
 }
 
-// Room for any sheet's tile table, colours, counts and palette. The contracts give only the lengths.
-fn tiles_room() -> [u32; 2048]
-    ensures { λ r. ⌜ 2048 ≡ length r ⌝ }
-{
-    [0; 2048]
-}
-
-fn colours_room() -> [f32; 15420]
-    ensures { λ r. ⌜ 15420 ≡ length r ⌝ }
-{
-    [0.0; 15420]
-}
-
-fn counts_room() -> [u32; 5140]
-    ensures { λ r. ⌜ 5140 ≡ length r ⌝ }
-{
-    [0; 5140]
-}
-
-fn palette_room() -> [f32; 768]
-    ensures { λ r. ⌜ 768 ≡ length r ⌝ }
-{
-    [0.0; 768]
-}
-
 // What `train` writes for these bytes, into `out`, and how many bytes that is: none where `out` has too little room for any sheet.
 pub fn train(bytes: &[u8], out: &mut [u8]) -> usize
     ensures { λ r. ⌜ trainOutcome r (now (out .exit)) ≡ trainDef (now (bytes .entry)) (now (out .entry)) ⌝ }
@@ -72,10 +47,10 @@ pub fn train(bytes: &[u8], out: &mut [u8]) -> usize
     if out.len() < MOST_BYTES {
         return 0;
     }
-    let mut tiles = tiles_room();
-    let mut colours = colours_room();
-    let mut counts = counts_room();
-    let mut palette = palette_room();
+    let mut tiles = sheet_parts::tiles_room();
+    let mut colours = sheet_parts::colours_room();
+    let mut counts = sheet_parts::counts_room();
+    let mut palette = sheet_parts::palette_room();
     match sheet::read(bytes, &mut tiles, &mut colours, &mut counts, &mut palette) {
         sheet::Reading::Refused(n) => fit_lines::put_refused(out, 0, n),
         sheet::Reading::Sheet { s, c, t, weight } => put_sheet(
