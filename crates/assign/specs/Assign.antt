@@ -1,13 +1,14 @@
 -- The call `assign` over a job's tiles, of at most `size` pixels each: the number that it gets, the subpalette of each tile, and the hints that it leaves.
 -- Definitions only. Assumes nothing.
 use Prim.Native.Nat.{ℕ}
-use mathlib.Core.Bool.{Bool, cond, _&&_}
+use mathlib.Core.Bool.{cond}
 use mathlib.Core.List.{List}
 use lib.Dec.{eqb}
 use lib.Ieee.{Float}
 use lib.ListN.{length}
 use Rattle.job.specs.Job.{Job}
-use Rattle.job.specs.Checks.{plainAnswer}
+use Rattle.assign_check.specs.Answer.{answerFor}
+unfoldable pub use Rattle.assign_check.specs.Answer.{roomFor}
 pub use Rattle.assign_tiles.specs.Tiles.{Held, held, hintOf, assignStep, Ready, Turn}
 unfoldable pub use Rattle.assign_tiles.specs.Tiles.{subpaletteOf, subpalettes, assigned}
 
@@ -19,12 +20,9 @@ pub record Outcome : Type 0 where
 abbrev pub outcome : ℕ → Held → Outcome
 outcome n h = record { number = n; after = h }
 
--- ---- the call: a place for each tile in both lent slices; a refusal writes nothing
-unfoldable pub roomFor : ℕ → ℕ → ℕ → Bool
-roomFor t hints out = eqb hints t && eqb out t
-
+-- ---- the call: a refusal writes nothing
 unfoldable pub assignAnswer : ℕ → Job → List Float → Held → ℕ
-assignAnswer size J palette h = plainAnswer size J palette (roomFor (J .T) (length (h .hints)) (length (h .out)))
+assignAnswer size J palette h = answerFor size J palette (length (h .hints)) (length (h .out))
 
 unfoldable pub assignDef : ℕ → Job → List Float → Held → Outcome
 assignDef size J palette h =

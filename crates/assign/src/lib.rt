@@ -3,37 +3,7 @@
 ghost use mathlib.Core.Path.{_≡_};
 ghost use Rattle.job.specs.Job.{job, tileSize};
 ghost use Rattle.assign_tiles.specs.Tiles.{held};
-ghost use Rattle.assign.specs.Assign.{outcome, roomFor, assignAnswer, assignDef};
-
-// Whether both lent slices have a place for each tile.
-fn has_room(t: usize, hints: usize, out: usize) -> bool
-    ensures { λ r. ⌜ r ≡ roomFor t hints out ⌝ }
-{
-    if hints == t {
-        return out == t;
-    }
-    false
-}
-
-// 0, or the number of the first rule that the call breaks.
-fn check_assign(
-    size: usize,
-    s: usize,
-    c: usize,
-    t: usize,
-    weight: f32,
-    tiles: &[u32],
-    colours: &[f32],
-    counts: &[u32],
-    palette: &[f32],
-    hints: &[u32],
-    out: &[u32],
-) -> u32
-    ensures { λ r. ⌜ r ≡ assignAnswer size (job s c t weight (now (tiles .entry)) (now (colours .entry)) (now (counts .entry))) (now (palette .entry)) (held (now (hints .entry)) (now (out .entry))) ⌝ }
-{
-    let room = has_room(t, hints.len(), out.len());
-    job_check::check_job(size, s, c, t, weight, tiles, colours, counts, palette, room)
-}
+ghost use Rattle.assign.specs.Assign.{outcome, assignDef};
 
 // The subpalette that fits each tile best, in `out`, and in `hints` for a tile that is not empty. A number but 0 writes nothing.
 pub fn assign(
@@ -50,8 +20,7 @@ pub fn assign(
 ) -> u32
     ensures { λ r. ⌜ outcome r (held (now (hints .exit)) (now (out .exit))) ≡ assignDef tileSize (job s c t weight (now (tiles .entry)) (now (colours .entry)) (now (counts .entry))) (now (palette .entry)) (held (now (hints .entry)) (now (out .entry))) ⌝ }
 {
-    let number = check_assign(
-        job::TILE_SIZE,
+    let number = assign_check::check_assign(
         s,
         c,
         t,
@@ -60,8 +29,8 @@ pub fn assign(
         colours,
         counts,
         palette,
-        hints,
-        out,
+        hints.len(),
+        out.len(),
     );
     if number != 0 {
         return number;

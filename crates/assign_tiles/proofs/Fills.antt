@@ -23,7 +23,7 @@ module _ (J : Job) (palette : List Float) (a b : List ℕ) (i : ℕ) (A : Turn J
   unfolding subpaletteOf
   turn-none e =
       let empty : sizeOf (J .tiles) i ≡ 0 = eqb-true (sizeOf (J .tiles) i) 0 (sym R ∙ e) in
-      rw (← hint-kept J palette (J .S) (J .C) i a empty, ← R, e)
+      rw (← R, e) (ap (λ (x : List ℕ). held x (set b i 0)) (hint-kept J palette (J .S) (J .C) i a empty))
 
   module _ (e : r ≡ false) where
     full : (k : ℕ) → eqb k 0 ≡ false → 1 ≤ k

@@ -1,4 +1,4 @@
--- Definitions (Cycle, Tenth), how a run follows them, the draws in closed form, evenness, and the tenth of n. Assumes nothing.
+-- The cycle of samples, even draws, and the tenth of n. Definitions only. Assumes nothing.
 pub mod Cycle
 pub mod Even
 pub mod Tenth

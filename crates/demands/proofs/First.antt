@@ -12,10 +12,11 @@ use Rattle.job.specs.Job.{Job, two, isEmpty}
 use Rattle.job.specs.Rules.{Rule, rule, answer, numbered}
 use Rattle.job.proofs.Passing.{answer-then}
 use Rattle.job.specs.Checks.{componentsFit, plainRules, plainAnswer}
-use Rattle.fits.specs.Fits.{numberOfSingle, numberOfPair, SingleOutcome, singleOutcome, PairOutcome, pairOutcome, singleDef, pairDef}
+use Rattle.fits_outcome.specs.Fits.{numberOfSingle, SingleOutcome, singleOutcome, singleDef}
+use Rattle.fits_outcome.specs.Pairs.{numberOfPair, PairOutcome, pairOutcome, pairDef}
 use Rattle.fits_check.specs.One.{oneRules, oneAnswer, singleAnswer}
-use Rattle.fits.specs.declared.Single.the-variants as single
-use Rattle.fits.specs.declared.Pair.the-variants as pair
+use Rattle.fits_outcome.specs.declared.Single.the-variants as single
+use Rattle.fits_outcome.specs.declared.Pair.the-variants as pair
 use Rattle.assign.specs.Assign as assigning
 use Rattle.group_refusal.specs.Refusal.{Pixels, Lent, refusal}
 use Rattle.group.specs.declared.Grouped.the-variants as grouped

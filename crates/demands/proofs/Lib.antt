@@ -2,7 +2,6 @@ pub mod First
 pub mod Runners
 pub mod Second
 pub mod Prefixes
-pub mod Faults
 pub mod Calls
 pub mod Examples
 pub mod Ends

@@ -27,11 +27,12 @@ use Rattle.palette.specs.Palette.{distAt}
 use Rattle.palette.proofs.Sums.{dist-good}
 use Rattle.palette_tile.specs.Tiles.{tileAt, presentIn, fitAt, winner, twoAt, Shown}
 use Rattle.palette_tile.proofs.Present.{shown-present, tile-counted}
-use Rattle.fits.specs.Fits.{singleOutcome, pairOutcome, singleDef, pairDef}
+use Rattle.fits_outcome.specs.Fits.{singleOutcome, singleDef}
+use Rattle.fits_outcome.specs.Pairs.{pairOutcome, pairDef}
 use Rattle.fits_check.specs.One.{oneRules, oneAnswer, singleAnswer}
-use Rattle.fits.specs.declared.Single.the-variants as single
-use Rattle.fits.specs.declared.Pair.the-variants as pair
-use Rattle.fits.proofs.Empty.{empty-one, empty-many}
+use Rattle.fits_outcome.specs.declared.Single.the-variants as single
+use Rattle.fits_outcome.specs.declared.Pair.the-variants as pair
+use Rattle.fits_two.proofs.Empty.{empty-one, empty-many}
 use Rattle.fits.proofs.Shown.{shown}
 use Rattle.fits_check.proofs.Passes.{one-tile, one-plain}
 use Rattle.assign_tiles.specs.Tiles.{Held, held, assigned, subpaletteOf, subpalettes, hintOf}

@@ -14,7 +14,7 @@ use Rattle.sheet_format.specs.Sheet.{Sheet, edition1, sheet, readSheet}
 use Rattle.sheet.specs.Sheets.{Room, roomy, readDef}
 use Rattle.sheet.proofs.Inverse.{read-written, written-read}
 use Rattle.demands.proofs.First.{numberOfReading, faultOf, read-sheet}
-use Rattle.demands.proofs.Faults.{failed, sheet-never, misopened, sheet-misopened}
+use Rattle.sheet_format.proofs.Faults.{failed, sheet-never, misopened, sheet-misopened}
 use Rattle.demands.specs.Sheets.{Well-formed}
 
 -- a field is cut short, or behind the last one there is a spare bit set, or a byte

@@ -1,10 +1,8 @@
--- The answer of an exported call taken apart: the remainder by 256 is the number that the call's definition gives, and the quotient its draws. Only one
--- answer and one memory meet a contract. Assumes nothing.
-use Prim.Native.Nat.{ℕ, _+_, _/_, _%_, _<_}
-use mathlib.Core.Path.{_≡_, refl, sym, ap, _∙_}
+-- The answer of an exported call taken apart: the remainder by 256 is the number that the call's definition gives, and the quotient its draws. Assumes nothing.
+use Prim.Native.Nat.{ℕ, _<_}
+use mathlib.Core.Path.{_≡_, refl}
 use mathlib.Core.Bool.{Bool, true, _&&_}
 use mathlib.Core.List.{List, [], _∷_, _++_}
-use native.Mathlib.Nat.{add-zero, mod-eq-of-lt, div-eq-of-lt, mul-add-mod-self-right, mul-add-div-right}
 use native.Mathlib.Omega.{arith}
 use lib.Dec.{eqb, ltb}
 use lib.Ieee.{Float}
@@ -19,23 +17,8 @@ use Rattle.stages.specs.State.{draws, stops}
 use Rattle.stages.specs.Calls.{Memory, stateOf, Outcome, answered, Copied, coloursRoom, memoryRoom, jobRules, runRules, startAnswer, advanceAnswer, handInAnswer, resultAnswer, startCall, advanceCall, handInCall, resultCall}
 use Rattle.calls.proofs.Cases.{both}
 use Rattle.assign.specs.Assign as assigning
-use Rattle.dunkafeto.specs.Told.{packed, Told, told, toldRun, toldColours, toldTiles}
-
--- only one answer and one memory are what a definition tells
-pub only-one : {A : Type 0} (r s : ℕ) (a b : A) (x : Told A) → told r a ≡ x → told s b ≡ x → (r ≡ s) × (a ≡ b)
-only-one {A} r s a b x e f = (ap (λ (z : Told A). z .answer) (e ∙ sym f), ap (λ (z : Told A). z .after) (e ∙ sym f))
-
--- what a host finds in an answer
-pub record Apart (answer number draws : ℕ) : Type 0 where
-  pub low : answer % 256 ≡ number
-  pub rest : answer / 256 ≡ draws
-
-apart : (number draws : ℕ) → number < 256 → Apart (packed number draws) number draws
-apart number draws h =
-    record {
-      low = mul-add-mod-self-right draws 256 number ∙ mod-eq-of-lt h;
-      rest = mul-add-div-right (omega arith) draws number ∙ ap (λ (k : ℕ). draws + k) (div-eq-of-lt h) ∙ add-zero draws;
-    }
+use Rattle.told.proofs.Apart.{Apart, apart}
+use Rattle.dunkafeto.specs.Told.{toldRun, toldColours, toldTiles}
 
 -- ---- the number is that of a rule, and each of these is below 256
 abbrev small : List Rule → Bool

@@ -1,5 +1,5 @@
 -- What a forwarder tells is what the call below it ensures; and an advance's answer fits its 64 bits. Assumes nothing.
-use Prim.Native.Nat.{ℕ, _+_, _*_, _≤_, _<_}
+use Prim.Native.Nat.{ℕ, _≤_}
 use mathlib.Core.Path.{_≡_, sym, ap, subst, _∙_}
 use mathlib.Core.List.{List}
 use native.Mathlib.Nat.{zero-add}
@@ -8,7 +8,8 @@ use lib.Ieee.{Float}
 use Rattle.quantizer.specs.Course.{Course}
 use Rattle.stages.specs.Calls.{Memory, Outcome, outcome, Copied, copiedTo, advanceCall}
 use Rattle.assign.specs.Assign as assigning
-use Rattle.dunkafeto.specs.Told.{told, toldRun, toldColours, toldTiles}
+use Rattle.told.specs.Packed.{packed, told}
+use Rattle.dunkafeto.specs.Told.{toldRun, toldColours, toldTiles}
 use Rattle.dunkafeto.proofs.Few.{draws-few}
 
 -- ---- calls that make no draw: the number alone is the answer
@@ -26,9 +27,9 @@ tiles-told number h x e = ap (λ (k : ℕ). told k h) (sym (zero-add number)) �
 
 -- ---- advance
 module _ (size : ℕ) (K : Course) (m : Memory) (a number draws : ℕ) (after : Memory) (e : outcome number draws after ≡ advanceCall size K m a) where
-  pub advance-told : told (draws * 256 + number) after ≡ toldRun (advanceCall size K m a)
+  pub advance-told : (answer : ℕ) → answer ≡ packed number draws → told answer after ≡ toldRun (advanceCall size K m a)
   unfolding toldRun
-  advance-told = ap toldRun e
+  advance-told answer f = ap (λ (k : ℕ). told k after) f ∙ ap toldRun e
 
-  pub few : draws ≤ 81950
-  few = subst (λ (x : Outcome). x .drew ≤ 81950) (sym e) (draws-few size K m a)
+  pub few : draws ≤ 0xffff_ffff
+  few = omega (arith, subst (λ (x : Outcome). x .drew ≤ 81950) (sym e) (draws-few size K m a))

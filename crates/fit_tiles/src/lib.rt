@@ -77,8 +77,7 @@ fn put_tiles(
     while i < t {
         let found = tile_found(s, c, t, weight, tiles, colours, counts, palette, hints, i);
         q = fit_lines::put_tile(out, q, i as u32, found.sub, found.bits);
-        let k = found.sub as usize;
-        loads[k] += 1;
+        fit_count::count_tile(loads, found.sub);
         i += 1;
     }
     q

@@ -1,14 +1,19 @@
--- A job and a palette that passed the checks of a call without samples can be asked for fits. Assumes nothing.
+-- A job and a palette that passed the checks of a call without samples can be asked for fits; with one tile, of that tile. Assumes nothing.
 use Prim.Native.Nat.{ℕ, _≤_}
+use mathlib.Core.Path.{_≡_, sym, _∙_}
 use mathlib.Core.Bool.{Bool}
 use mathlib.Core.List.{List}
 use native.Mathlib.Nat.{le-refl}
 use native.Mathlib.Omega.{arith}
+use lib.Dec.{eqb}
 use lib.Ieee.{Float}
+use lib.ListN.{length}
+use borrow.Author.Tests.{eqb-true}
 use Rattle.color.proofs.Sizes.{bounded-wider}
 use Rattle.job.specs.Job.{Job}
 use Rattle.job.specs.Gives.{Plain}
-use Rattle.palette_tile.specs.Tiles.{Shown}
+use Rattle.palette_tile.specs.Tiles.{Shown, Paired}
+use Rattle.fits_check.specs.One.{oneAnswer}
 use Rattle.fits_check.proofs.Passes.{one-tile, one-plain}
 
 -- the whole palette is present
@@ -25,3 +30,16 @@ shown size J palette room z P =
       room = P .lent .room;
       near = bounded-wider palette 2 4 (omega arith) (P .lent .near);
     }
+
+-- what an answer of 0 to a call with one tile gives
+module _ (size : ℕ) (J : Job) (palette : List Float) (n : ℕ) (a : ℕ) (e : a ≡ oneAnswer size J palette n) (z : a ≡ 0) where
+  answered : oneAnswer size J palette n ≡ 0
+  answered = sym e ∙ z
+
+  pub one-paired : size ≤ 256 → (hints : List ℕ) → length hints ≡ n → Paired J palette (J .S) (J .C) hints 0
+  one-paired s hints l =
+      record {
+        shown = shown size J palette (eqb n (J .T)) s (one-plain size J palette n answered);
+        tile = omega (arith, one-tile size J palette n answered);
+        each = l ∙ eqb-true n (J .T) (one-plain size J palette n answered .roomy);
+      }

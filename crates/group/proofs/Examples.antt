@@ -8,8 +8,9 @@ use Rattle.job.specs.Checks.{within}
 use Rattle.group_pixels.specs.declared.Zero.the-variants.{Given, Absent}
 use Rattle.group_pixels.specs.Pixel.{isZero, kept, sameBytes, inGamut, sameBits, clash}
 use Rattle.group.specs.declared.Grouped.the-variants.{Done}
-use Rattle.group_refusal.specs.Refusal.{given, Lent, lent, some, firstOf, fault, sized, refusal}
-use Rattle.group.specs.Group.{outcome, join, place, entries, indexes, bytesOf, oklabOf, countsOf, left, grouping}
+use Rattle.group_refusal.specs.Refusal.{given, Lent, lent, some, firstOf, fault, lengthsFit, refusalWhere, refusal}
+use Rattle.group_fill.specs.Entries.{join, place, entries, indexes, bytesOf, oklabOf, countsOf, left}
+use Rattle.group.specs.Group.{outcome, grouping}
 
 -- pixels, four bytes each
 abbrev red : List ℕ
@@ -45,34 +46,34 @@ room n = lent (replicate (4 * n) 9) (replicate (3 * n) nan) (replicate n 9) (rep
 -- red, clear, blue, red: the clear pixel leaves its place, and the rest of the room stays as found
 pub two-entries : grouping 64 (given 4 (red ++ clear ++ blue ++ red) (half ++ outside ++ edge ++ half) Absent) (room 4)
     ≡ outcome (Done 2) (lent (red ++ blue ++ replicate 8 9) (half ++ edge ++ replicate 6 nan) (2 ∷ 1 ∷ 9 ∷ 9 ∷ []) (0 ∷ 9 ∷ 1 ∷ 0 ∷ []))
-unfolding isZero kept sameBytes join place entries indexes bytesOf oklabOf countsOf left within inGamut sameBits clash some firstOf fault sized refusal grouping le neg ofBits toBits
+unfolding isZero kept sameBytes join place entries indexes bytesOf oklabOf countsOf left within inGamut sameBits clash some firstOf fault lengthsFit refusalWhere grouping le neg ofBits toBits
 two-entries = refl
 
 -- with red as colour zero, blue alone is kept, whatever the Oklab of the others
 pub one-entry : grouping 64 (given 3 (red ++ blue ++ red) (half ++ half ++ other) (Given 255 0 0)) (room 3)
     ≡ outcome (Done 1) (lent (blue ++ replicate 8 9) (half ++ replicate 6 nan) (1 ∷ 9 ∷ 9 ∷ []) (9 ∷ 0 ∷ 9 ∷ []))
-unfolding isZero kept sameBytes join place entries indexes bytesOf oklabOf countsOf left within inGamut sameBits clash some firstOf fault sized refusal grouping le neg ofBits toBits
+unfolding isZero kept sameBytes join place entries indexes bytesOf oklabOf countsOf left within inGamut sameBits clash some firstOf fault lengthsFit refusalWhere grouping le neg ofBits toBits
 one-entry = refl
 
 -- no pixel is accepted
 pub none : grouping 64 (given 0 [] [] Absent) (room 0) ≡ outcome (Done 0) (room 0)
-unfolding entries indexes bytesOf oklabOf countsOf left firstOf sized refusal grouping
+unfolding entries indexes bytesOf oklabOf countsOf left firstOf lengthsFit refusalWhere grouping
 none = refl
 
 pub too-many : refusal 64 (given 65 [] [] Absent) (room 65) ≡ 2
-unfolding refusal
+unfolding refusalWhere
 too-many = refl
 
 pub too-short : refusal 64 (given 1 red half Absent) (room 0) ≡ 3
-unfolding sized refusal
+unfolding lengthsFit refusalWhere
 too-short = refl
 
 -- 0 and -0 are different bits
 pub other-bits : refusal 64 (given 2 (red ++ red) (half ++ other) Absent) (room 2) ≡ 14
-unfolding isZero kept sameBytes within inGamut sameBits clash some firstOf fault sized refusal le neg ofBits toBits
+unfolding isZero kept sameBytes within inGamut sameBits clash some firstOf fault lengthsFit refusalWhere le neg ofBits toBits
 other-bits = refl
 
 -- the pixel that is outside differs from the first as well: 7 comes before 14
 pub seven-first : refusal 64 (given 2 (red ++ red) (half ++ outside) Absent) (room 2) ≡ 7
-unfolding isZero kept sameBytes within inGamut sameBits clash some firstOf fault sized refusal le neg ofBits toBits
+unfolding isZero kept sameBytes within inGamut sameBits clash some firstOf fault lengthsFit refusalWhere le neg ofBits toBits
 seven-first = refl

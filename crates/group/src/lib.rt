@@ -1,50 +1,14 @@
 // Grouping, from `extract` of the Rust: the kept pixels of a tile become entries, one for each colour, with a count of their pixels.
 // What the first pass did not refuse, a second one fills into the room that the caller lends.
 ghost use mathlib.Core.Path.{_≡_};
-ghost use mathlib.Core.Bool.{true};
-ghost use Prim.Native.Nat.{_<_};
 ghost use Rattle.job.specs.Job.{tileSize};
-ghost use Rattle.group_refusal.specs.Refusal.{given, lent, sized};
-ghost use Rattle.group_turn.specs.Turn.{filled};
-ghost use Rattle.group.specs.Group.{fillTo, outcome, grouping};
+ghost use Rattle.group_refusal.specs.Refusal.{given, lent};
+ghost use Rattle.group.specs.Group.{outcome, grouping};
 
 // The number of entries written, or the number of the refusal.
 pub enum Grouped {
     Done(usize),
     Refused(u32),
-}
-
-// The second pass, on pixels that passed the first. The number of entries.
-fn fill(
-    p: usize,
-    pixels: &[u8],
-    oklab: &[f32],
-    zero: group_pixels::Zero,
-    entry_bytes: &mut [u8],
-    entry_oklab: &mut [f32],
-    entry_counts: &mut [u32],
-    index: &mut [u32],
-) -> usize
-    requires { ⌜ (p < 4294967296) × (sized (given p (now pixels) (now oklab) zero) (lent (now «entry_bytes») (now «entry_oklab») (now «entry_counts») (now index)) ≡ true) ⌝ }
-    ensures { λ r. ⌜ filled r (lent (now («entry_bytes» .exit)) (now («entry_oklab» .exit)) (now («entry_counts» .exit)) (now (index .exit))) ≡ fillTo (given p (now (pixels .entry)) (now (oklab .entry)) zero) p (lent (now («entry_bytes» .entry)) (now («entry_oklab» .entry)) (now («entry_counts» .entry)) (now (index .entry))) ⌝ }
-{
-    let mut n = 0usize;
-    let mut k = 0usize;
-    while k < p {
-        n = group_turn::settle(
-            k,
-            n,
-            pixels,
-            oklab,
-            zero,
-            entry_bytes,
-            entry_oklab,
-            entry_counts,
-            index,
-        );
-        k += 1;
-    }
-    n
 }
 
 // Groups p pixels, four bytes and three numbers of Oklab each, into the lent room: 4p bytes, 3p numbers, p counts, p indexes.
@@ -66,15 +30,15 @@ pub fn group(
         pixels,
         oklab,
         zero,
-        entry_bytes,
-        entry_oklab,
-        entry_counts,
-        index,
+        entry_bytes.len(),
+        entry_oklab.len(),
+        entry_counts.len(),
+        index.len(),
     );
     if number != 0 {
         return Grouped::Refused(number);
     }
-    Grouped::Done(fill(
+    Grouped::Done(group_fill::fill(
         p,
         pixels,
         oklab,

@@ -1,93 +1,68 @@
-// The first pass of grouping, over shared slices: 0, or the number of the refusal. So a refusal writes nothing.
+// The first pass of grouping, over shared slices and the lengths of lent ones: 0, or the number of the refusal. So a refusal writes nothing.
 ghost use mathlib.Core.Path.{_≡_};
-ghost use Prim.Native.Nat.{ℕ, _+_, _*_, _<_};
+ghost use Prim.Native.Nat.{_<_};
 ghost use lib.ListN.{length};
-ghost use Rattle.group_pixels.specs.Pixel.{There, Kept};
-ghost use Rattle.group_refusal.specs.Refusal.{given, lent, clashes, fault, firstOf, Real, refusal};
+ghost use Rattle.group_refusal.specs.Refusal.{given, lengthsFit, refusalWhere};
 
-// Whether kept pixel k clashes with one before it.
-fn clashes(pixels: &[u8], oklab: &[f32], zero: group_pixels::Zero, k: usize) -> bool
-    requires { ⌜ Real (now pixels) (now oklab) zero k × Kept (now pixels) (now oklab) zero k ⌝ }
-    ensures { λ r. ⌜ r ≡ clashes (now (pixels .entry)) (now (oklab .entry)) k ⌝ }
+// Whether every slice has the length that p implies.
+fn is_sized(
+    p: usize,
+    pixels: usize,
+    oklab: usize,
+    entry_bytes: usize,
+    entry_oklab: usize,
+    entry_counts: usize,
+    index: usize,
+) -> bool
+    requires { ⌜ p < 4294967296 ⌝ }
+    ensures { λ r. ⌜ r ≡ lengthsFit p pixels oklab «entry_bytes» «entry_oklab» «entry_counts» index ⌝ }
 {
-    let mut i = 0usize;
-    while i < k {
-        if group_pixels::clash(pixels, oklab, zero, i, k) {
-            return true;
-        }
-        i += 1;
+    if pixels != 4 * p {
+        return false;
     }
-    false
+    if oklab != 3 * p {
+        return false;
+    }
+    if entry_bytes != 4 * p {
+        return false;
+    }
+    if entry_oklab != 3 * p {
+        return false;
+    }
+    if entry_counts != p {
+        return false;
+    }
+    index == p
 }
 
-// 0, or what is wrong with pixel k: 7 for its Oklab, 14 for an earlier pixel's.
-fn fault(pixels: &[u8], oklab: &[f32], zero: group_pixels::Zero, k: usize) -> u32
-    requires { ⌜ There (now pixels) (now oklab) k × Real (now pixels) (now oklab) zero k ⌝ }
-    ensures { λ r. ⌜ r ≡ fault (now (pixels .entry)) (now (oklab .entry)) zero k ⌝ }
-{
-    if !group_pixels::is_kept(zero, group_pixels::rgba_at(pixels, k)) {
-        return 0;
-    }
-    if !group_pixels::in_gamut(color::colour(oklab, k)) {
-        return 7;
-    }
-    if clashes(pixels, oklab, zero, k) {
-        return 14;
-    }
-    0
-}
-
-// The first pixel's fault, or 0.
-fn first_fault(p: usize, pixels: &[u8], oklab: &[f32], zero: group_pixels::Zero) -> u32
-    requires { ⌜ (length (now pixels) ≡ 4 * p) × (length (now oklab) ≡ 3 * p) ⌝ }
-    ensures { λ r. ⌜ r ≡ firstOf (fault (now (pixels .entry)) (now (oklab .entry)) zero) 0 p ⌝ }
-{
-    let mut k = 0usize;
-    while k < p {
-        let n = fault(pixels, oklab, zero, k);
-        if n != 0 {
-            return n;
-        }
-        k += 1;
-    }
-    0
-}
-
-// 0 where these pixels can be grouped in this room, else the number of the refusal.
+// 0 where these pixels can be grouped in room of these lengths, else the number of the refusal.
 pub fn refuses(
     size: usize,
     p: usize,
     pixels: &[u8],
     oklab: &[f32],
     zero: group_pixels::Zero,
-    entry_bytes: &[u8],
-    entry_oklab: &[f32],
-    entry_counts: &[u32],
-    index: &[u32],
+    entry_bytes: usize,
+    entry_oklab: usize,
+    entry_counts: usize,
+    index: usize,
 ) -> u32
     requires { ⌜ size < 4294967296 ⌝ }
-    ensures { λ r. ⌜ r ≡ refusal size (given p (now (pixels .entry)) (now (oklab .entry)) zero) (lent (now («entry_bytes» .entry)) (now («entry_oklab» .entry)) (now («entry_counts» .entry)) (now (index .entry))) ⌝ }
+    ensures { λ r. ⌜ r ≡ refusalWhere size (given p (now (pixels .entry)) (now (oklab .entry)) zero) (lengthsFit p (length (now (pixels .entry))) (length (now (oklab .entry))) «entry_bytes» «entry_oklab» «entry_counts» index) ⌝ }
 {
     if p > size {
         return 2;
     }
-    if pixels.len() != 4 * p {
+    if !is_sized(
+        p,
+        pixels.len(),
+        oklab.len(),
+        entry_bytes,
+        entry_oklab,
+        entry_counts,
+        index,
+    ) {
         return 3;
     }
-    if oklab.len() != 3 * p {
-        return 3;
-    }
-    if entry_bytes.len() != 4 * p {
-        return 3;
-    }
-    if entry_oklab.len() != 3 * p {
-        return 3;
-    }
-    if entry_counts.len() != p {
-        return 3;
-    }
-    if index.len() != p {
-        return 3;
-    }
-    first_fault(p, pixels, oklab, zero)
+    group_faults::first_fault(p, pixels, oklab, zero)
 }

@@ -15,7 +15,7 @@ use Rattle.group_pixels.specs.declared.Rgba.{Rgba}
 use Rattle.group_pixels.specs.declared.Zero.{Zero}
 use Rattle.group_pixels.specs.Pixel.{rgbaAt, putRgba, kept, sameBytes}
 use Rattle.group_refusal.specs.Refusal.{Lent, lent}
-use Rattle.group_refusal.proofs.Passes.{one-more, told}
+use Rattle.group_faults.proofs.Passes.{one-more, told}
 use Rattle.group_turn.specs.Turn.{seek, filled, turn}
 
 -- ---- the search among the entries

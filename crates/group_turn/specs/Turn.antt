@@ -1,4 +1,4 @@
--- Grouping as the code goes, one pixel a turn, on flat lists; the crate group ties it to entries. Definitions only. Assumes nothing.
+-- Grouping as the code goes, one pixel a turn, on flat lists; the crate group_fill ties it to entries. Definitions only. Assumes nothing.
 use mathlib.Core.Bool.{cond}
 use mathlib.Core.List.{List}
 use Prim.Native.Nat.{ℕ, zero, suc, _+_, _*_, _<_, _≤_}

@@ -12,7 +12,7 @@ fn position(n: usize, entry_bytes: &[u8], x: group_pixels::Rgba) -> usize
 {
     let mut e = 0usize;
     while e < n {
-        if group_pixels::same_bytes(group_pixels::rgba_at(entry_bytes, e), x) {
+        if group_pixels::same_bytes(group_clash::rgba_at(entry_bytes, e), x) {
             return e;
         }
         e += 1;
@@ -35,7 +35,7 @@ pub fn settle(
     requires { ⌜ Roomy k n (now pixels) (now oklab) (lent (now «entry_bytes») (now «entry_oklab») (now «entry_counts») (now index)) ⌝ }
     ensures { λ r. ⌜ filled r (lent (now («entry_bytes» .exit)) (now («entry_oklab» .exit)) (now («entry_counts» .exit)) (now (index .exit))) ≡ turn (now (pixels .entry)) (now (oklab .entry)) zero k (filled n (lent (now («entry_bytes» .entry)) (now («entry_oklab» .entry)) (now («entry_counts» .entry)) (now (index .entry)))) ⌝ }
 {
-    let x = group_pixels::rgba_at(pixels, k);
+    let x = group_clash::rgba_at(pixels, k);
     if !group_pixels::is_kept(zero, x) {
         return n;
     }
@@ -45,7 +45,7 @@ pub fn settle(
         entry_counts[e] += 1;
         return n;
     }
-    group_pixels::put_rgba(entry_bytes, n, x);
+    group_clash::put_rgba(entry_bytes, n, x);
     color::put(entry_oklab, n, color::colour(oklab, k));
     entry_counts[n] = 1;
     n + 1

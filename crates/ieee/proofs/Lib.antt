@@ -1,8 +1,4 @@
--- Why the conversion by bits is the conversion. Assumes nothing.
-pub mod Rounds
-pub mod Packs
-pub mod Bands
-pub mod Fields
+-- Laws of rounding, of the arithmetic and of the order, over the format. Assumes nothing.
 pub mod Rings
 pub mod Goods
 pub mod Plus

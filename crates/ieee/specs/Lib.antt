@@ -1,3 +1,3 @@
--- IEEE 754 arithmetic and order: Terms and Narrow define, the others are laws, over the format. Assumes nothing.
+-- What the laws of IEEE 754 speak of, and the conversion of an f64 to an f32. Definitions only. Assumes nothing.
 pub mod Terms
 pub mod Narrow

@@ -24,7 +24,7 @@ fn check_form(
     if a != 0 {
         return a;
     }
-    let b = job_rules::check_shapes(t, tiles, colours, counts);
+    let b = job_shapes::check_shapes(t, tiles, colours, counts);
     if b != 0 {
         return b;
     }
@@ -60,7 +60,7 @@ pub fn check_job(
     if b != 0 {
         return b;
     }
-    job_rules::check_near(palette, colours)
+    job_shapes::check_near(palette, colours)
 }
 
 // Numbers 2, 3 and 1 of a call with n samples.
@@ -84,7 +84,7 @@ fn check_sampled_form(
     if n > MOST_SAMPLES {
         return 2;
     }
-    let b = job_rules::check_shapes(t, tiles, colours, counts);
+    let b = job_shapes::check_shapes(t, tiles, colours, counts);
     if b != 0 {
         return b;
     }

@@ -1,5 +1,4 @@
-pub mod Steps
-pub mod Turns
+mod Steps
 pub mod Sums
 pub mod Parts
 pub mod Example

@@ -1,81 +1,15 @@
--- The code's loops follow the definitions: one colour more, at `i + 1` and `k + 1`. Assumes nothing.
-use Prim.Native.Nat.{ℕ, _+_, _*_, _/_, _<_}
-use mathlib.Core.Path.{_≡_, ap, sym, subst⁻¹, _∙_}
+-- The walk over the colours follows the definition: one colour more, at `i + 1`. Assumes nothing.
+use Prim.Native.Nat.{ℕ, _+_}
+use mathlib.Core.Path.{_≡_, ap, _∙_}
 use mathlib.Core.List.{List}
-use native.Mathlib.Numerals.{add-one}
-use native.Mathlib.Omega.{arith}
-use lib.ListN.{getD, length}
-use lib.IntN.{pos}
-use lib.Ieee.{Float, binary32, add, mul, ofInt}
-use Rattle.ieee.specs.Terms.{Good}
+use lib.Ieee.{Float}
 use Rattle.color.specs.declared.Oklab.{Oklab}
-use Rattle.color.specs.Color.{sqdistOf, colourAt, Real}
+use Rattle.color.specs.Color.{sqdistOf, colourAt}
 use Rattle.stats.specs.declared.Near.{Near}
 use Rattle.stats.specs.Stats.{stepNear, leastOf}
 use Rattle.stats.proofs.Steps.{near-more}
-use Rattle.choice.specs.Lesser.{lesserOf}
-use Rattle.choice.proofs.Lesser.{least-more, Lanes, lanes-more}
-use Rattle.palette.specs.Palette.{Tile, gap, nearestOf, termOf, totalOf, Clear, Measured}
-use Rattle.palette.proofs.Sums.{gap-good, tile-real}
+use Rattle.palette.specs.Palette.{gap}
 
 pub nearest-step : (s : List Float) (q : Oklab) (w : Float) (i : ℕ) (b r : Near) (p : Oklab) (d : Float) → b ≡ leastOf (gap s q w) i → p ≡ colourAt s i → d ≡ sqdistOf p q w → r ≡ stepNear b i d → r ≡ leastOf (gap s q w) (i + 1)
 unfolding gap
 nearest-step s q w i b r p d h g e f = near-more (gap s q w) i b r d h (e ∙ ap (λ (x : Oklab). sqdistOf x q w) g) f
-
-module _ (s : List Float) (X : Tile) (w : Float) (k : ℕ) where
-  pub total-step : (x : Float) (q : Oklab) (d : Float) → x ≡ totalOf s X w k → q ≡ colourAt (X .colours) k → d ≡ nearestOf s q w .dist
-      → add binary32 x (mul binary32 d (ofInt binary32 (pos (getD (X .counts) k 0)))) ≡ totalOf s X w (k + 1)
-  unfolding totalOf
-  total-step x q d h g e =
-      ap (λ (y : Float). add binary32 y (mul binary32 d (ofInt binary32 (pos (getD (X .counts) k 0))))) h
-      ∙ ap (λ (y : Float). add binary32 (totalOf s X w k) (mul binary32 y (ofInt binary32 (pos (getD (X .counts) k 0))))) (e ∙ ap (λ (y : Oklab). nearestOf s y w .dist) g)
-      ∙ sym (ap (totalOf s X w) (add-one k))
-
--- ---- the nearest distance
-pub gap-is : (s : List Float) (q : Oklab) (w : Float) (i : ℕ) (p : Oklab) (d : Float) → p ≡ colourAt s i → d ≡ sqdistOf p q w → d ≡ gap s q w i
-unfolding gap
-gap-is s q w i p d g e = e ∙ ap (λ (x : Oklab). sqdistOf x q w) g
-
-pub least-end : (d : ℕ → Float) (i n : ℕ) (m : Float) → m ≡ leastOf d i .dist → i ≡ n → m ≡ leastOf d n .dist
-least-end d i n m h e = h ∙ ap (λ (j : ℕ). leastOf d j .dist) e
-
-module _ (s : List Float) (q : Oklab) (w : Float) where
-  pub least-step : (i : ℕ) (m d r : Float) → m ≡ leastOf (gap s q w) i .dist → d ≡ gap s q w i → r ≡ lesserOf d m → r ≡ leastOf (gap s q w) (i + 1) .dist
-  least-step i m d r h e f =
-      f ∙ ap (λ (x : Float). lesserOf x m) e ∙ ap (lesserOf (gap s q w i)) h ∙ sym (least-more (gap s q w) i) ∙ sym (ap (λ (n : ℕ). leastOf (gap s q w) n .dist) (add-one i))
-
-  -- four colours more, one in each lane
-  pub fours-step : Clear s q w → (k : ℕ) → k < length s / 12 → (a b c e x y z u a' b' c' e' : Float) → Lanes (gap s q w) (4 * k) a b c e
-      → x ≡ gap s q w (4 * k) → y ≡ gap s q w (4 * k + 1) → z ≡ gap s q w (4 * k + 2) → u ≡ gap s q w (4 * k + 3)
-      → a' ≡ lesserOf x a → b' ≡ lesserOf y b → c' ≡ lesserOf z c → e' ≡ lesserOf u e → Lanes (gap s q w) (4 * (k + 1)) a' b' c' e'
-  fours-step C k l a b c e x y z u a' b' c' e' L p p1 p2 p3 r r1 r2 r3 =
-      subst⁻¹ (λ (v : Float). Lanes d n v b' c' e') r
-      (subst⁻¹ (λ (v : Float). Lanes d n (lesserOf x a) v c' e') r1
-      (subst⁻¹ (λ (v : Float). Lanes d n (lesserOf x a) (lesserOf y b) v e') r2
-      (subst⁻¹ (λ (v : Float). Lanes d n (lesserOf x a) (lesserOf y b) (lesserOf z c) v) r3
-      (lanes-more d k a b c e L x y z u (good x (4 * k) (there (length s) k l) p) (good y (4 * k + 1) (there1 (length s) k l) p1) (good z (4 * k + 2) (there2 (length s) k l) p2) (good u (4 * k + 3) (there3 (length s) k l) p3) p p1 p2 p3))))
-    where
-      d : ℕ → Float
-      d = gap s q w
-
-      n : ℕ
-      n = 4 * (k + 1)
-
-      good : (v : Float) (i : ℕ) → i < length s / 3 → v ≡ gap s q w i → Good binary32 v
-      good v i h e = subst⁻¹ (Good binary32) e (gap-good s w (C .sub) (C .weight) q (C .colour) i h)
-
-      there : (m k : ℕ) → k < m / 12 → 4 * k < m / 3
-      there m k h = omega arith
-
-      there1 : (m k : ℕ) → k < m / 12 → 4 * k + 1 < m / 3
-      there1 m k h = omega arith
-
-      there2 : (m k : ℕ) → k < m / 12 → 4 * k + 2 < m / 3
-      there2 m k h = omega arith
-
-      there3 : (m k : ℕ) → k < m / 12 → 4 * k + 3 < m / 3
-      there3 m k h = omega arith
-
--- what the nearest distance asks, of a tile's colour k
-pub walk-asks : (s : List Float) (X : Tile) (w : Float) → Measured s X w → (k : ℕ) → k < length (X .counts) → (q : Oklab) → q ≡ colourAt (X .colours) k → Clear s q w
-walk-asks s X w W k l q e = record { sub = W .sub; colour = subst⁻¹ Real e (tile-real s w (W .sub) (W .weight) X (W .tile) k l); weight = W .weight }

@@ -1,27 +1,14 @@
 -- The writes of this crate's functions follow the definitions. Assumes nothing.
-use Prim.Native.Nat.{ℕ, _+_, _*_, _≤_, _<_}
+use Prim.Native.Nat.{ℕ}
 use mathlib.Core.Path.{_≡_, ap, _∙_}
 use mathlib.Core.List.{List}
-use native.Mathlib.Omega.{arith}
-use lib.ListN.{getD, length, set}
-use lib.Seq.{paste}
-use lib.Ieee.{Float, nan}
-use Rattle.lists.proofs.Copies.{copy-more, copy-done}
+use lib.Ieee.{Float}
 use Rattle.color.specs.declared.Oklab.{Oklab}
 use Rattle.color.specs.Color.{colourAt, putAt}
-use Rattle.palette.specs.Palette.{subOf}
-use Rattle.palette_edit.specs.Edits.{nudged, nudgedAt, placeOf, colourCopied, subCopied}
+use Rattle.palette_edit.specs.Edits.{nudged, nudgedAt, placeOf, colourCopied}
 
 pub put-nudged : (pal after : List Float) (place : ℕ) (t : Oklab) (alpha : Float) (c x : Oklab) → c ≡ colourAt pal place → x ≡ nudged alpha c t → after ≡ putAt pal place x → after ≡ nudgedAt pal place t alpha
 put-nudged pal after place t alpha c x e f g = g ∙ ap (putAt pal place) (f ∙ ap (λ (y : Oklab). nudged alpha y t) e)
 
 pub put-copied : (pal after : List Float) (c i from to : ℕ) (x : Oklab) → x ≡ colourAt pal (placeOf c i from) → after ≡ putAt pal (placeOf c i to) x → after ≡ colourCopied pal c i from to
 put-copied pal after c i from to x e g = g ∙ ap (putAt pal (placeOf c i to)) e
-
-module _ (pal : List Float) (c have from to : ℕ) (H : have ≤ c) (F : from * (3 * c) + 3 * c ≤ length pal) (G : to * (3 * c) + 3 * c ≤ length pal) where
-  pub copy-turn : (l : List Float) (j : ℕ) → j < 3 * have → l ≡ paste pal (to * (3 * c)) (subOf pal c have from) j
-      → set l (to * (3 * c) + j) (getD l (from * (3 * c) + j) nan) ≡ paste pal (to * (3 * c)) (subOf pal c have from) (j + 1)
-  copy-turn l j h e = copy-more nan pal (3 * c) (3 * have) from to (omega arith) (omega arith) (omega arith) l j h e
-
-  pub copy-end : (l : List Float) (j : ℕ) → j ≤ 3 * have → 3 * have ≤ j → l ≡ paste pal (to * (3 * c)) (subOf pal c have from) j → l ≡ subCopied pal c have from to
-  copy-end l j p q e = copy-done nan pal (3 * c) (3 * have) from to (omega arith) (omega arith) (omega arith) l j p q e

@@ -27,7 +27,7 @@ pub fn tile_fit(
 {
     let tile = job::tile_part(tiles, colours, i);
     let part = job::counts_part(tiles, counts, i);
-    palette::best_fit(pal, c, have, n, tile, part, weight, hints, i)
+    palette_hint::best_fit(pal, c, have, n, tile, part, weight, hints, i)
 }
 
 // The best two for tile i, which may be empty.
@@ -50,5 +50,5 @@ pub fn tile_two(
 {
     let tile = job::tile_part(tiles, colours, i);
     let part = job::counts_part(tiles, counts, i);
-    palette_two::best_two(pal, c, have, n, tile, part, weight, hints, i)
+    palette_hint::best_two(pal, c, have, n, tile, part, weight, hints, i)
 }

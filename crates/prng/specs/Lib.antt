@@ -1,3 +1,2 @@
--- Definitions (SplitMix, Shuffle), the public vectors, and what a shuffle keeps. Assumes nothing.
-pub mod SplitMix
+-- The shuffle that SplitMix64 drives. Definitions only. Assumes nothing.
 pub mod Shuffle

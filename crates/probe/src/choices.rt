@@ -1,4 +1,4 @@
-// Forwarders to stats, and to the narrowing of ieee. Assumes of callers what each callee requires.
+// Forwarders to stats, and to narrow. Assumes of callers what each callee requires.
 ghost use mathlib.Core.Bool.{not};
 ghost use lib.Dec.{T};
 ghost use lib.Ieee.{isNan};
@@ -9,7 +9,7 @@ ghost use Rattle.stats.specs.Stats.{valueAt, NoNan};
 pub extern "C" fn probe_narrow(x: f64) -> f32
     requires { ⌜ T (not (isNan x)) ⌝ }
 {
-    ieee::narrow(x)
+    narrow::narrow(x)
 }
 
 #[no_mangle]

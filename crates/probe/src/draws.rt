@@ -1,8 +1,8 @@
-// Forwarders to prng and cycle. Assumes of callers what each callee requires.
+// Forwarders to prng and sample_cycle. Assumes of callers what each callee requires.
 ghost use Prim.Native.Nat.{_+_, _^_, _<_, _≤_};
 ghost use lib.ListN.{length};
-use cycle::SampleCycle;
 use prng::Prng;
+use sample_cycle::SampleCycle;
 
 // Gives the output, and in `after` the state after it.
 #[no_mangle]
@@ -24,7 +24,7 @@ pub extern "C" fn probe_shuffle(state: u64, items: &mut [u32]) -> u64 {
 pub extern "C" fn probe_base_iterations(n: usize) -> usize
     requires { ⌜ n ≤ 16384 ⌝ }
 {
-    cycle::base_iterations(n)
+    sample_cycle::base_iterations(n)
 }
 
 // Writes the first order; gives the generator's state.

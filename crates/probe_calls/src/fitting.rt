@@ -1,7 +1,7 @@
-// Forwarders to the single fit, `best_two` and assign. Assumes nothing.
+// Forwarders to the single fit and `best_two`. Assumes nothing.
 // Each gives the number; what else there is to give goes through the references, which stay on a refusal.
-use fits::Pair;
-use fits::Single;
+use fits_outcome::Pair;
+use fits_outcome::Single;
 
 #[no_mangle]
 pub extern "C" fn probe_single_fit(
@@ -42,7 +42,7 @@ pub extern "C" fn probe_public_best_two(
     dist: &mut f32,
     second: &mut f32,
 ) -> u32 {
-    match fits::best_two(s, c, t, weight, tiles, colours, counts, palette, hints) {
+    match fits_two::best_two(s, c, t, weight, tiles, colours, counts, palette, hints) {
         Pair::Best(two) => {
             *index = two.index;
             *dist = two.dist;
@@ -51,20 +51,4 @@ pub extern "C" fn probe_public_best_two(
         }
         Pair::Refused(number) => number,
     }
-}
-
-#[no_mangle]
-pub extern "C" fn probe_assign(
-    s: usize,
-    c: usize,
-    t: usize,
-    weight: f32,
-    tiles: &[u32],
-    colours: &[f32],
-    counts: &[u32],
-    palette: &[f32],
-    hints: &mut [u32],
-    out: &mut [u32],
-) -> u32 {
-    assign::assign(s, c, t, weight, tiles, colours, counts, palette, hints, out)
 }

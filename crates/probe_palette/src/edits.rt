@@ -1,4 +1,4 @@
-// Forwarders to palette_edit. Assumes of callers what each callee requires.
+// Forwarders to palette_edit and palette_copy. Assumes of callers what each callee requires.
 ghost use Prim.Native.Nat.{_+_, _*_, _≤_, _<_};
 ghost use lib.ListN.{length};
 use color::Oklab;
@@ -40,7 +40,7 @@ pub extern "C" fn probe_copy_subpalette(
 )
     requires { ⌜ (have ≤ c) × ((from * (3 * c) + 3 * c ≤ length (now pal)) × (to * (3 * c) + 3 * c ≤ length (now pal))) ⌝ }
 {
-    palette_edit::copy_subpalette(pal, c, have, from, to)
+    palette_copy::copy_subpalette(pal, c, have, from, to)
 }
 
 #[no_mangle]
@@ -53,5 +53,5 @@ pub extern "C" fn probe_duplicate_palette(
 )
     requires { ⌜ (have ≤ c) × ((from * (3 * c) + 3 * c ≤ length (now pal)) × (n * (3 * c) + 3 * c ≤ length (now pal))) ⌝ }
 {
-    palette_edit::duplicate_palette(pal, c, have, n, from)
+    palette_copy::duplicate_palette(pal, c, have, n, from)
 }

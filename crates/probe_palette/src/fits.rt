@@ -1,4 +1,4 @@
-// Forwarders to palette, palette_two and view. Assumes of callers what each callee requires.
+// Forwarders to palettes' fits and view. Assumes of callers what each callee requires.
 ghost use Prim.Native.Nat.{_≤_};
 ghost use lib.ListN.{length};
 ghost use Rattle.palette.specs.Palette.{paletteWith, tileWith, Measured, Fits, Hinted};
@@ -22,7 +22,7 @@ pub extern "C" fn probe_nearest(
 pub extern "C" fn probe_tile_distance(sub: &[f32], tile: &[f32], counts: &[u32], weight: f32) -> f32
     requires { ⌜ Measured (now sub) (tileWith (now tile) (now counts)) weight ⌝ }
 {
-    palette::tile_distance(sub, tile, counts, weight)
+    palette_distance::tile_distance(sub, tile, counts, weight)
 }
 
 #[no_mangle]
@@ -40,7 +40,7 @@ pub extern "C" fn probe_best_fit(
 ) -> usize
     requires { ⌜ Fits (paletteWith (now pal) c have n) (tileWith (now tile) (now counts)) weight × ((1 ≤ length (now counts)) × Hinted n (now hints) t) ⌝ }
 {
-    let near = palette::best_fit(pal, c, have, n, tile, counts, weight, hints, t);
+    let near = palette_hint::best_fit(pal, c, have, n, tile, counts, weight, hints, t);
     *dist = near.dist;
     near.index
 }
@@ -77,7 +77,7 @@ pub extern "C" fn probe_best_two(
 ) -> usize
     requires { ⌜ Fits (paletteWith (now pal) c have n) (tileWith (now tile) (now counts)) weight × Hinted n (now hints) t ⌝ }
 {
-    let two = palette_two::best_two(pal, c, have, n, tile, counts, weight, hints, t);
+    let two = palette_hint::best_two(pal, c, have, n, tile, counts, weight, hints, t);
     *dist = two.dist;
     *second = two.second;
     two.index

@@ -21,7 +21,7 @@ pub extern "C" fn probe_mse(
 ) -> f32
     requires { ⌜ Shown (job s c t weight (now tiles) (now colours) (now counts)) (now pal) n have × (length (now hints) ≡ t) ⌝ }
 {
-    mse::mse(s, c, t, weight, tiles, colours, counts, pal, n, have, hints)
+    mse_sum::mse(s, c, t, weight, tiles, colours, counts, pal, n, have, hints)
 }
 
 #[no_mangle]

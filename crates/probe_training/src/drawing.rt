@@ -4,8 +4,8 @@ ghost use Rattle.cycle.specs.Cycle.{cycle};
 ghost use Rattle.job.specs.Job.{job};
 ghost use Rattle.quantizer.specs.Course.{course};
 ghost use Rattle.quantizer_draw.specs.Draws.{Going};
-use cycle::SampleCycle;
 use prng::Prng;
+use sample_cycle::SampleCycle;
 
 // Gives the generator's state after the draw.
 #[no_mangle]

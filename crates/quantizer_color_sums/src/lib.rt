@@ -41,7 +41,7 @@ fn color_step(
     let sub = palette::part(pal, c, c, owner);
     let tile = job::tile_part(tiles, colours, i);
     let part = job::counts_part(tiles, counts, i);
-    quantizer_matches::for_each_match_two(sub, tile, part, weight, owner * c, total, second)
+    quantizer_matches_two::for_each_match_two(sub, tile, part, weight, owner * c, total, second)
 }
 
 // What each colour has, and what would be added without it, from the hints that palette_sums left.

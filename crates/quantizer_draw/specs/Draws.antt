@@ -1,5 +1,4 @@
--- A draw of sample i of a course, and what it asks: `subs` subpalettes of `have` colours are present.
--- Definitions only. Assumes nothing.
+-- What a draw asks: `subs` subpalettes of `have` colours are present. Definitions only. Assumes nothing.
 use Prim.Native.Nat.{ℕ, _+_, _^_, _<_}
 use mathlib.Core.Path.{_≡_}
 use mathlib.Core.List.{List}
@@ -7,24 +6,10 @@ use lib.ListN.{getD, length}
 use lib.Ieee.{Float}
 use Rattle.cycle.specs.Cycle.{Cycle}
 use Rattle.palette_tile.specs.Tiles.{Shown}
-use Rattle.quantizer.specs.Course.{Course, sampleTile, samplePlace}
-use Rattle.quantizer.specs.Drawing.{moved, movedHints}
+use Rattle.quantizer.specs.Course.{Course}
 use Rattle.quantizer_sample.specs.Samples.{Sampling}
 
-abbrev pub movedBy : Course → List Float → ℕ → ℕ → ℕ → Float → List Float
-movedBy K pal subs have i alpha = moved (K .job) pal subs have (sampleTile K i) (samplePlace K i) alpha
-
-abbrev pub hintsBy : Course → List Float → ℕ → ℕ → ℕ → List ℕ → List ℕ
-hintsBy K pal subs have i h = movedHints (K .job) pal subs have (sampleTile K i) h
-
--- a course that passed, its palette, a hint for each tile, and sample i
-pub record Drawing (K : Course) (pal : List Float) (subs have : ℕ) (hints : List ℕ) (i : ℕ) : Type 0 where
-  pub sampling : Sampling K
-  pub shown : Shown (K .job) pal subs have
-  pub each : length hints ≡ K .job .T
-  pub drawn : i < K .n
-
--- the same with an order of all samples, from which fewer than 2^64 - 1 draws were made
+-- a course that passed, its palette, a hint for each tile, and an order of all samples, from which fewer than 2^64 - 1 draws were made
 pub record Going (K : Course) (at : Cycle) (pal : List Float) (subs have : ℕ) (hints : List ℕ) : Type 0 where
   pub sampling : Sampling K
   pub shown : Shown (K .job) pal subs have

@@ -1,55 +1,13 @@
-// One draw: the colour nearest to a sample, in the subpalette that fits the sample's tile best, moves towards it; the tile's hint names that subpalette.
-// It is what the definitions in quantizer's specs/Drawing.antt say.
+// One draw: the next sample of the order nudges a colour.
+// It is what the definitions in cycle's specs/Cycle.antt and quantizer's specs/Drawing.antt say.
 ghost use mathlib.Core.Path.{_≡_};
 ghost use Rattle.prng.specs.Shuffle.{deck};
 ghost use Rattle.cycle.specs.Cycle.{cycle, drawOne};
 ghost use Rattle.job.specs.Job.{job};
 ghost use Rattle.quantizer.specs.Course.{course};
-ghost use Rattle.quantizer_draw.specs.Draws.{movedBy, hintsBy, Drawing, Going};
-use cycle::SampleCycle;
-
-// Sample i nudges a colour by alpha; `subs` subpalettes of `have` colours are present.
-pub fn nudge(
-    s: usize,
-    c: usize,
-    t: usize,
-    n: usize,
-    weight: f32,
-    tiles: &[u32],
-    colours: &[f32],
-    counts: &[u32],
-    samples: &[u32],
-    pal: &mut [f32],
-    subs: usize,
-    have: usize,
-    hints: &mut [u32],
-    i: usize,
-    alpha: f32,
-)
-    requires { ⌜ Drawing (course (job s c t weight (now tiles) (now colours) (now counts)) n (now samples)) (now pal) subs have (now hints) i ⌝ }
-    ensures { λ r. ⌜ (now (pal .exit) ≡ movedBy (course (job s c t weight (now (tiles .entry)) (now (colours .entry)) (now (counts .entry))) n (now (samples .entry))) (now (pal .entry)) subs have i alpha) × (now (hints .exit) ≡ hintsBy (course (job s c t weight (now (tiles .entry)) (now (colours .entry)) (now (counts .entry))) n (now (samples .entry))) (now (pal .entry)) subs have i (now (hints .entry))) ⌝ }
-{
-    let tile = quantizer_sample::sample_tile(samples, i);
-    let q = quantizer_sample::sample_colour(tiles, colours, samples, i);
-    let best = palette_tile::tile_fit(
-        s,
-        c,
-        t,
-        weight,
-        tiles,
-        colours,
-        counts,
-        pal,
-        subs,
-        have,
-        hints,
-        tile,
-    );
-    let winner = best.index;
-    let near = palette::nearest(palette::part(pal, c, have, winner), q, weight);
-    let k = near.index;
-    palette_edit::nudge(pal, winner * c + k, q, alpha);
-}
+ghost use Rattle.quantizer_nudge.specs.Nudges.{movedBy, hintsBy};
+ghost use Rattle.quantizer_draw.specs.Draws.{Going};
+use sample_cycle::SampleCycle;
 
 // The next sample of the order is drawn and nudges a colour. The order is shuffled first where a round is over.
 pub fn draw(
@@ -74,7 +32,7 @@ pub fn draw(
     ensures { λ r. ⌜ (cycle (deck (now (order .exit)) (r .prng .state)) (r .made) ≡ drawOne (cycle (deck (now (order .entry)) (at .prng .state)) (at .made)) .next) × ((now (pal .exit) ≡ movedBy (course (job s c t weight (now (tiles .entry)) (now (colours .entry)) (now (counts .entry))) n (now (samples .entry))) (now (pal .entry)) subs have (drawOne (cycle (deck (now (order .entry)) (at .prng .state)) (at .made)) .sample) alpha) × (now (hints .exit) ≡ hintsBy (course (job s c t weight (now (tiles .entry)) (now (colours .entry)) (now (counts .entry))) n (now (samples .entry))) (now (pal .entry)) subs have (drawOne (cycle (deck (now (order .entry)) (at .prng .state)) (at .made)) .sample) (now (hints .entry)))) ⌝ }
 {
     let drawn = at.next(order);
-    nudge(
+    quantizer_move::nudge(
         s,
         c,
         t,

@@ -1,3 +1,1 @@
-pub mod Tiles
 pub mod Turns
-pub mod Through

@@ -20,8 +20,9 @@ use Rattle.quantizer.specs.Refining.{Gather, nothing, tileGather, gatherStep, g
 use Rattle.quantizer.proofs.Indexes.{row-256}
 use Rattle.quantizer.specs.Refines.{Held, Gathered}
 use Rattle.quantizer.proofs.Refines.{nothing-gathered, gathered}
-use Rattle.quantizer_gather.specs.Gathers.{Gathering, Turned}
-use Rattle.quantizer_gather.proofs.Through.{gathering}
+use Rattle.quantizer_gather_tile.specs.Gathers.{Gathering}
+use Rattle.quantizer_gather_tile.proofs.Through.{gathering}
+use Rattle.quantizer_gather.specs.Turns.{Turned}
 
 module _ (J : Job) (pal : List Float) (hints : List ℕ) (t : ℕ) (A : Gather) (K : Turned J pal hints t A) where
   shown : Shown J pal (J .S) (J .C)

@@ -1,1 +1,1 @@
-pub mod Gathers
+pub mod Turns

@@ -3,45 +3,9 @@
 ghost use mathlib.Core.Path.{_≡_};
 ghost use lib.ListN.{length};
 ghost use Rattle.job.specs.Job.{job};
-ghost use Rattle.palette.specs.Palette.{tileWith};
 ghost use Rattle.palette_tile.specs.Tiles.{winner, hintStep, hintsOf, Shown};
-ghost use Rattle.quantizer.specs.Refining.{gather, nothing, addAt, tileGather, gatherStep, gatherOf};
-ghost use Rattle.quantizer_gather.specs.Gathers.{Adding, Gathering, Turned};
-use color::Oklab;
-
-// m pixels of the colour q go to the sum and the count at p.
-fn add_at(sums: &mut [f32], cnts: &mut [u32], p: usize, q: Oklab, m: u32)
-    requires { ⌜ Adding (gather (now sums) (now cnts)) p m ⌝ }
-    ensures { λ r. ⌜ gather (now (sums .exit)) (now (cnts .exit)) ≡ addAt (gather (now (sums .entry)) (now (cnts .entry))) p q m ⌝ }
-{
-    let x = color::colour(sums, p);
-    color::put(sums, p, color::plus_times(x, q, m));
-    cnts[p] = cnts[p] + m;
-}
-
-// A tile's colours go to the colours of `sub` that are nearest to them, whose sums begin at `base`.
-fn gather_tile(
-    sub: &[f32],
-    tile: &[f32],
-    counts: &[u32],
-    w: f32,
-    base: usize,
-    sums: &mut [f32],
-    cnts: &mut [u32],
-)
-    requires { ⌜ Gathering (now sub) (tileWith (now tile) (now counts)) base (gather (now sums) (now cnts)) ⌝ }
-    ensures { λ r. ⌜ gather (now (sums .exit)) (now (cnts .exit)) ≡ tileGather (now (sub .entry)) (tileWith (now (tile .entry)) (now (counts .entry))) w base (gather (now (sums .entry)) (now (cnts .entry))) (length (now (counts .entry))) ⌝ }
-{
-    let n = counts.len();
-    let mut k = 0;
-    while k < n {
-        let q = color::colour(tile, k);
-        let near = palette::nearest(sub, q, w);
-        let i = near.index;
-        add_at(sums, cnts, base + i, q, counts[k]);
-        k += 1;
-    }
-}
+ghost use Rattle.quantizer.specs.Refining.{gather, nothing, gatherStep, gatherOf};
+ghost use Rattle.quantizer_gather.specs.Turns.{Turned};
 
 // Tile i's part; its hint is written, where it is not empty.
 fn gather_step(
@@ -69,7 +33,7 @@ fn gather_step(
     let sub = palette::part(pal, c, c, winner);
     let tile = job::tile_part(tiles, colours, i);
     let part = job::counts_part(tiles, counts, i);
-    gather_tile(sub, tile, part, weight, winner * c, sums, cnts);
+    quantizer_gather_tile::gather_tile(sub, tile, part, weight, winner * c, sums, cnts);
 }
 
 // All tiles' parts, from sums and counts of 0.

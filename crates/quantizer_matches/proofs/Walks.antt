@@ -10,19 +10,13 @@ use lib.Ieee.{Float, binary32, mul, ofInt}
 use Rattle.color.specs.declared.Oklab.{Oklab}
 use Rattle.color.specs.Color.{colourAt}
 use Rattle.stats.specs.declared.Near.{Near}
-use Rattle.stats.specs.declared.Two.{Two}
 use Rattle.choice.proofs.Scan.{least-below}
-use Rattle.choice.proofs.Two.{two-below}
 use Rattle.palette.specs.Palette.{Tile, gap, nearestOf}
-use Rattle.palette_two.specs.PaletteTwo.{nearestTwoOf}
 use Rattle.quantizer.specs.Sums.{bump}
 use Rattle.quantizer.specs.Growing.{tileNeeds}
-use Rattle.quantizer.specs.Replacing.{Shares, addShares, tileShares}
-use Rattle.quantizer.specs.Lengths.{Wide}
-use Rattle.quantizer.proofs.Lengths.{tile-wide, length-tile-needs}
+use Rattle.quantizer.proofs.Lengths.{length-tile-needs}
 use Rattle.quantizer_matches.specs.Matches.{Matched}
 
--- ---- the nearest alone
 module _ (s : List Float) (X : Tile) (w : Float) (base : ℕ) (d : List Float) (M : Matched s X base (length d)) where
   pub needs-start : d ≡ tileNeeds s X w base d 0
   unfolding tileNeeds
@@ -42,28 +36,3 @@ module _ (s : List Float) (X : Tile) (w : Float) (base : ℕ) (d : List Float) (
           ap (λ (x : Near). bump now·d (base + x .index) (mul binary32 (x .dist) (ofInt binary32 (pos (getD (X .counts) k 0))))) (p ∙ ap (λ (y : Oklab). nearestOf s y w) g)
           ∙ ap (λ (z : List Float). bump z (base + nearestOf s (colourAt (X .colours) k) w .index) (mul binary32 (nearestOf s (colourAt (X .colours) k) w .dist) (ofInt binary32 (pos (getD (X .counts) k 0))))) e
           ∙ sym (ap (tileNeeds s X w base d) (add-one k))
-
--- ---- the nearest two
-module _ (s : List Float) (X : Tile) (w : Float) (base : ℕ) (A : Shares) (M : Matched s X base (length (A .had))) (W : length (A .lost) ≡ length (A .had)) where
-  pub shares-start : A ≡ tileShares s X w base A 0
-  unfolding tileShares
-  shares-start = refl
-
-  module _ (B : Shares) (k : ℕ) (e : B ≡ tileShares s X w base A k) where
-    pub shares-wide : Wide B (length (A .had))
-    shares-wide = subst⁻¹ (λ (Z : Shares). Wide Z (length (A .had))) e (tile-wide s X w base A (length (A .had)) (record { had = refl; lost = W }) k)
-
-    module _ (q : Oklab) (g : q ≡ colourAt (X .colours) k) (r : Two) (p : r ≡ nearestTwoOf s q w) where
-      pub two-place : base + r .index < length (A .had)
-      two-place = omega (arith, M .place, subst⁻¹ (λ (x : Two). x .index < length s / 3) p (two-below (gap s q w) (length s / 3) (M .some)))
-
-      pub two-room : (base + r .index < length (B .had)) × (base + r .index < length (B .lost))
-      two-room = (omega (arith, two-place, shares-wide .had), omega (arith, two-place, shares-wide .lost))
-
-      pub shares-more : (C : Shares) → C ≡ addShares B (base + r .index) r (getD (X .counts) k 0) → C ≡ tileShares s X w base A (k + 1)
-      unfolding tileShares
-      shares-more C h =
-          h
-          ∙ ap (λ (Z : Shares). addShares Z (base + r .index) r (getD (X .counts) k 0)) e
-          ∙ ap (λ (x : Two). addShares (tileShares s X w base A k) (base + x .index) x (getD (X .counts) k 0)) (p ∙ ap (λ (y : Oklab). nearestTwoOf s y w) g)
-          ∙ sym (ap (tileShares s X w base A) (add-one k))

@@ -1,13 +1,10 @@
-// The matches between one tile and one subpalette, each added to the sums of the colour that it goes to.
+// The matches between one tile and one subpalette, each added to the sum of the colour that it goes to.
 // The sums of the subpalette's colours begin at `base`; colour by colour of the tile, in order, as in specs of quantizer.
 ghost use mathlib.Core.Path.{_≡_};
-ghost use Prim.Native.Nat.{_<_, _≤_};
 ghost use lib.ListN.{length};
 ghost use Rattle.palette.specs.Palette.{tileWith};
 ghost use Rattle.quantizer.specs.Growing.{tileNeeds};
-ghost use Rattle.quantizer.specs.Replacing.{shares, addShares, tileShares};
 ghost use Rattle.quantizer_matches.specs.Matches.{Matched};
-use stats::Two;
 
 // The distance of each colour's nearest, times its count.
 pub fn for_each_match(
@@ -26,40 +23,8 @@ pub fn for_each_match(
     while k < n {
         let near = palette::nearest(sub, color::colour(tile, k), w);
         let p = base + near.index;
-        total[p] = total[p] + near.dist * (counts[k] as f32);
-        k += 1;
-    }
-}
-
-// m pixels, whose two nearest colours are r, to the sums of colour p.
-fn add_match(total: &mut [f32], second: &mut [f32], p: usize, r: Two, m: u32)
-    requires { ⌜ (p < length (now total)) × ((p < length (now second)) × (m ≤ 16777216)) ⌝ }
-    ensures { λ u. ⌜ shares (now (total .exit)) (now (second .exit)) ≡ addShares (shares (now (total .entry)) (now (second .entry))) p r m ⌝ }
-{
-    let f = m as f32;
-    total[p] = total[p] + r.dist * f;
-    second[p] = second[p] + r.second * f;
-}
-
-// The distance of each colour's nearest, times its count, to one list; that of the second nearest to the other.
-pub fn for_each_match_two(
-    sub: &[f32],
-    tile: &[f32],
-    counts: &[u32],
-    w: f32,
-    base: usize,
-    total: &mut [f32],
-    second: &mut [f32],
-)
-    requires { ⌜ Matched (now sub) (tileWith (now tile) (now counts)) base (length (now total)) × (length (now second) ≡ length (now total)) ⌝ }
-    ensures { λ r. ⌜ shares (now (total .exit)) (now (second .exit)) ≡ tileShares (now (sub .entry)) (tileWith (now (tile .entry)) (now (counts .entry))) w base (shares (now (total .entry)) (now (second .entry))) (length (now (counts .entry))) ⌝ }
-{
-    let n = counts.len();
-    let mut k = 0;
-    while k < n {
-        let r = palette_two::nearest_two(sub, color::colour(tile, k), w);
-        let i = r.index;
-        add_match(total, second, base + i, r, counts[k]);
+        let m = counts[k] as f32;
+        total[p] = total[p] + near.dist * m;
         k += 1;
     }
 }

@@ -1,36 +1,19 @@
 -- Means are written in the order of the definition, and a whole pass is the gathering and then they. Assumes nothing.
 use Prim.Native.Nat.{ℕ, _+_, _*_, _≤_, _<_}
 use mathlib.Core.Path.{_≡_, refl, sym, ap, subst⁻¹, _∙_}
-use mathlib.Core.Bool.{Bool, cond}
 use mathlib.Core.List.{List}
 use native.Mathlib.Nat.{le-refl, le-antisymm}
 use native.Mathlib.Numerals.{add-one}
 use native.Mathlib.Omega.{arith}
-use lib.ListN.{getD, length}
+use lib.ListN.{length}
 use lib.Ieee.{Float}
-use borrow.Author.Tests.{eq-eqb, ne-eqb}
-use Rattle.color.specs.declared.Oklab.{Oklab}
-use Rattle.color.specs.Color.{colourAt, putAt, overOf}
 use Rattle.job.specs.Job.{Job}
 use Rattle.palette_tile.specs.Tiles.{Shown}
 use Rattle.quantizer.specs.Refining.{Gather, gatherOf, meanStep, meansOf, refined}
 use Rattle.quantizer.proofs.Lengths.{length-means}
 use Rattle.quantizer.specs.Refines.{Gathered}
 use Rattle.quantizer.proofs.Refines.{gathered}
-use Rattle.quantizer_refine.specs.Means.{Meaning}
-
--- ---- one colour
-module _ (A : Gather) (p : ℕ) (pal : List Float) where
-  pub mean-kept : getD (A .cnts) p 0 ≡ 0 → pal ≡ meanStep A p pal
-  unfolding meanStep
-  mean-kept z = sym (ap (λ (b : Bool). cond b pal (putAt pal p (overOf (colourAt (A .sums) p) (getD (A .cnts) p 0)))) (eq-eqb (getD (A .cnts) p 0) 0 z))
-
-  pub mean-written : (getD (A .cnts) p 0 ≡ 0 → ⊥) → (m : ℕ) → m ≡ getD (A .cnts) p 0 → (x y : Oklab) → x ≡ colourAt (A .sums) p → y ≡ overOf x m → (after : List Float) → after ≡ putAt pal p y → after ≡ meanStep A p pal
-  unfolding meanStep
-  mean-written n m w x y e f after g =
-      g
-      ∙ ap (putAt pal p) (f ∙ ap (overOf x) w ∙ ap (λ (z : Oklab). overOf z (getD (A .cnts) p 0)) e)
-      ∙ sym (ap (λ (b : Bool). cond b pal (putAt pal p (overOf (colourAt (A .sums) p) (getD (A .cnts) p 0)))) (ne-eqb (getD (A .cnts) p 0) 0 n))
+use Rattle.quantizer_mean.specs.Means.{Meaning}
 
 -- ---- the first n
 module _ (pal : List Float) (A : Gather) where

@@ -1,25 +1,11 @@
 // One pass of refinement: each colour becomes the mean of the tile colours that are nearest to it, where there are any.
 // It is what the definitions in quantizer's specs/Refining.antt say. A mean is written only after all sums are complete, so into the palette itself.
 ghost use mathlib.Core.Path.{_≡_};
-ghost use Prim.Native.Nat.{_+_};
 ghost use lib.ListN.{length};
 ghost use Rattle.job.specs.Job.{job};
 ghost use Rattle.palette_tile.specs.Tiles.{hintsOf, Shown};
-ghost use Rattle.quantizer.specs.Refining.{gather, meanStep, meansOf, refined};
-ghost use Rattle.quantizer_refine.specs.Means.{Meaning};
-
-// Colour p becomes the mean of its sum, where pixels were counted.
-fn mean_at(pal: &mut [f32], p: usize, sums: &[f32], cnts: &[u32])
-    requires { ⌜ Meaning (now pal) (p + 1) (gather (now sums) (now cnts)) ⌝ }
-    ensures { λ r. ⌜ now (pal .exit) ≡ meanStep (gather (now (sums .entry)) (now (cnts .entry))) p (now (pal .entry)) ⌝ }
-{
-    let m = cnts[p];
-    if m == 0 {
-        return;
-    }
-    let x = color::colour(sums, p);
-    color::put(pal, p, color::over(x, job::wide(m)));
-}
+ghost use Rattle.quantizer.specs.Refining.{gather, meansOf, refined};
+ghost use Rattle.quantizer_mean.specs.Means.{Meaning};
 
 // The first n colours become the means of their sums.
 fn write_means(pal: &mut [f32], n: usize, sums: &[f32], cnts: &[u32])
@@ -28,7 +14,7 @@ fn write_means(pal: &mut [f32], n: usize, sums: &[f32], cnts: &[u32])
 {
     let mut p = 0;
     while p < n {
-        mean_at(pal, p, sums, cnts);
+        quantizer_mean::mean_at(pal, p, sums, cnts);
         p += 1;
     }
 }

@@ -1,4 +1,4 @@
--- What the list's jobs give the functions: an answer of 0 shows a job and its palette, and a part of an array has its length. Assumes nothing.
+-- What the list's jobs give the functions: an answer of 0 shows a job and its palette. Assumes nothing.
 use Prim.Native.Nat.{ℕ, _*_, _≤_, _<_}
 use mathlib.Core.Path.{_≡_, sym, _∙_}
 use mathlib.Core.Bool.{true}
@@ -6,8 +6,6 @@ use mathlib.Core.List.{List}
 use native.Mathlib.Nat.{mul-le-mul}
 use native.Mathlib.Omega.{arith}
 use lib.Dec.{eqb, lit≤}
-use lib.ListN.{length, take}
-use lib.Seq.{length-take-le}
 use lib.Ieee.{Float}
 use borrow.Author.Tests.{eqb-true}
 use Rattle.color.proofs.Sizes.{bounded-wider}
@@ -31,9 +29,6 @@ shown-of J pal n have r e a b c d z =
       room = P .lent .room;
       near = bounded-wider pal 2 4 (lit≤ tt) (P .lent .near);
     }
-
-pub start-length : {A : Type 0} (xs : List A) (n : ℕ) → n ≤ length xs → n ≡ length (take n xs)
-start-length xs n l = sym (length-take-le n xs l)
 
 -- 8 subpalettes of 8 colours have room
 pub cells-small : (s c : ℕ) → s < 9 → c < 9 → s * c ≤ 64

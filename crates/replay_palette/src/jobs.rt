@@ -116,7 +116,7 @@ fn ask(
             };
         }
     }
-    let e = mse::mse(s, c, t, weight, tiles, colours, counts, pal, n, have, hints);
+    let e = mse_sum::mse(s, c, t, weight, tiles, colours, counts, pal, n, have, hints);
     Answer {
         index: 0,
         value: e,
@@ -232,15 +232,11 @@ fn job_of(
     let mut colours = [0.0f32; 96];
     let mut pal = [0.0f32; 192];
     let mut hints = [0u32; 4];
-    let counted = start.passed(4 * pairs);
-    let coloured = counted.passed(4 * total);
-    let painted = coloured.passed(4 * numbers);
-    let hinted = painted.passed(4 * cells);
-    replay::words(list, start.at, &mut tiles);
-    replay::words(list, counted.at, &mut counts);
-    replay::floats(list, coloured.at, &mut colours);
-    replay::floats(list, painted.at, &mut pal);
-    replay::words(list, hinted.at, &mut hints);
+    let tabled = replay::words(list, start, pairs, &mut tiles);
+    let counted = replay::words(list, tabled, total, &mut counts);
+    let coloured = replay::floats(list, counted, numbers, &mut colours);
+    let painted = replay::floats(list, coloured, cells, &mut pal);
+    let hinted = replay::words(list, painted, t, &mut hints);
     let answer = ask_any(
         kind,
         s,
@@ -256,7 +252,7 @@ fn job_of(
         &mut hints[..t],
         i,
     );
-    let tally = hinted.passed(4 * t).index(list, answer.index);
+    let tally = hinted.index(list, answer.index);
     let valued = tally.float(list, answer.value).float(list, answer.second);
     hints_left(list, &hints, t, valued)
 }
@@ -290,6 +286,6 @@ pub fn job_case(list: &[u8], start: Tally) -> Tally {
         z.weight,
         z.n,
         z.have,
-        start.passed(36),
+        start.passed(9),
     )
 }

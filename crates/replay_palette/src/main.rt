@@ -9,26 +9,22 @@ mod jobs;
 
 use color::Oklab;
 use libc::STDIN_FILENO;
-use libc::STDOUT_FILENO;
 use replay::Tally;
-use std::num::wrapping_add_usize;
 
 fn oklab(list: &[u8], at: usize) -> Oklab {
     Oklab {
         l: replay::float(list, at),
-        a: replay::float(list, wrapping_add_usize(at, 4)),
-        b: replay::float(list, wrapping_add_usize(at, 8)),
+        a: replay::float(list, replay::past(at, 1)),
+        b: replay::float(list, replay::past(at, 2)),
     }
 }
 
-fn nudge(list: &[u8], start: Tally) -> Tally {
-    let at = start.at;
-    let alpha = replay::float(list, at);
-    let mut pal = [0.0f32; 3];
-    replay::floats(list, wrapping_add_usize(at, 4), &mut pal);
-    let target = oklab(list, wrapping_add_usize(at, 16));
+fn nudge(list: &[u8], begin: Tally) -> Tally {
+    let alpha = replay::float(list, begin.at);
+    let mut pal = replay::floats_of(list, replay::past(begin.at, 1));
+    let target = oklab(list, replay::past(begin.at, 4));
     palette_edit::nudge(&mut pal, 0, target, alpha);
-    let tally = start.passed(28);
+    let tally = begin.passed(7);
     tally
         .float(list, pal[0])
         .float(list, pal[1])
@@ -38,11 +34,11 @@ fn nudge(list: &[u8], start: Tally) -> Tally {
 fn nearest_of(list: &[u8], colors: &[f32], start: Tally) -> Tally {
     let at = start.at;
     let weight = replay::float(list, at);
-    let q = oklab(list, wrapping_add_usize(at, 4));
+    let q = oklab(list, replay::past(at, 1));
     let near = view::nearest_in(colors, q, weight);
     let two = view::nearest_two_in(colors, q, weight);
     let tally = start
-        .passed(16)
+        .passed(4)
         .index(list, near.index)
         .float(list, near.dist);
     tally
@@ -51,21 +47,15 @@ fn nearest_of(list: &[u8], colors: &[f32], start: Tally) -> Tally {
         .float(list, two.second)
 }
 
-// A case that has no room here counts as a difference.
 fn nearest(list: &[u8], start: Tally) -> Tally {
-    let n = replay::word(list, start.at) as usize;
-    if 16 < n {
-        return start.compare(false);
-    }
-    let size = 3 * n;
-    let mut colors = [0.0f32; 48];
-    replay::floats(list, wrapping_add_usize(start.at, 4), &mut colors);
-    nearest_of(list, &colors[..size], start.passed(4 + 4 * size))
+    let size = 3 * replay::number(list, start.at, 0, 16);
+    let colors = replay::floats_of(list, replay::past(start.at, 1));
+    nearest_of(list, &colors[..size], start.passed(size + 1))
 }
 
 fn case(list: &[u8], start: Tally) -> Tally {
     let kind = replay::word(list, start.at);
-    let tally = start.passed(4);
+    let tally = start.passed(1);
     if kind == 1 {
         return jobs::job_case(list, tally);
     }
@@ -89,12 +79,7 @@ fn replayed(list: &[u8]) -> Tally {
 }
 
 fn main() {
-    let mut list = io::large_buffer();
+    let mut list = replay::room();
     let n = io::read_full(STDIN_FILENO, &mut list);
-    let tally = replayed(&list[..n]);
-    io::write_all(STDOUT_FILENO, b"compared ");
-    io::print_decimal(STDOUT_FILENO, tally.compared);
-    io::write_all(STDOUT_FILENO, b" differ ");
-    io::print_decimal(STDOUT_FILENO, tally.differ);
-    io::write_all(STDOUT_FILENO, b"\n");
+    replayed(&list[..n]).report();
 }

@@ -7,82 +7,80 @@
 mod runs;
 
 use libc::STDIN_FILENO;
-use libc::STDOUT_FILENO;
 use replay::Tally;
+use runs::Shape;
 use std::num::wrapping_add_usize;
 ghost use Prim.Native.Nat.{_≤_};
+ghost use Rattle.replay_runs.specs.Room.{Room};
 
-// A run that has room here, in local memory.
+fn wide(x: u32) -> usize {
+    x as usize
+}
+
+// A number that there is room for. A run that was cut so differs, as the list has another.
+fn at_most(most: usize, listed: u32) -> usize
+    ensures { λ r. ⌜ r ≤ most ⌝ }
+{
+    let n = wide(listed);
+    if most < n {
+        return most;
+    }
+    n
+}
+
+// A run whose job is read from the list into local memory.
 fn run_of(
     list: &[u8],
-    start: Tally,
-    s: usize,
-    c: usize,
+    begin: Tally,
+    shape: Shape,
     t: usize,
     m: usize,
     n: usize,
     p: usize,
+    count: u32,
 ) -> Tally
-    requires { ⌜ (t ≤ 16) × (m ≤ 64) × (n ≤ 64) × (p ≤ 48) ⌝ }
+    requires { ⌜ Room t n p × (m ≤ 64) ⌝ }
 {
-    let weight = replay::float(list, start.at);
-    let seed = runs::double(list, wrapping_add_usize(start.at, 4));
-    let count = replay::word(list, wrapping_add_usize(start.at, 12));
-    let mut tiles = [0u32; 32];
-    let mut colours = [0.0f32; 192];
+    let pairs = 2 * t;
+    let numbers = 3 * m;
+    let drawn = 2 * n;
+    let mut tiles = [0u32; 128];
     let mut counts = [0u32; 64];
+    let mut colours = [0.0f32; 192];
     let mut samples = [0u32; 128];
-    let mut order = [0u32; 64];
-    let mut hints = [0u32; 16];
-    let mut palette = [0.0f32; 48];
-    let mut least = [0.0f32; 48];
-    let mut words = [0u64; 6];
-    let mut reduced = [0.0f32; 48];
+    let tabled = replay::words(list, begin, pairs, &mut tiles);
+    let counted = replay::words(list, tabled, m, &mut counts);
+    let coloured = replay::floats(list, counted, numbers, &mut colours);
+    let sampled = replay::words(list, coloured, drawn, &mut samples);
     runs::run(
         list,
-        start.passed(16),
-        s,
-        c,
+        sampled,
+        shape,
         t,
         n,
-        weight,
-        &mut tiles[..2 * t],
-        &mut colours[..3 * m],
-        &mut counts[..m],
-        &mut samples[..2 * n],
-        &mut order[..n],
-        &mut hints[..t],
-        &mut palette[..p],
-        &mut least[..p],
-        &mut words,
-        &mut reduced[..p],
-        seed,
+        p,
+        &tiles[..pairs],
+        &colours[..numbers],
+        &counts[..m],
+        &samples[..drawn],
         count,
     )
 }
 
-// A run that has none counts as a difference.
-fn case(list: &[u8], start: Tally) -> Tally {
-    let at = start.at;
-    let s = replay::word(list, at) as usize;
-    let c = replay::word(list, wrapping_add_usize(at, 4)) as usize;
-    let t = replay::word(list, wrapping_add_usize(at, 8)) as usize;
-    let m = replay::word(list, wrapping_add_usize(at, 12)) as usize;
-    let n = replay::word(list, wrapping_add_usize(at, 16)) as usize;
-    let p = replay::word(list, wrapping_add_usize(at, 20)) as usize;
-    if 16 < t {
-        return start.compare(false);
-    }
-    if 64 < m {
-        return start.compare(false);
-    }
-    if 64 < n {
-        return start.compare(false);
-    }
-    if 48 < p {
-        return start.compare(false);
-    }
-    run_of(list, start.passed(24), s, c, t, m, n, p)
+fn case(list: &[u8], begin: Tally) -> Tally {
+    let mut first = [0u32; 10];
+    let opened = replay::words(list, begin, 10, &mut first);
+    let shape = Shape {
+        s: wide(first[0]),
+        c: wide(first[1]),
+        weight: replay::float(list, wrapping_add_usize(begin.at, 24)),
+        seed: replay::double(list, wrapping_add_usize(begin.at, 28)),
+    };
+    let t = at_most(64, first[2]);
+    let m = at_most(64, first[3]);
+    let n = at_most(64, first[4]);
+    let p = at_most(48, first[5]);
+    run_of(list, opened, shape, t, m, n, p, first[9])
 }
 
 fn replayed(list: &[u8]) -> Tally {
@@ -101,10 +99,5 @@ fn replayed(list: &[u8]) -> Tally {
 fn main() {
     let mut list = io::large_buffer();
     let n = io::read_full(STDIN_FILENO, &mut list);
-    let tally = replayed(&list[..n]);
-    io::write_all(STDOUT_FILENO, b"compared ");
-    io::print_decimal(STDOUT_FILENO, tally.compared);
-    io::write_all(STDOUT_FILENO, b" differ ");
-    io::print_decimal(STDOUT_FILENO, tally.differ);
-    io::write_all(STDOUT_FILENO, b"\n");
+    replayed(&list[..n]).report();
 }

@@ -1,5 +1,5 @@
 // What a start writes before its first round: both palettes nought but for the samples' mean, and the first order.
-use cycle::SampleCycle;
+use sample_cycle::SampleCycle;
 use stages::Record;
 ghost use mathlib.Core.Path.{_≡_};
 ghost use mathlib.Core.List.{[]};

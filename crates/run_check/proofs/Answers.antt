@@ -2,13 +2,15 @@
 use Prim.Native.Nat.{ℕ, _+_}
 use mathlib.Core.Path.{_≡_, refl, sym, ap, _∙_}
 use mathlib.Core.Bool.{Bool, true, false}
-use mathlib.Core.List.{List, [], _++_}
+use mathlib.Core.List.{List, [], _∷_, _++_}
 use lib.Dec.{eqb}
-use borrow.Author.Tests.{eqb-true, eqb-false}
-use Rattle.job.specs.Rules.{Rule, answer, numbered}
-use Rattle.job.proofs.Passing.{stops, goes, all-pass}
+use lib.Ieee.{Float}
+use lib.ListN.{length}
+use borrow.Author.Tests.{eqb-true, eqb-false, ne-eqb}
+use Rattle.job.specs.Rules.{Rule, rule, answer, numbered}
+use Rattle.job.proofs.Passing.{stops, goes, fails, all-pass}
 use Rattle.job.specs.Job.{Job}
-use Rattle.job.specs.Checks.{sizeRules, sampledAnswer}
+use Rattle.job.specs.Checks.{firstBad, componentsFit, sizeRules, sampledAnswer}
 use Rattle.job.proofs.Ready.{sizes-of, sampled-ready}
 use Rattle.quantizer.specs.Course.{course}
 use Rattle.stages.specs.declared.Record.{Record}
@@ -17,6 +19,10 @@ use Rattle.stages.specs.Record.{placeFits, roundsOf, drawsIn, before, madeBy, s
 use Rattle.stages.specs.Calls.{Memory, recordOf, stateOf, jobRules}
 use Rattle.run_record.specs.Sized.{sized, Sized}
 use Rattle.run_check.specs.Room.{Roomy, runAnswer}
+
+-- a component is past its limit
+pub near-fails : (k : ℕ) (m : Float) (xs : List Float) (rs : List Rule) (i : ℕ) → i ≡ firstBad m xs → (i ≡ length xs → ⊥) → k ≡ answer (rule k (componentsFit m xs) ∷ rs)
+near-fails k m xs rs i e h = fails k (componentsFit m xs) rs (rw (← e) (ne-eqb i (length xs) h))
 
 -- the rules read only the sizes of a course, and the lent memory
 held-rules : (J : Job) (n : ℕ) (samples : List ℕ) (m : Memory) (r : Record) → r ≡ recordOf (m .words) → (b : ℕ)

@@ -291,7 +291,7 @@ pub fn refuses_result(
     if a != 0 {
         return a;
     }
-    if words[1] != 7 {
+    if !run_stage::is_finished(words[1]) {
         return 11;
     }
     0

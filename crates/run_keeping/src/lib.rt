@@ -27,7 +27,7 @@ pub fn keep(
     requires { ⌜ Lent (job s c t weight (now tiles) (now colours) (now counts)) (now hints) (now palette) (now least) ⌝ }
     ensures { λ x. ⌜ stateWith [] (now (hints .exit)) (now (palette .entry)) (now (least .exit)) x ≡ keep (course (job s c t weight (now (tiles .entry)) (now (colours .entry)) (now (counts .entry))) n []) (stateWith [] (now (hints .entry)) (now (palette .entry)) (now (least .entry)) r) ⌝ }
 {
-    let e = mse::mse(
+    let e = mse_sum::mse(
         s,
         c,
         t,
@@ -69,7 +69,7 @@ pub fn judge(
     requires { ⌜ Judging (job s c t weight (now tiles) (now colours) (now counts)) (now hints) (now palette) (now least) r ⌝ }
     ensures { λ x. ⌜ stateWith [] (now (hints .exit)) (now (palette .entry)) (now (least .exit)) x ≡ judged (course (job s c t weight (now (tiles .entry)) (now (colours .entry)) (now (counts .entry))) n []) (stateWith [] (now (hints .entry)) (now (palette .entry)) (now (least .entry)) r) ⌝ }
 {
-    let e = mse::mse(
+    let e = mse_sum::mse(
         s,
         c,
         t,

@@ -29,14 +29,7 @@ pub fn open_replacing(
     ensures { λ x. ⌜ stateWith [] (now (hints .exit)) (now (palette .exit)) [] x ≡ openReplacing (course (job s c t weight (now (tiles .entry)) (now (colours .entry)) (now (counts .entry))) n []) round (stateWith [] (now (hints .entry)) (now (palette .entry)) [] r) ⌝ }
 {
     quantizer_replace::replace_weakest(s, c, t, weight, tiles, colours, counts, palette, hints);
-    Record {
-        generator: r.generator,
-        stage: 2,
-        rounds: round,
-        left: n as u64 / 10,
-        made: r.made,
-        error: r.error,
-    }
+    run_next::open_round(r, 2, round, n)
 }
 
 // The stop for reduction: the palette kept is the palette, and the second one is zeroed.

@@ -2,16 +2,14 @@
 use Prim.Native.Nat.{ℕ, _≤_, _<_}
 use mathlib.Core.Path.{_≡_, refl, sym, ap, subst⁻¹, _∙_}
 use mathlib.Core.Logic.{_≢_}
-use mathlib.Core.Bool.{Bool, true, false, _&&_, true≢false}
+use mathlib.Core.Bool.{true, false, true≢false}
 use mathlib.Core.List.{List, []}
 use native.Mathlib.Omega.{arith}
-use lib.Dec.{eqb}
 use lib.Ieee.{Float}
-use borrow.Author.Tests.{eq-eqb, ne-eqb}
 use Rattle.lists.proofs.Tests.{and-l}
 use Rattle.quantizer.specs.Course.{Course, course}
 use Rattle.stages.specs.declared.Record.{Record}
-use Rattle.stages.specs.State.{State, stateWith, draws}
+use Rattle.stages.specs.State.{State, stateWith, recordIn, at, draws}
 use Rattle.stages.specs.Stages.{closeSeeding, closeGrowing, closeReplacing, finishRound, due, settle}
 use Rattle.calls.proofs.Cases.{stage0, stage1, stage2, stage4}
 use Rattle.calls.specs.Place.{Placed, seeding, growing, replacing, reducing, finishing, over}
@@ -21,8 +19,8 @@ use Rattle.calls.proofs.Presence.{seeding-rounds, growing-rounds}
 use Rattle.calls.specs.Sound.{Second, in2, out2}
 use Rattle.calls.proofs.Sound.{all-shown, finish-sound}
 use Rattle.run_keeping.specs.Closing.{Lent, Judging}
-use Rattle.run_growing.specs.Grows.{Grown}
-use Rattle.run_seeding.specs.Seeds.{Seeded}
+use Rattle.run_round.specs.Grows.{Grown}
+use Rattle.run_round.specs.Seeds.{Seeded}
 use Rattle.run_round.specs.Settles.{Standing, Closing}
 use Rattle.run_round.proofs.Orders.{seeding-any, growing-any, replacing-any}
 
@@ -62,10 +60,9 @@ module _ (K : Course) (o h : List ℕ) (p l : List Float) (r : Record) (A : Clos
       early (over q past s m e) = absurd (omega arith)
 
   -- a round to be closed after the replacing is that of the final draws
-  pub final : r .stage ≢ 0 → r .stage ≢ 1 → r .stage ≢ 2
-      → stateWith o h p l (record { generator = r .generator; stage = 5; rounds = 0; left = 0; made = r .made; error = r .error }) ≡ finishRound K (stateWith o h p l r)
+  pub final : r .stage ≢ 0 → r .stage ≢ 1 → r .stage ≢ 2 → (r2 : Record) → r2 ≡ recordIn (at (stateWith [] [] [] [] r) 5 0 0) → stateWith o h p l r2 ≡ finishRound K (stateWith o h p l r)
   unfolding finishRound
-  final a b c = sym (stage4 (r .stage) _ _ _ _ _ (four (A .standing .place)))
+  final a b c r2 e = ap (stateWith o h p l) e ∙ sym (stage4 (r .stage) _ _ _ _ _ (four (A .standing .place)))
     where
       drawing : draws (r .stage) ≡ true
       drawing = and-l (draws (r .stage)) _ (A .over)
@@ -123,18 +120,3 @@ again K from s A d x e =
 
 pub ended : (K : Course) (from s : State) → Settling K from s → due K s ≡ false → s ≡ settle K from
 ended K from s A d = sym (A .same ∙ settle-done K (A .standing .ready .sizes .subs) (A .standing .ready .sizes .some) s (A .standing .place) d)
-
--- ---- whether a round is to be closed
-pub some-left : (k l : ℕ) → l ≢ 0 → false ≡ (draws k && eqb l 0)
-some-left k l h = rw (ne-eqb l 0 h) (sym (none (draws k)))
-  where
-    none : (t : Bool) → t && false ≡ false
-    none true = refl
-    none false = refl
-
-pub none-left : (k l : ℕ) → l ≡ 0 → (t : Bool) → t ≡ draws k → t ≡ (draws k && eqb l 0)
-none-left k l h t e = rw (eq-eqb l 0 h, e) (sym (all (draws k)))
-  where
-    all : (u : Bool) → u && true ≡ u
-    all true = refl
-    all false = refl

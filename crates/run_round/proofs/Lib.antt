@@ -1,2 +1,5 @@
+mod ReplacingRounds
+mod GrowingRounds
+mod SeedingRounds
 pub mod Closes
 pub mod Orders

@@ -1,1 +1,3 @@
+pub mod Grows
+pub mod Seeds
 pub mod Settles

@@ -1,16 +1,18 @@
 // What closes a round, whatever its stage, and the settling of a run: all that needs no draw.
 // The order and the samples are not read; they are there to be named in what is promised.
+pub mod growing;
+mod replacing;
+pub mod seeding;
+
 use stages::Record;
 ghost use mathlib.Core.Path.{_≡_};
-ghost use mathlib.Core.Bool.{Bool, _&&_};
-ghost use lib.Dec.{eqb};
 ghost use Rattle.job.specs.Job.{job};
 ghost use Rattle.quantizer.specs.Course.{course};
-ghost use Rattle.stages.specs.State.{stateWith, draws};
+ghost use Rattle.stages.specs.State.{stateWith};
 ghost use Rattle.stages.specs.Stages.{finishRound, settle};
 ghost use Rattle.run_round.specs.Settles.{Standing, Closing};
 
-// A round's end. The final draws are one round.
+// A round's end, by its stage.
 fn finish_round(
     s: usize,
     c: usize,
@@ -31,7 +33,7 @@ fn finish_round(
     ensures { λ x. ⌜ stateWith (now (order .entry)) (now (hints .exit)) (now (palette .exit)) (now (least .exit)) x ≡ finishRound (course (job s c t weight (now (tiles .entry)) (now (colours .entry)) (now (counts .entry))) n (now (samples .entry))) (stateWith (now (order .entry)) (now (hints .entry)) (now (palette .entry)) (now (least .entry)) r) ⌝ }
 {
     if r.stage == 0 {
-        return run_seeding::close_seeding(
+        return seeding::close_seeding(
             s,
             c,
             t,
@@ -47,7 +49,7 @@ fn finish_round(
         );
     }
     if r.stage == 1 {
-        return run_growing::close_growing(
+        return growing::close_growing(
             s,
             c,
             t,
@@ -63,7 +65,7 @@ fn finish_round(
         );
     }
     if r.stage == 2 {
-        return run_replacing::close_replacing(
+        return replacing::close_replacing(
             s,
             c,
             t,
@@ -78,24 +80,7 @@ fn finish_round(
             r,
         );
     }
-    Record {
-        generator: r.generator,
-        stage: 5,
-        rounds: 0,
-        left: 0,
-        made: r.made,
-        error: r.error,
-    }
-}
-
-// Whether a round is to be closed.
-fn is_due(r: Record) -> bool
-    ensures { λ x. ⌜ x ≡ (draws (r .stage) && eqb (r .left) 0) ⌝ }
-{
-    if r.left != 0 {
-        return false;
-    }
-    run_record::makes_draws(r.stage)
+    run_next::end_final(r)
 }
 
 // Rounds are closed while one is due.
@@ -119,7 +104,7 @@ pub fn settle(
     ensures { λ x. ⌜ stateWith (now (order .entry)) (now (hints .exit)) (now (palette .exit)) (now (least .exit)) x ≡ settle (course (job s c t weight (now (tiles .entry)) (now (colours .entry)) (now (counts .entry))) n (now (samples .entry))) (stateWith (now (order .entry)) (now (hints .entry)) (now (palette .entry)) (now (least .entry)) r) ⌝ }
 {
     let mut at = r;
-    while is_due(at) {
+    while run_next::is_due(at) {
         at = finish_round(
             s,
             c,

@@ -5,35 +5,8 @@ ghost use mathlib.Core.Path.{_≡_};
 ghost use mathlib.Core.List.{[]};
 ghost use Rattle.job.specs.Rules.{answer};
 ghost use Rattle.stages.specs.State.{stateWith};
-ghost use Rattle.stages.specs.Record.{orderFits, leastFits, stateRules};
+ghost use Rattle.stages.specs.Record.{stateRules};
 ghost use Rattle.run_record.specs.Sized.{sized, Sized};
-
-// The magnitude of a working component, at most.
-const MOST_WORKING: f32 = 4.0;
-
-// Each entry is below n.
-fn order_fits(n: usize, order: &[u32]) -> bool
-    ensures { λ r. ⌜ r ≡ orderFits n (now (order .entry)) ⌝ }
-{
-    let mut i = 0usize;
-    while i < order.len() {
-        if job::wide(order[i]) >= n {
-            return false;
-        }
-        i += 1;
-    }
-    true
-}
-
-// The second palette, which only stage 2 looks at.
-fn least_fits(stage: u64, least: &[f32]) -> bool
-    ensures { λ r. ⌜ r ≡ leastFits stage (now (least .entry)) ⌝ }
-{
-    if stage != 2 {
-        return true;
-    }
-    job::first_bad(least, MOST_WORKING) == least.len()
-}
 
 // Numbers 10, 7 and 9 of what a run holds.
 pub fn check_state(
@@ -52,13 +25,13 @@ pub fn check_state(
     if a != 0 {
         return a;
     }
-    if job::first_bad(palette, MOST_WORKING) != palette.len() {
+    if !run_working::palette_fits(palette) {
         return 7;
     }
-    if !least_fits(r.stage, least) {
+    if !run_working::least_fits(r.stage, least) {
         return 7;
     }
-    if !order_fits(n, order) {
+    if !run_working::order_fits(n, order) {
         return 9;
     }
     0

@@ -24,6 +24,8 @@ use Rattle.job.proofs.Ready.{plain-ready}
 use Rattle.sheet_format.specs.Sheet.{edition1, sheet, sizeOf}
 use Rattle.sheet_pack.specs.Packed.{sheetOf, sheetBits}
 use Rattle.sheet_pack.proofs.Prints.{sheet-size, sheet-print}
+use Rattle.sheet_room.specs.Room.{placeFor}
+use Rattle.sheet_room.proofs.Places.{unplaced}
 use Rattle.sheet.specs.declared.Writing.the-variants.{Refused, Bytes}
 use Rattle.sheet.specs.Sheets.{WriteOutcome, writeOutcome, storedIn, writeDef}
 
@@ -144,12 +146,15 @@ module _ (size : ℕ) (J : Job) (palette : List Float) (old : List ℕ) (a : ℕ
       file-is : k ≡ length (encode (sheet edition1) (sheetOf J palette))
       file-is = ek ∙ ap bytesFor en ∙ sym (file-long size J (passed .ready) palette (passed .lent))
 
-      pub too-large : 65536 < k → writeOutcome (Refused 13) old ≡ writeDef size J palette old
+      too-large : 65536 < k → writeOutcome (Refused 13) old ≡ writeDef size J palette old
       too-large h = large (encode (sheet edition1) (sheetOf J palette)) old (subst (λ (i : ℕ). 65536 < i) file-is h) ∙ by-file
 
-      pub no-place : k ≤ 65536 → length old < k → writeOutcome (Refused 3) old ≡ writeDef size J palette old
-      no-place h l =
+      roomless-place : k ≤ 65536 → length old < k → writeOutcome (Refused 3) old ≡ writeDef size J palette old
+      roomless-place h l =
           roomless (encode (sheet edition1) (sheetOf J palette)) old (subst (λ (i : ℕ). i ≤ 65536) file-is h) (subst (λ (i : ℕ). length old < i) file-is l) ∙ by-file
+
+      pub no-place : (r : ℕ) → r ≡ placeFor k (length old) → (r ≡ 0 → ⊥) → writeOutcome (Refused r) old ≡ writeDef size J palette old
+      no-place r er h = unplaced k (length old) r er (λ i. writeOutcome (Refused i) old ≡ writeDef size J palette old) h too-large roomless-place
 
       pub file-written : (new : List ℕ) → k ≤ 65536 → k ≤ length old → Bytewise old → Bytewise new → length new ≡ length old
           → bits new ≡ sets (bits old) 0 (sheetBits edition1 (sheetOf J palette) ++ replicate (8 * bytesFor n - n) false)

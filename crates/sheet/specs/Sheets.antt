@@ -1,6 +1,6 @@
 -- The public reader and writer: what each answers, and what the lent memory holds then. Definitions only. Assumes nothing.
 use Prim.Native.Nat.{ℕ}
-use mathlib.Core.Bool.{Bool, true, _&&_, cond}
+use mathlib.Core.Bool.{true, cond}
 use mathlib.Core.List.{List}
 use lib.Dec.{leb, eqb}
 use lib.ListN.{length}
@@ -12,6 +12,7 @@ use Rattle.job.specs.Checks.{plainAnswer}
 use Rattle.sheet_format.specs.Sheet.{Sheet, edition1, sheet, readSheet}
 use Rattle.sheet_format.specs.Lists.{floats, allCounts, allFloats, tableOf}
 use Rattle.sheet_pack.specs.Packed.{sheetOf}
+unfoldable pub use Rattle.sheet_room.specs.Room.{roomy}
 use Rattle.sheet.specs.declared.Reading.{Reading}
 use Rattle.sheet.specs.declared.Reading.the-variants as reading
 use Rattle.sheet.specs.declared.Writing.{Writing}
@@ -38,10 +39,6 @@ pub record ReadOutcome : Type 0 where
 
 abbrev pub readOutcome : Reading → Room → ReadOutcome
 readOutcome r h = record { answer = r; after = h }
-
--- enough for any sheet of 65,536 bytes
-unfoldable pub roomy : ℕ → ℕ → ℕ → ℕ → Bool
-roomy tiles colours counts palette = leb 768 palette && (leb 2048 tiles && (leb 5140 counts && leb 15420 colours))
 
 -- a sheet's lists stand in the first places; what isn't filled stays
 abbrev pub filled : Sheet → Room → Room

@@ -2,9 +2,7 @@
 // Assumes nothing.
 ghost use mathlib.Core.Path.{_≡_};
 ghost use Rattle.job.specs.Job.{job, tileSize};
-ghost use Rattle.sheet.specs.Sheets.{room, roomy, readOutcome, readDef, writeOutcome, writeDef};
-
-const MOST_BYTES: usize = 65536;
+ghost use Rattle.sheet.specs.Sheets.{room, readOutcome, readDef, writeOutcome, writeDef};
 
 // What a reading finds: a refusal's number, or the numbers of a job whose lists are filled in.
 pub enum Reading {
@@ -17,22 +15,6 @@ pub enum Reading {
     },
 }
 
-// Whether slices of these lengths hold the lists of any sheet.
-fn has_room(tiles: usize, colours: usize, counts: usize, palette: usize) -> bool
-    ensures { λ r. ⌜ r ≡ roomy tiles colours counts palette ⌝ }
-{
-    if palette < 768 {
-        return false;
-    }
-    if tiles < 2048 {
-        return false;
-    }
-    if counts < 5140 {
-        return false;
-    }
-    15420 <= colours
-}
-
 // A sheet into lent slices: two numbers a tile, three a colour. What isn't filled stays.
 pub fn read(
     bytes: &[u8],
@@ -43,7 +25,7 @@ pub fn read(
 ) -> Reading
     ensures { λ r. ⌜ readOutcome r (room (now (tiles .exit)) (now (colours .exit)) (now (counts .exit)) (now (palette .exit))) ≡ readDef (now (bytes .entry)) (room (now (tiles .entry)) (now (colours .entry)) (now (counts .entry)) (now (palette .entry))) ⌝ }
 {
-    if !has_room(tiles.len(), colours.len(), counts.len(), palette.len()) {
+    if !sheet_room::has_room(tiles.len(), colours.len(), counts.len(), palette.len()) {
         return Reading::Refused(3);
     }
     match sheet_check::check(bytes) {
@@ -55,7 +37,7 @@ pub fn read(
             weight,
         } => {
             let n = (3 * (subs * each)) as usize;
-            sheet_fill::fill_components(bytes, 86, n, palette, 0);
+            sheet_fill_colours::fill_components(bytes, 86, n, palette, 0);
             sheet_fill::fill_tiles(bytes, 86 + n * 32, t as usize, tiles, counts, colours);
             Reading::Sheet {
                 s: subs as usize,
@@ -104,12 +86,10 @@ pub fn write(
     }
     let size = sheet_format::size_of(s, c, t, counts.len());
     let n = format::bytes_for(size);
-    if MOST_BYTES < n {
-        return Writing::Refused(13);
+    let fault = sheet_room::place_for(n, dst.len());
+    if fault != 0 {
+        return Writing::Refused(fault);
     }
-    if dst.len() < n {
-        return Writing::Refused(3);
-    }
-    sheet_pack::pack_sheet(s, c, t, weight, tiles, colours, counts, palette, dst, size);
+    sheet_whole::pack_sheet(s, c, t, weight, tiles, colours, counts, palette, dst, size);
     Writing::Bytes(n)
 }

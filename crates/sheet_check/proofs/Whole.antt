@@ -14,12 +14,12 @@ use Rattle.format.proofs.Reading.{both-fault, both-got}
 use Rattle.sheet_format.proofs.Exact.{rest-lawful}
 use Rattle.sheet_format.proofs.Headed.{header-rest, header-sized, header-long}
 use Rattle.sheet_format.specs.Sheet.{Edition, edition1, Header, Colour, Parts, whole, header, rest, sheet, readSheet}
-use Rattle.sheet_tiles.specs.declared.Step.the-variants.{At}
+use Rattle.sheet_colours.specs.declared.Step.the-variants.{At}
 use Rattle.sheet_check.specs.declared.Checked.{Checked}
 use Rattle.sheet_check.specs.declared.Checked.the-variants.{Refused, Sound}
-use Rattle.sheet_tiles.specs.Steps.{stepAt}
+use Rattle.sheet_colours.specs.Steps.{stepAt}
 use Rattle.sheet_check.specs.Steps.{headOf, checkedOf}
-use Rattle.sheet_tiles.proofs.Turns.{step-at}
+use Rattle.sheet_colours.proofs.Turns.{step-at}
 
 -- ---- the head's answer, taken apart
 refused-is : (n m : ℕ) → _≡_ {A = Checked} (Refused n) (Refused m) → n ≡ m

@@ -70,8 +70,8 @@ pub fn check(s: &[u8]) -> Checked
         } => {
             let n = 3 * (subs * each);
             match sheet_tiles::palette_then_tiles(s, 86, n as usize, tiles as usize) {
-                sheet_tiles::Step::Fault(f) => Checked::Refused(f),
-                sheet_tiles::Step::At(z) => {
+                sheet_colours::Step::Fault(f) => Checked::Refused(f),
+                sheet_colours::Step::At(z) => {
                     if sheet_spare::only_spare(s, z) {
                         Checked::Sound {
                             subs,

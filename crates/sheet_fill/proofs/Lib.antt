@@ -1,4 +1,2 @@
-pub mod Components
-pub mod Colours
 pub mod Ends
-pub mod Tiles
+mod Tiles

@@ -1,3 +1,4 @@
 pub mod Example
 pub mod Headed
 pub mod Exact
+pub mod Faults

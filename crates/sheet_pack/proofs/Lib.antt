@@ -1,4 +1,3 @@
 pub mod Writes
 pub mod Here
-pub mod Whole
 pub mod Prints

@@ -1,3 +1,2 @@
-pub mod Turns
+mod Tiles
 mod Rest
-pub mod Entries

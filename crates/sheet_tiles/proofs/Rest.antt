@@ -8,8 +8,8 @@ use Rattle.bits.specs.Bits.{bits}
 use Rattle.format.specs.Format.{Res, fault, got, next, times}
 use Rattle.format.proofs.Reading.{both-fault, both-got}
 use Rattle.sheet_format.specs.Sheet.{Edition, component, Colour, tile, rest}
-use Rattle.sheet_tiles.specs.declared.Step.the-variants.{Fault}
-use Rattle.sheet_tiles.specs.Steps.{stepOf, stepAt}
+use Rattle.sheet_colours.specs.declared.Step.the-variants.{Fault}
+use Rattle.sheet_colours.specs.Steps.{stepOf, stepAt}
 
 module _ (E : Edition) (s : List ℕ) (p n t : ℕ) where
   forget : (w : List Bool) (a : List ℕ) (x : Res (List (List Colour))) → stepOf {A = List ℕ × List (List Colour)} w (next x (λ b q. got (a, b) q)) ≡ stepOf w x

@@ -77,7 +77,7 @@ pub fn argmax(values: &[f32]) -> usize
     let mut best = 0;
     let mut i = 0;
     while i < n {
-        if ieee::total_key(values[best]) <= ieee::total_key(values[i]) {
+        if total_order::total_key(values[best]) <= total_order::total_key(values[i]) {
             best = i;
         }
         i += 1;
@@ -94,7 +94,7 @@ pub fn argmin(values: &[f32]) -> usize
     let mut best = 0;
     let mut i = 0;
     while i < n {
-        if ieee::total_key(values[i]) < ieee::total_key(values[best]) {
+        if total_order::total_key(values[i]) < total_order::total_key(values[best]) {
             best = i;
         }
         i += 1;

@@ -1,6 +1,9 @@
-// `train`: a palette for a sheet's tiles. It reads a sheet from standard input and writes what crate train_text gives for it: the
-// sheet with the trained palette, or a refusal's line. One byte past the largest sheet is enough to know that a sheet is too large.
-// Assumes nothing.
+// `train`: a palette for a sheet's tiles. It reads a sheet from standard input and writes what `text` gives for it: the sheet with the
+// trained palette, or a refusal's line. One byte past the largest sheet is enough to know that a sheet is too large. Assumes nothing.
+mod run;
+mod text;
+mod trained;
+
 ghost use mathlib.Core.Path.{_≡_};
 ghost use lib.ListN.{length};
 
@@ -21,7 +24,7 @@ fn text_room() -> [u8; 65536]
 fn main() {
     let mut sheet = sheet_room();
     let n = io::read_full(libc::STDIN_FILENO, &mut sheet);
-    let mut text = text_room();
-    let k = train_text::train(&sheet[..n], &mut text);
-    io::write_all(libc::STDOUT_FILENO, &text[..k]);
+    let mut out = text_room();
+    let k = text::train(&sheet[..n], &mut out);
+    io::write_all(libc::STDOUT_FILENO, &out[..k]);
 }

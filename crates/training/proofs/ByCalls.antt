@@ -14,19 +14,18 @@ use Rattle.job.specs.Checks.{componentsFit}
 use Rattle.job.specs.Gives.{Sampled}
 use Rattle.quantizer.specs.Course.{Course}
 use Rattle.stages.specs.State.{State, draws, stops}
-use Rattle.stages.specs.Stages.{going, step, advance, start, handIn}
+use Rattle.stages.specs.Stages.{advance, start, handIn}
 use Rattle.stages.specs.Calls.{Memory, stateOf, memoryOf, Outcome, coloursRoom, jobRules, advanceAnswer, handInAnswer, startAnswer, startCall, advanceCall, handInCall}
 use Rattle.calls.proofs.Cases.{decide}
-use Rattle.calls.proofs.Whilsts.{whilst-stop}
 use Rattle.calls.specs.Fit.{Fit}
 use Rattle.calls.proofs.Fit.{start-fit, advance-fit}
 use Rattle.calls.proofs.Accepted.{few-pixels, job-passed, holds}
 use Rattle.calls.specs.Accepted.{Roomy}
 use Rattle.calls.proofs.Answers.{start-closed, advance-opened, advance-closed, handIn-closed}
 use Rattle.calls.proofs.Next.{held-state, done, refused, handIn-leaves}
-use Rattle.training.specs.Training.{cut, all, goOn, handCut, atReduction, atDrawn, atRefined, trained, goCall, stopCall, reductionCalls, drawnCalls, finishedCalls}
+use Rattle.training.specs.Training.{cut, all, goOn, handCut, turn, trained, goCall, stopCall, turnCall, turnCalls, trainCalls}
 use Rattle.training.proofs.Cuts.{length-cut, cut-fits}
-use Rattle.training.proofs.Stops.{handed-late, handed-refined, handed-last, to-reduction, to-drawn}
+use Rattle.training.proofs.Stops.{handed-late, handed-refined, handed-last, to-reduction, to-drawn, stays}
 
 module _ (K : Course) (P : Passed (jobRules tileSize K true)) where
   D : Sampled tileSize (K .job) (K .n) (K .samples) true
@@ -57,7 +56,7 @@ module _ (K : Course) (P : Passed (jobRules tileSize K true)) where
       by (inr d) =
           unfold advanceCall in
           ap (λ (x : Outcome). x .after) (refused (advanceAnswer tileSize K (memoryOf s)) (memoryOf s) _ (advance K all (stateOf (memoryOf s))) (λ e. true≢false (sym (rw (held-state s) at (advance-opened tileSize K (memoryOf s) e .1)) ∙ d)))
-          ∙ ap memoryOf (sym (whilst-stop (going K) (step K) all s d))
+          ∙ ap memoryOf (sym (stays K s d))
 
   -- a hand-in at a stop
   handed : {m : Memory} {s : State} → Holds m s → stops (s .stage) ≡ true → Holds (stopCall K m) (handCut K s)
@@ -82,52 +81,56 @@ module _ (K : Course) (P : Passed (jobRules tileSize K true)) where
           ∙ ap (λ (z : State). memoryOf (handIn K (cut (memoryOf s .palette)) z)) (held-state s)
           ∙ ap (λ (x : List Float). memoryOf (handIn K (cut x) s)) same
 
+  -- a turn that comes to a stop
+  turned : {m : Memory} {s : State} → Holds m s → stops (goOn K s .stage) ≡ true → Holds (turnCall K m) (turn K s)
+  unfolding turn
+  turned H d = handed (gone H) d
+
   -- ---- the stops, one after the other
   few : K .job .S + K .job .C ≤ 32
   few = omega (arith, D .ready .sizes .few, D .ready .sizes .cap)
 
   module _ (m : Memory) (r : Roomy K m) where
-    at-reduction : Holds (reductionCalls K m) (atReduction K (m .hints))
-    unfolding atReduction
-    at-reduction = gone (started m r)
+    begun : State
+    begun = start K 0 (m .hints)
 
-    reduction-stage : atReduction K (m .hints) .stage ≡ 3
-    unfolding atReduction
-    reduction-stage = to-reduction K (D .ready .sizes .subs) (D .ready .sizes .some) few (D .few) (m .hints)
+    at-reduction : goOn K begun .stage ≡ 3
+    unfolding begun
+    at-reduction = to-reduction K (D .ready .sizes .subs) (D .ready .sizes .some) few (D .few) (m .hints)
 
-    passed-reduction : Holds (stopCall K (reductionCalls K m)) (handCut K (atReduction K (m .hints)))
-    passed-reduction = handed at-reduction (ap stops reduction-stage)
+    reduced : Holds (turnCalls K 1 (startCall tileSize K m 0 .after)) (turn K begun)
+    unfolding turnCalls begun
+    reduced = turned (started m r) (ap stops at-reduction)
 
-    at-drawn : Holds (drawnCalls K (reductionCalls K m)) (atDrawn K (m .hints))
-    unfolding atDrawn
-    at-drawn = gone passed-reduction
+    at-drawn : goOn K (turn K begun) .stage ≡ 5
+    unfolding turn handCut
+    at-drawn =
+        to-drawn K (D .ready .sizes .subs) (D .ready .sizes .some) few (D .few) (turn K begun) (reduced .fit .rests)
+        (handed-late K (cut (goOn K begun .palette)) (goOn K begun) at-reduction)
 
-    drawn-stage : atDrawn K (m .hints) .stage ≡ 5
-    unfolding atDrawn handCut
-    drawn-stage =
-        to-drawn K (D .ready .sizes .subs) (D .ready .sizes .some) few (D .few) (handCut K (atReduction K (m .hints))) (passed-reduction .fit .rests)
-        (handed-late K (cut (atReduction K (m .hints) .palette)) (atReduction K (m .hints)) reduction-stage)
+    drawn : Holds (turnCalls K 2 (startCall tileSize K m 0 .after)) (turn K (turn K begun))
+    unfolding turnCalls
+    drawn = turned reduced (ap stops at-drawn)
 
-    at-refined : Holds (stopCall K (drawnCalls K (reductionCalls K m))) (atRefined K (m .hints))
-    unfolding atRefined
-    at-refined = handed at-drawn (ap stops drawn-stage)
+    -- behind the refinements no draw is left
+    at-refined : goOn K (turn K (turn K begun)) .stage ≡ 6
+    at-refined = ap (λ (s : State). s .stage) (stays K (turn K (turn K begun)) (ap draws refined)) ∙ refined
+      where
+        refined : turn K (turn K begun) .stage ≡ 6
+        refined = unfold turn handCut in handed-refined K (cut (goOn K (turn K begun) .palette)) (goOn K (turn K begun)) at-drawn
 
-    refined-stage : atRefined K (m .hints) .stage ≡ 6
-    unfolding atRefined handCut
-    refined-stage = handed-refined K (cut (atDrawn K (m .hints) .palette)) (atDrawn K (m .hints)) drawn-stage
-
-    finished : Holds (finishedCalls K (drawnCalls K (reductionCalls K m))) (trained K (m .hints))
-    unfolding trained
-    finished = handed at-refined (ap stops refined-stage)
+    finished : Holds (trainCalls K m) (trained K (m .hints))
+    unfolding turnCalls trained begun
+    finished = turned drawn (ap stops at-refined)
 
     -- ---- the palette that the calls leave
-    pub calls-train : finishedCalls K (drawnCalls K (reductionCalls K m)) .palette ≡ trained K (m .hints) .palette
+    pub calls-train : trainCalls K m .palette ≡ trained K (m .hints) .palette
     unfolding memoryOf
     calls-train = ap (λ (x : Memory). x .palette) (finished .is)
 
     -- it has its length, and is within 2
     pub trained-fits : (length (trained K (m .hints) .palette) ≡ 3 * (K .job .S * K .job .C)) × (componentsFit two (trained K (m .hints) .palette) ≡ true)
-    trained-fits = (finished .fit .sound .held .size, subst⁻¹ (λ (x : List Float). componentsFit two x ≡ true) last (cut-fits (atRefined K (m .hints) .palette) (at-refined .fit .sound .held .bound)))
+    trained-fits = (finished .fit .sound .held .size, subst⁻¹ (λ (x : List Float). componentsFit two x ≡ true) last (cut-fits (goOn K (turn K (turn K begun)) .palette) (gone drawn .fit .sound .held .bound)))
       where
-        last : trained K (m .hints) .palette ≡ cut (atRefined K (m .hints) .palette)
-        last = unfold trained handCut in handed-last K (cut (atRefined K (m .hints) .palette)) (atRefined K (m .hints)) refined-stage
+        last : trained K (m .hints) .palette ≡ cut (goOn K (turn K (turn K begun)) .palette)
+        last = unfold trained turn handCut begun in handed-last K (cut (goOn K (turn K (turn K begun)) .palette)) (goOn K (turn K (turn K begun))) at-refined

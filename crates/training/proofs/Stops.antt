@@ -36,6 +36,11 @@ drawn-out k e d = let (l, h) = two-left k e in omega (arith, still)
     still q = true≢false (sym (ap draws q) ∙ d)
 
 module _ (K : Course) where
+  -- where no draw is to be made, none is
+  pub stays : (s : State) → draws (s .stage) ≡ false → goOn K s ≡ s
+  unfolding goOn
+  stays s d = whilst-stop (going K) (step K) all s d
+
   pub handed-late : (reduced : List Float) (s : State) → s .stage ≡ 3 → handIns (handIn K reduced s .stage) ≡ 2
   handed-late reduced s e = omega (arith, hand-in-one K reduced s (ap stops e), ap handIns e ∙ three)
     where
@@ -65,7 +70,7 @@ module _ (K : Course) (S1 : 1 ≤ K .job .S) (C1 : 1 ≤ K .job .C) (few : K .jo
   unfolding goOn
   to-drawn s R h = elim (decide (draws (s .stage))) [
     | inl d ↦ go (advance K all s) refl (advance-rests K S1 C1 all s R) (advance-hand-ins K all s d ∙ h)
-    | inr d ↦ ap (λ (x : State). x .stage) (whilst-stop (going K) (step K) all s d) ∙ drawn-out (s .stage) h d
+    | inr d ↦ ap (λ (x : State). x .stage) (stays K s d) ∙ drawn-out (s .stage) h d
   ]
     where
       go : (z : State) → z ≡ advance K all s → Rests K z → handIns (advance K all s .stage) ≡ 2 → advance K all s .stage ≡ 5

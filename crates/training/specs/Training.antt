@@ -1,10 +1,8 @@
 -- How `train` trains: a run from seed 0 that makes all its draws, and at each of its three stops is handed its own colours, cut to -2..2.
 -- Definitions only. Assumes nothing.
-use Prim.Native.Nat.{ℕ}
-use mathlib.Core.Path.{_≡_}
+use Prim.Native.Nat.{ℕ, zero, suc}
 use mathlib.Core.Bool.{cond, true}
 use mathlib.Core.List.{List, map}
-use lib.ListN.{length}
 use lib.Ieee.{Float, lt, neg}
 use Rattle.job.specs.Job.{two, tileSize}
 use Rattle.job.specs.Rules.{Passed}
@@ -34,19 +32,13 @@ module _ (K : Course) where
   unfoldable pub handCut : State → State
   handCut s = handIn K (cut (s .palette)) s
 
-  -- the first stop, the one behind the final draws, and the one behind the refinements
-  unfoldable pub atReduction : List ℕ → State
-  atReduction hints = goOn (start K 0 hints)
+  -- a turn: all draws up to the next stop, none where the run stands at one; and that stop is passed
+  unfoldable pub turn : State → State
+  turn s = handCut (goOn s)
 
-  unfoldable pub atDrawn : List ℕ → State
-  atDrawn hints = goOn (handCut (atReduction hints))
-
-  unfoldable pub atRefined : List ℕ → State
-  atRefined hints = handCut (atDrawn hints)
-
-  -- the run finished, from these hints
+  -- the run finished, from these hints: one turn for each of its three stops
   unfoldable pub trained : List ℕ → State
-  trained hints = handCut (atRefined hints)
+  trained hints = turn (turn (turn (start K 0 hints)))
 
 -- ---- the same by the public calls, over lent memory
 module _ (K : Course) where
@@ -56,17 +48,19 @@ module _ (K : Course) where
   abbrev pub stopCall : Memory → Memory
   stopCall m = handInCall tileSize K m (cut (m .palette)) .after
 
-  abbrev pub reductionCalls : Memory → Memory
-  reductionCalls m = goCall (startCall tileSize K m 0 .after)
+  abbrev pub turnCall : Memory → Memory
+  turnCall m = stopCall (goCall m)
 
-  abbrev pub drawnCalls : Memory → Memory
-  drawnCalls m = goCall (stopCall m)
+  -- so many turns
+  unfoldable pub turnCalls : ℕ → Memory → Memory
+  turnCalls zero m = m
+  turnCalls (suc k) m = turnCall (turnCalls k m)
 
-  abbrev pub finishedCalls : Memory → Memory
-  finishedCalls m = stopCall (stopCall m)
+  -- a start and three turns
+  abbrev pub trainCalls : Memory → Memory
+  trainCalls m = turnCalls 3 (startCall tileSize K m 0 .after)
 
 -- ---- what is asked: a job with samples that every call accepts, and memory of its lengths
-pub record Trainable (K : Course) (m : Memory) (room : List Float) : Type 0 where
+pub record Trainable (K : Course) (m : Memory) : Type 0 where
   pub passed : Passed (jobRules tileSize K true)
   pub roomy : Roomy K m
-  pub long : length room ≡ length (m .palette)

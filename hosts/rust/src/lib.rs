@@ -29,6 +29,8 @@
 #![warn(missing_docs)]
 
 pub mod console;
+#[allow(unsafe_code, missing_docs)]
+mod exports;
 #[allow(unsafe_code)]
 mod ffi;
 mod job;

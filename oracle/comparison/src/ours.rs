@@ -1,4 +1,4 @@
-//! Our functions, through the forwarders of crate `probe`. A slice is a pointer and a length.
+//! Our functions, from the library that ships and through the forwarders.
 //! Each wrapper's caller meets what the function requires; the cases are made so.
 
 mod calls;

@@ -8,23 +8,17 @@ use Rattle.assign.proofs.assign.Tie as tie
 check-assign-requires : tie.Need-check-assign-requires
 check-assign-requires c κs = search needs
 
-same-length : tie.Need-same-length
-same-length c = search needs
-
-same-length-2 : tie.Need-same-length-2
-same-length-2 c = search needs
-
 returns : tie.Need-returns
 returns c = stop _ _ _ _ _ (c .before .check-assign .ensures) (c .if1 .taken)
 
 assign-tiles-requires : tie.Need-assign-tiles-requires
 assign-tiles-requires c κs = go _ _ _ _ _ (c .before .before .before .check-assign .ensures) (c .before .before .if1 .left) (omega arith)
 
-same-length-3 : tie.Need-same-length-3
-same-length-3 c = search needs
+same-length : tie.Need-same-length
+same-length c = search needs
 
-same-length-4 : tie.Need-same-length-4
-same-length-4 c = search needs
+same-length-2 : tie.Need-same-length-2
+same-length-2 c = search needs
 
 returns-2 : tie.Need-returns-2
 returns-2 c = done _ _ _ _ _ (c .before .before .before .before .before .before .before .before .check-assign .ensures) (c .before .before .before .before .before .before .before .if1 .left) _ (c .before .before .before .before .assign-tiles .ensures)
@@ -32,12 +26,4 @@ returns-2 c = done _ _ _ _ _ (c .before .before .before .before .before .before 
 pub assign-spec : {M : Type 1} → statement M
 assign-spec =
     tie.close
-    (tie.spec
-    check-assign-requires
-    same-length
-    same-length-2
-    returns
-    assign-tiles-requires
-    same-length-3
-    same-length-4
-    returns-2)
+    (tie.spec check-assign-requires returns assign-tiles-requires same-length same-length-2 returns-2)

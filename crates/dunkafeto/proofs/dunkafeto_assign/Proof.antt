@@ -5,16 +5,16 @@ use Rattle.dunkafeto.proofs.dunkafeto_assign.Statement.{statement}
 use Rattle.dunkafeto.proofs.dunkafeto_assign.Tie as tie
 
 assign-requires : tie.Need-assign-requires
-assign-requires c κs = search needs
+assign-requires c κs = tt
 
 cast-result : tie.Need-cast-result
 cast-result c = search needs
 
 same-length : tie.Need-same-length
-same-length c = search needs
+same-length c = c .before .before .before .before .assign .kept .1 .1 .1 .1 .1 .1 .1 .1 .0
 
 same-length-2 : tie.Need-same-length-2
-same-length-2 c = search needs
+same-length-2 c = c .before .before .before .before .assign .kept .1 .1 .1 .1 .1 .1 .1 .1 .1 .0
 
 returns : tie.Need-returns
 returns c = tiles-told _ _ _ (c .before .before .before .before .assign .ensures)

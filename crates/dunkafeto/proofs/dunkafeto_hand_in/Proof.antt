@@ -5,19 +5,19 @@ use Rattle.dunkafeto.proofs.dunkafeto_hand_in.Statement.{statement}
 use Rattle.dunkafeto.proofs.dunkafeto_hand_in.Tie as tie
 
 hand-in-requires : tie.Need-hand-in-requires
-hand-in-requires c κs = search needs
+hand-in-requires c κs = tt
 
 cast-result : tie.Need-cast-result
 cast-result c = search needs
 
 same-length : tie.Need-same-length
-same-length c = search needs
+same-length c = c .before .before .before .before .before .before .hand-in .kept .1 .1 .1 .1 .1 .1 .1 .1 .1 .1 .0
 
 same-length-2 : tie.Need-same-length-2
-same-length-2 c = search needs
+same-length-2 c = c .before .before .before .before .before .before .hand-in .kept .1 .1 .1 .1 .1 .1 .1 .1 .1 .1 .1 .0
 
 same-length-3 : tie.Need-same-length-3
-same-length-3 c = search needs
+same-length-3 c = c .before .before .before .before .before .before .hand-in .kept .1 .1 .1 .1 .1 .1 .1 .1 .1 .1 .1 .1 .1 .0
 
 returns : tie.Need-returns
 returns c = run-told _ _ _ (c .before .before .before .before .before .before .hand-in .ensures)

@@ -5,13 +5,13 @@ use Rattle.dunkafeto.proofs.dunkafeto_result.Statement.{statement}
 use Rattle.dunkafeto.proofs.dunkafeto_result.Tie as tie
 
 result-requires : tie.Need-result-requires
-result-requires c κs = search needs
+result-requires c κs = tt
 
 cast-result : tie.Need-cast-result
 cast-result c = search needs
 
 same-length : tie.Need-same-length
-same-length c = search needs
+same-length c = c .before .before .result .kept .1 .1 .1 .1 .1 .1 .1 .1 .1 .1 .1 .1 .1 .1 .0
 
 returns : tie.Need-returns
 returns c = colours-told _ _ _ (c .before .before .result .ensures)

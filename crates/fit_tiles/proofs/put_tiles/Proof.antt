@@ -1,9 +1,10 @@
 -- `put_tiles` meets its contract. The loop's invariant: the lines of the tiles passed stand there, and the loads count them. Assumes nothing.
 use Prim.Native.Nat.{ℕ, _≤_, _+_, _-_, _*_}
 use mathlib.Core.Path.{_≡_, refl, sym, ap, _∙_, subst}
+use mathlib.Core.List.{List}
 use native.Mathlib.Omega.{arith}
-use lib.ListN.{length, getD, length-set}
-use Rattle.job.specs.Job.{job}
+use lib.ListN.{length, getD}
+use Rattle.job.specs.Job.{Job, job}
 use Rattle.fit_lines.specs.Lines.{Stored}
 use Rattle.fit_tiles.specs.Text.{tileLines, loadOf}
 use Rattle.fit_tiles.proofs.Lengths.{tile-most}
@@ -39,20 +40,15 @@ cast-put-tile c = omega (arith, c .before .before .before .before .before .befor
 put-tile-requires : tie.Need-put-tile-requires Inv-loop μ-loop
 put-tile-requires c κs = omega arith
 
-cast-k : tie.Need-cast-k Inv-loop μ-loop
-cast-k c = omega arith
-
-mul-loads : tie.Need-mul-loads Inv-loop μ-loop
-mul-loads c = omega arith
-
-slice-read-loads : tie.Need-slice-read-loads Inv-loop μ-loop
-slice-read-loads c = omega (arith, c .before .before .before .before .before .before .before .before .tile-found .ensures .0, sub-below (job (c .before .before .before .before .before .before .before .before .before .before .before .before .before .before .before .before .before .before .before .args .s) (c .before .before .before .before .before .before .before .before .before .before .before .before .before .before .before .before .before .before .before .args .c) (c .before .before .before .before .before .before .before .before .before .before .before .before .before .before .before .before .before .before .before .args .t) (c .before .before .before .before .before .before .before .before .before .before .before .before .before .before .before .before .before .before .before .args .weight) (c .before .before .before .before .before .before .before .before .before .before .before .before .before .before .before .before .before .before .before .args .tiles .now) (c .before .before .before .before .before .before .before .before .before .before .before .before .before .before .before .before .before .before .before .args .colours .now) (c .before .before .before .before .before .before .before .before .before .before .before .before .before .before .before .before .before .before .before .args .counts .now)) (c .before .before .before .before .before .before .before .before .before .before .before .before .before .before .before .before .before .before .before .args .palette .now) (c .before .before .before .before .before .before .before .before .before .before .before .before .before .before .before .before .before .before .before .pre .0) (c .before .before .before .before .before .before .before .before .before .before .before .loop .i))
-
-add-loads : tie.Need-add-loads Inv-loop μ-loop
-add-loads c = omega (arith, c .before .before .before .before .before .before .before .before .before .before .before .loop .inv .6 (c .before .before .before .before .before .before .before .before .tile-found .result .sub), load-few (job (c .before .before .before .before .before .before .before .before .before .before .before .before .before .before .before .before .before .before .before .args .s) (c .before .before .before .before .before .before .before .before .before .before .before .before .before .before .before .before .before .before .before .args .c) (c .before .before .before .before .before .before .before .before .before .before .before .before .before .before .before .before .before .before .before .args .t) (c .before .before .before .before .before .before .before .before .before .before .before .before .before .before .before .before .before .before .before .args .weight) (c .before .before .before .before .before .before .before .before .before .before .before .before .before .before .before .before .before .before .before .args .tiles .now) (c .before .before .before .before .before .before .before .before .before .before .before .before .before .before .before .before .before .before .before .args .colours .now) (c .before .before .before .before .before .before .before .before .before .before .before .before .before .before .before .before .before .before .before .args .counts .now)) (c .before .before .before .before .before .before .before .before .before .before .before .before .before .before .before .before .before .before .before .args .palette .now) (c .before .before .before .before .before .before .before .before .tile-found .result .sub) (c .before .before .before .before .before .before .before .before .before .before .before .loop .i), c .before .before .before .before .before .before .before .before .before .before .before .before .before .before .before .before .before .before .before .pre .0 .ready .sizes .tiles)
-
-slice-write-loads : tie.Need-slice-write-loads Inv-loop μ-loop
-slice-write-loads c = omega (arith, c .before .before .before .before .before .before .before .before .tile-found .ensures .0, sub-below (job (c .before .before .before .before .before .before .before .before .before .before .before .before .before .before .before .before .before .before .before .args .s) (c .before .before .before .before .before .before .before .before .before .before .before .before .before .before .before .before .before .before .before .args .c) (c .before .before .before .before .before .before .before .before .before .before .before .before .before .before .before .before .before .before .before .args .t) (c .before .before .before .before .before .before .before .before .before .before .before .before .before .before .before .before .before .before .before .args .weight) (c .before .before .before .before .before .before .before .before .before .before .before .before .before .before .before .before .before .before .before .args .tiles .now) (c .before .before .before .before .before .before .before .before .before .before .before .before .before .before .before .before .before .before .before .args .colours .now) (c .before .before .before .before .before .before .before .before .before .before .before .before .before .before .before .before .before .before .before .args .counts .now)) (c .before .before .before .before .before .before .before .before .before .before .before .before .before .before .before .before .before .before .before .args .palette .now) (c .before .before .before .before .before .before .before .before .before .before .before .before .before .before .before .before .before .before .before .pre .0) (c .before .before .before .before .before .before .before .before .before .before .before .loop .i))
+count-tile-requires : tie.Need-count-tile-requires Inv-loop μ-loop
+count-tile-requires c κs =
+    let f = c .before .before .before .before .before .before .before in
+    let l = f .before .before .before in
+    let z = l .before .before .before .before .before .before .before .before in
+    let J : Job = job (z .args .s) (z .args .c) (z .args .t) (z .args .weight) (z .args .tiles .now) (z .args .colours .now) (z .args .counts .now) in (
+      omega (arith, f .tile-found .ensures .0, sub-below J (z .args .palette .now) (z .pre .0) (l .loop .i)),
+      omega (arith, l .loop .inv .6 (f .tile-found .result .sub), load-few J (z .args .palette .now) (f .tile-found .result .sub) (l .loop .i), z .pre .0 .ready .sizes .tiles),
+    )
 
 add-i : tie.Need-add-i Inv-loop μ-loop
 add-i c = omega arith
@@ -62,16 +58,23 @@ loop-less c = omega arith
 
 loop-again : tie.Need-loop-again Inv-loop μ-loop
 loop-again c =
-    let room = tile-most (c .before .before .before .before .before .before .before .before .before .before .before .loop .i) (c .before .before .before .before .before .before .before .before .tile-found .result .sub) (c .before .before .before .before .before .before .before .before .tile-found .result .bits) in (
+    let n = c .before .before in
+    let p = n .before .before .before .before in
+    let f = p .before .before .before .before in
+    let l = f .before .before .before in
+    let z = l .before .before .before .before .before .before .before .before in
+    let J : Job = job (z .args .s) (z .args .c) (z .args .t) (z .args .weight) (z .args .tiles .now) (z .args .colours .now) (z .args .counts .now) in
+    let k = f .tile-found .result .sub in
+    let room = tile-most (l .loop .i) k (f .tile-found .result .bits) in (
       omega arith,
-      c .before .before .before .before .before .before .before .before .tile-found .kept .1 .1 .1 .1 .1 .1 .1 .1 .0 ∙ c .before .before .before .before .before .before .before .before .before .before .before .loop .inv .1,
-      length-set (c .before .before .before .before .before .before .before .before .before .before .before .loop .loads) _ _ ∙ c .before .before .before .before .before .before .before .before .before .before .before .loop .inv .2,
-      c .before .before .before .before .put-tile .kept .0 ∙ c .before .before .before .before .before .before .before .before .before .before .before .loop .inv .3,
-      omega (arith, c .before .before .before .before .put-tile .ensures .place),
-      lines-more (job (c .before .before .before .before .before .before .before .before .before .before .before .before .before .before .before .before .before .before .before .args .s) (c .before .before .before .before .before .before .before .before .before .before .before .before .before .before .before .before .before .before .before .args .c) (c .before .before .before .before .before .before .before .before .before .before .before .before .before .before .before .before .before .before .before .args .t) (c .before .before .before .before .before .before .before .before .before .before .before .before .before .before .before .before .before .before .before .args .weight) (c .before .before .before .before .before .before .before .before .before .before .before .before .before .before .before .before .before .before .before .args .tiles .now) (c .before .before .before .before .before .before .before .before .before .before .before .before .before .before .before .before .before .before .before .args .colours .now) (c .before .before .before .before .before .before .before .before .before .before .before .before .before .before .before .before .before .before .before .args .counts .now)) (c .before .before .before .before .before .before .before .before .before .before .before .before .before .before .before .before .before .before .before .args .palette .now) (c .before .before .before .before .before .before .before .before .before .before .before .before .before .before .before .before .before .before .before .args .out .now) (c .before .before .before .before .before .before .before .before .before .before .before .loop .out) (c .before .before .before .before .put-tile .last .0) (c .before .before .before .before .before .before .before .before .before .before .before .before .before .before .before .before .before .before .before .args .at) (c .before .before .before .before .before .before .before .before .before .before .before .loop .q) (c .before .before .before .before .put-tile .result) (c .before .before .before .before .before .before .before .before .before .before .before .loop .i) (c .before .before .before .before .before .before .before .before .tile-found .result .sub) (c .before .before .before .before .before .before .before .before .tile-found .result .bits)
-          (c .before .before .before .before .before .before .before .before .before .before .before .loop .inv .5) (c .before .before .before .before .put-tile .ensures) (c .before .before .before .before .before .before .before .before .tile-found .ensures .0) (c .before .before .before .before .before .before .before .before .tile-found .ensures .1),
-      load-more (job (c .before .before .before .before .before .before .before .before .before .before .before .before .before .before .before .before .before .before .before .args .s) (c .before .before .before .before .before .before .before .before .before .before .before .before .before .before .before .before .before .before .before .args .c) (c .before .before .before .before .before .before .before .before .before .before .before .before .before .before .before .before .before .before .before .args .t) (c .before .before .before .before .before .before .before .before .before .before .before .before .before .before .before .before .before .before .before .args .weight) (c .before .before .before .before .before .before .before .before .before .before .before .before .before .before .before .before .before .before .before .args .tiles .now) (c .before .before .before .before .before .before .before .before .before .before .before .before .before .before .before .before .before .before .before .args .colours .now) (c .before .before .before .before .before .before .before .before .before .before .before .before .before .before .before .before .before .before .before .args .counts .now)) (c .before .before .before .before .before .before .before .before .before .before .before .before .before .before .before .before .before .before .before .args .palette .now) (c .before .before .before .before .before .before .before .before .before .before .before .loop .loads) (c .before .before .before .before .before .before .before .before .before .before .before .loop .i) (c .before .before .before .before .before .before .before .before .tile-found .result .sub) (c .before .before .before .before .before .before .before .before .tile-found .ensures .0)
-          (omega (arith, c .before .before .before .before .before .before .before .before .tile-found .ensures .0, sub-below (job (c .before .before .before .before .before .before .before .before .before .before .before .before .before .before .before .before .before .before .before .args .s) (c .before .before .before .before .before .before .before .before .before .before .before .before .before .before .before .before .before .before .before .args .c) (c .before .before .before .before .before .before .before .before .before .before .before .before .before .before .before .before .before .before .before .args .t) (c .before .before .before .before .before .before .before .before .before .before .before .before .before .before .before .before .before .before .before .args .weight) (c .before .before .before .before .before .before .before .before .before .before .before .before .before .before .before .before .before .before .before .args .tiles .now) (c .before .before .before .before .before .before .before .before .before .before .before .before .before .before .before .before .before .before .before .args .colours .now) (c .before .before .before .before .before .before .before .before .before .before .before .before .before .before .before .before .before .before .before .args .counts .now)) (c .before .before .before .before .before .before .before .before .before .before .before .before .before .before .before .before .before .before .before .args .palette .now) (c .before .before .before .before .before .before .before .before .before .before .before .before .before .before .before .before .before .before .before .pre .0) (c .before .before .before .before .before .before .before .before .before .before .before .loop .i))) (c .before .before .before .before .before .before .before .before .before .before .before .loop .inv .6),
+      f .tile-found .kept .1 .1 .1 .1 .1 .1 .1 .1 .0 ∙ l .loop .inv .1,
+      n .count-tile .kept .0 ∙ l .loop .inv .2,
+      p .put-tile .kept .0 ∙ l .loop .inv .3,
+      omega (arith, p .put-tile .ensures .place),
+      lines-more J (z .args .palette .now) (z .args .out .now) (l .loop .out) (p .put-tile .last .0) (z .args .at) (l .loop .q) (p .put-tile .result) (l .loop .i) k (f .tile-found .result .bits)
+          (l .loop .inv .5) (p .put-tile .ensures) (f .tile-found .ensures .0) (f .tile-found .ensures .1),
+      λ j. ap (λ (x : List ℕ). getD x j 0) (n .count-tile .ensures)
+          ∙ load-more J (z .args .palette .now) (l .loop .loads) (l .loop .i) k (f .tile-found .ensures .0) (omega (arith, f .tile-found .ensures .0, sub-below J (z .args .palette .now) (z .pre .0) (l .loop .i))) (l .loop .inv .6) j,
     )
 
 same-length : tie.Need-same-length Inv-loop μ-loop
@@ -100,11 +103,7 @@ put-tiles-spec =
     tile-found-requires
     cast-put-tile
     put-tile-requires
-    cast-k
-    mul-loads
-    slice-read-loads
-    add-loads
-    slice-write-loads
+    count-tile-requires
     add-i
     loop-less
     loop-again

@@ -1,7 +1,8 @@
 -- `fits::single_fit` meets its contract: a refusal writes nothing, and the rest is the fit of tile 0. Assumes nothing.
 use mathlib.Core.Path.{refl}
 use native.Mathlib.Omega.{arith}
-use Rattle.fits.proofs.Calls.{single-refused, single-asked, single-done}
+use Rattle.fits_outcome.proofs.Singles.{single-refused, single-done}
+use Rattle.fits.proofs.Asked.{single-asked}
 use borrow.Author.Needs.{needs}
 use Rattle.fits.proofs.single_fit.Statement.{statement}
 use Rattle.fits.proofs.single_fit.Tie as tie

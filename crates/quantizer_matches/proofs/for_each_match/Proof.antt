@@ -29,23 +29,23 @@ nearest-requires c κs = search needs
 add-p : tie.Need-add-p Inv-loop μ-loop
 add-p c = omega (arith, near-place _ _ _ _ _ (c .before .before .before .before .before .before .before .before .before .pre) _ _ (c .before .before .before .before .loop .inv .1) _ (c .before .before .colour .ensures) _ (c .before .nearest .ensures))
 
+mul-m : tie.Need-mul-m Inv-loop μ-loop
+mul-m c = omega arith
+
+shared-slice-read-m : tie.Need-shared-slice-read-m Inv-loop μ-loop
+shared-slice-read-m c = omega arith
+
+int-to-float-m : tie.Need-int-to-float-m Inv-loop μ-loop
+int-to-float-m c = count-exact binary32 _ (c .before .before .before .before .before .before .before .before .before .before .before .pre .high (c .before .before .before .before .before .before .loop .k) (omega arith))
+
 mul-total : tie.Need-mul-total Inv-loop μ-loop
-mul-total c = omega (arith, near-place _ _ _ _ _ (c .before .before .before .before .before .before .before .before .before .pre) _ _ (c .before .before .before .before .loop .inv .1) _ (c .before .before .colour .ensures) _ (c .before .nearest .ensures))
+mul-total c = omega (arith, near-place _ _ _ _ _ (c .before .before .before .before .before .before .before .before .before .before .before .pre) _ _ (c .before .before .before .before .before .before .loop .inv .1) _ (c .before .before .before .before .colour .ensures) _ (c .before .before .before .nearest .ensures))
 
 slice-read-total : tie.Need-slice-read-total Inv-loop μ-loop
-slice-read-total c = omega (arith, near-place _ _ _ _ _ (c .before .before .before .before .before .before .before .before .before .before .pre) _ _ (c .before .before .before .before .before .loop .inv .1) _ (c .before .before .before .colour .ensures) _ (c .before .before .nearest .ensures), needs-length _ _ _ _ _ (c .before .before .before .before .before .before .before .before .before .before .pre) _ _ (c .before .before .before .before .before .loop .inv .1))
+slice-read-total c = omega (arith, near-place _ _ _ _ _ (c .before .before .before .before .before .before .before .before .before .before .before .before .pre) _ _ (c .before .before .before .before .before .before .before .loop .inv .1) _ (c .before .before .before .before .before .colour .ensures) _ (c .before .before .before .before .nearest .ensures), needs-length _ _ _ _ _ (c .before .before .before .before .before .before .before .before .before .before .before .before .pre) _ _ (c .before .before .before .before .before .before .before .loop .inv .1))
 
 mul-total-2 : tie.Need-mul-total-2 Inv-loop μ-loop
-mul-total-2 c = omega arith
-
-shared-slice-read-total : tie.Need-shared-slice-read-total Inv-loop μ-loop
-shared-slice-read-total c = omega arith
-
-int-to-float-total : tie.Need-int-to-float-total Inv-loop μ-loop
-int-to-float-total c = count-exact binary32 _ (c .before .before .before .before .before .before .before .before .before .before .before .before .pre .high (c .before .before .before .before .before .before .before .loop .k) (omega arith))
-
-mul-total-3 : tie.Need-mul-total-3 Inv-loop μ-loop
-mul-total-3 c = omega (arith, near-place _ _ _ _ _ (c .before .before .before .before .before .before .before .before .before .before .before .before .before .pre) _ _ (c .before .before .before .before .before .before .before .before .loop .inv .1) _ (c .before .before .before .before .before .before .colour .ensures) _ (c .before .before .before .before .before .nearest .ensures))
+mul-total-2 c = omega (arith, near-place _ _ _ _ _ (c .before .before .before .before .before .before .before .before .before .before .before .before .before .pre) _ _ (c .before .before .before .before .before .before .before .before .loop .inv .1) _ (c .before .before .before .before .before .before .colour .ensures) _ (c .before .before .before .before .before .nearest .ensures))
 
 slice-write-total : tie.Need-slice-write-total Inv-loop μ-loop
 slice-write-total c = omega (arith, near-place _ _ _ _ _ (c .before .before .before .before .before .before .before .before .before .before .before .before .before .pre) _ _ (c .before .before .before .before .before .before .before .before .loop .inv .1) _ (c .before .before .before .before .before .before .colour .ensures) _ (c .before .before .before .before .before .nearest .ensures), needs-length _ _ _ _ _ (c .before .before .before .before .before .before .before .before .before .before .before .before .before .pre) _ _ (c .before .before .before .before .before .before .before .before .loop .inv .1))
@@ -75,12 +75,12 @@ for-each-match-spec =
     colour-requires
     nearest-requires
     add-p
+    mul-m
+    shared-slice-read-m
+    int-to-float-m
     mul-total
     slice-read-total
     mul-total-2
-    shared-slice-read-total
-    int-to-float-total
-    mul-total-3
     slice-write-total
     add-k
     loop-less

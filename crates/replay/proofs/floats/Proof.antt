@@ -10,10 +10,10 @@ use Rattle.replay.proofs.floats.Statement.{statement}
 use Rattle.replay.proofs.floats.Tie as tie
 
 abbrev Inv-loop : tie.InvT-loop
-Inv-loop list start out₀ at₀ i₀ out at i = (i ≤ length out) × (length out ≡ length out₀) × Real out i
+Inv-loop list n out₀ tally₀ i₀ out tally i = (i ≤ n) × (length out ≡ length out₀) × Real out i
 
 abbrev μ-loop : tie.MeasureT-loop
-μ-loop list start out₀ at₀ i₀ out at i = length out - i
+μ-loop list n out₀ tally₀ i₀ out tally i = n - i
 
 loop-holds : tie.Need-loop-holds Inv-loop μ-loop
 loop-holds c = (omega arith, search needs, below-none _)
@@ -27,19 +27,19 @@ mul-out c = search needs
 slice-write-out : tie.Need-slice-write-out Inv-loop μ-loop
 slice-write-out c = search needs
 
-wrapping-add-usize-requires : tie.Need-wrapping-add-usize-requires Inv-loop μ-loop
-wrapping-add-usize-requires c κs = search needs
+passed-requires : tie.Need-passed-requires Inv-loop μ-loop
+passed-requires c κs = search needs
 
 add-i : tie.Need-add-i Inv-loop μ-loop
 add-i c = search needs
 
 loop-less : tie.Need-loop-less Inv-loop μ-loop
-loop-less c = simp length-set (omega arith)
+loop-less c = omega arith
 
 loop-again : tie.Need-loop-again Inv-loop μ-loop
 loop-again c =
     let o = c .before .before .before .loop in
-    (simp length-set (omega arith), simp length-set (o .inv .1), one-more (o .out) (o .i) _ (omega arith) (o .inv .2) (c .before .float .ensures))
+    (omega arith, simp length-set (o .inv .1), one-more (o .out) (o .i) _ (omega arith) (o .inv .2) (c .before .float .ensures))
 
 same-length : tie.Need-same-length Inv-loop μ-loop
 same-length c = search needs
@@ -57,7 +57,7 @@ floats-spec =
     float-requires
     mul-out
     slice-write-out
-    wrapping-add-usize-requires
+    passed-requires
     add-i
     loop-less
     loop-again

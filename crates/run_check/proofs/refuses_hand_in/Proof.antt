@@ -4,8 +4,7 @@ use native.Mathlib.Omega.{arith}
 use borrow.Author.Tests.{eq-eqb}
 use Rattle.stages.specs.Calls.{stateOf, memoryRoom, coloursRoom, handInAnswer}
 use Rattle.job.proofs.Passing.{refuses, passes, skips, none}
-use Rattle.run_state.proofs.States.{near-fails}
-use Rattle.run_check.proofs.Answers.{run-room, run-stops, run-goes}
+use Rattle.run_check.proofs.Answers.{near-fails, run-room, run-stops, run-goes}
 use borrow.Author.Needs.{needs}
 use Rattle.run_check.proofs.refuses_hand_in.Statement.{statement}
 use Rattle.run_check.proofs.refuses_hand_in.Tie as tie

@@ -1,8 +1,7 @@
 -- `run_check::refuses_result` meets its contract, return by return. Assumes nothing.
 use native.Mathlib.Omega.{arith}
-use borrow.Author.Tests.{eq-eqb, ne-eqb}
 use Rattle.stages.specs.Calls.{stateOf, memoryRoom, coloursRoom, resultAnswer}
-use Rattle.job.proofs.Passing.{fails, skips, none}
+use Rattle.job.proofs.Passing.{refuses, passes, none}
 use Rattle.run_check.proofs.Answers.{run-room, run-stops, run-goes}
 use borrow.Author.Needs.{needs}
 use Rattle.run_check.proofs.refuses_result.Statement.{statement}
@@ -18,16 +17,19 @@ returns : tie.Need-returns
 unfolding resultAnswer memoryRoom coloursRoom
 returns c = run-stops _ _ _ _ _ _ _ (c .before .check-run .ensures) _ (c .before .before .wider-room .ensures .same) _ (c .if1 .taken)
 
-shared-slice-read-if2 : tie.Need-shared-slice-read-if2
-shared-slice-read-if2 c = let six = c .before .before .before .wider-room .ensures .six (run-room _ _ _ _ _ _ _ (c .before .before .check-run .ensures) (c .before .if1 .left)) in omega arith
+shared-slice-read-is-finished : tie.Need-shared-slice-read-is-finished
+shared-slice-read-is-finished c = let six = c .before .before .before .wider-room .ensures .six (run-room _ _ _ _ _ _ _ (c .before .before .check-run .ensures) (c .before .if1 .left)) in omega arith
+
+is-finished-requires : tie.Need-is-finished-requires
+is-finished-requires c κs = tt
 
 returns-2 : tie.Need-returns-2
 unfolding resultAnswer memoryRoom coloursRoom stateOf
-returns-2 c = run-goes _ _ _ _ _ _ _ (c .before .before .before .check-run .ensures) _ (c .before .before .before .before .wider-room .ensures .same) _ (c .before .before .if1 .left) _ (fails _ _ _ (ne-eqb _ _ (c .if2 .taken)))
+returns-2 c = run-goes _ _ _ _ _ _ _ (c .before .before .before .before .check-run .ensures) _ (c .before .before .before .before .before .wider-room .ensures .same) _ (c .before .before .before .if1 .left) _ (refuses _ _ _ _ (c .before .is-finished .ensures) (c .if2 .taken))
 
 returns-3 : tie.Need-returns-3
 unfolding resultAnswer memoryRoom coloursRoom stateOf
-returns-3 c = run-goes _ _ _ _ _ _ _ (c .before .before .before .check-run .ensures) _ (c .before .before .before .before .wider-room .ensures .same) _ (c .before .before .if1 .left) _ (skips _ _ _ _ (eq-eqb _ _ (c .if2 .left)) none)
+returns-3 c = run-goes _ _ _ _ _ _ _ (c .before .before .before .before .check-run .ensures) _ (c .before .before .before .before .before .wider-room .ensures .same) _ (c .before .before .before .if1 .left) _ (passes _ _ _ _ _ (c .before .is-finished .ensures) (c .if2 .left) none)
 
 pub refuses-result-spec : {M : Type 1} → statement M
 refuses-result-spec =
@@ -36,6 +38,7 @@ refuses-result-spec =
     wider-room-requires
     check-run-requires
     returns
-    shared-slice-read-if2
+    shared-slice-read-is-finished
+    is-finished-requires
     returns-2
     returns-3)

@@ -17,11 +17,14 @@ have-of-requires c κs = search needs
 alpha-of-requires : tie.Need-alpha-of-requires
 alpha-of-requires c κs = search needs
 
-draw-requires : tie.Need-draw-requires
-draw-requires c κs = let a = c .before .before .before .before .before .before .before .before .before .before .before .before .before .args in going-by (course (job (a .s) (a .c) (a .t) (a .weight) (now (a .tiles)) (now (a .colours)) (now (a .counts))) (a .n) (now (a .samples))) (now (a .order)) (now (a .hints)) (now (a .palette)) (a .r) _ _ (c .before .before .before .before .before .subs-of .ensures) (c .before .before .before .before .have-of .ensures) (c .before .before .before .before .before .before .before .before .before .before .before .before .before .pre .going)
+cycle-of-requires : tie.Need-cycle-of-requires
+cycle-of-requires c κs = tt
 
-sub-t29 : tie.Need-sub-t29
-sub-t29 c = search needs
+draw-requires : tie.Need-draw-requires
+draw-requires c κs = let a = c .before .before .before .before .before .before .before .before .before .before .before .before .before .before .args in going-by (course (job (a .s) (a .c) (a .t) (a .weight) (now (a .tiles)) (now (a .colours)) (now (a .counts))) (a .n) (now (a .samples))) (now (a .order)) (now (a .hints)) (now (a .palette)) (a .r) _ _ (c .before .before .before .before .before .before .subs-of .ensures) (c .before .before .before .before .before .have-of .ensures) _ _ (c .before .before .before .cycle-of .ensures) (c .before .before .before .before .before .before .before .before .before .before .before .before .before .before .pre .going)
+
+count-draw-requires : tie.Need-count-draw-requires
+count-draw-requires c κs = c .before .before .before .before .before .before .before .before .before .before .before .before .before .before .before .before .before .before .before .before .before .pre .left
 
 same-length : tie.Need-same-length
 same-length c = search needs
@@ -33,7 +36,7 @@ same-length-3 : tie.Need-same-length-3
 same-length-3 c = search needs
 
 returns : tie.Need-returns
-returns c = let a = c .before .before .before .before .before .before .before .before .before .before .before .before .before .before .before .before .before .before .before .before .args in drawn-by (course (job (a .s) (a .c) (a .t) (a .weight) (now (a .tiles)) (now (a .colours)) (now (a .counts))) (a .n) (now (a .samples))) (now (a .order)) (now (a .hints)) (now (a .palette)) (a .r) _ _ (c .before .before .before .before .before .before .before .before .before .before .before .before .subs-of .ensures) (c .before .before .before .before .before .before .before .before .before .before .before .have-of .ensures) _ (c .before .before .before .before .before .before .before .before .before .before .alpha-of .ensures) _ _ _ _ _ (c .before .before .before .before .before .before .draw .ensures .0) (c .before .before .before .before .before .before .draw .ensures .1 .0) (c .before .before .before .before .before .before .draw .ensures .1 .1)
+returns c = let a = c .before .before .before .before .before .before .before .before .before .before .before .before .before .before .before .before .before .before .before .before .before .before .args in drawn-by (course (job (a .s) (a .c) (a .t) (a .weight) (now (a .tiles)) (now (a .colours)) (now (a .counts))) (a .n) (now (a .samples))) (now (a .order)) (now (a .hints)) (now (a .palette)) (a .r) _ _ (c .before .before .before .before .before .before .before .before .before .before .before .before .before .before .subs-of .ensures) (c .before .before .before .before .before .before .before .before .before .before .before .before .before .have-of .ensures) _ _ (c .before .before .before .before .before .before .before .before .before .before .before .cycle-of .ensures) _ (c .before .before .before .before .before .before .before .before .before .before .before .before .alpha-of .ensures) _ _ _ _ _ (c .before .before .before .before .before .before .before .draw .ensures .0) (c .before .before .before .before .before .before .before .draw .ensures .1 .0) (c .before .before .before .before .before .before .before .draw .ensures .1 .1) _ (c .count-draw .ensures)
 
 pub draw-spec : {M : Type 1} → statement M
 draw-spec =
@@ -42,8 +45,9 @@ draw-spec =
     subs-of-requires
     have-of-requires
     alpha-of-requires
+    cycle-of-requires
     draw-requires
-    sub-t29
+    count-draw-requires
     same-length
     same-length-2
     same-length-3

@@ -49,8 +49,11 @@ same-length-9 c = search needs
 returns-3 : tie.Need-returns-3
 returns-3 c = replacing-closed _ _ _ _ _ (c .before .before .before .before .before .before .before .before .before .before .before .before .before .before .before .before .before .before .before .before .before .before .before .before .args .r) _ _ _ _ (c .before .before .before .before .before .before .before .before .before .before .if3 .taken) (c .before .before .before .before .before .before .close-replacing .ensures)
 
+end-final-requires : tie.Need-end-final-requires
+end-final-requires c κs = tt
+
 returns-4 : tie.Need-returns-4
-returns-4 c = final _ _ _ _ _ (c .before .before .before .before .before .before .before .before .before .before .before .before .before .before .args .r) (c .before .before .before .before .before .before .before .before .before .before .before .before .before .before .pre) (c .before .before .before .before .if1 .left) (c .before .before .if2 .left) (c .if3 .left)
+returns-4 c = final _ _ _ _ _ (c .before .before .before .before .before .before .before .before .before .before .before .before .before .before .before .args .r) (c .before .before .before .before .before .before .before .before .before .before .before .before .before .before .before .pre) (c .before .before .before .before .before .if1 .left) (c .before .before .before .if2 .left) (c .before .if3 .left) _ (c .end-final .ensures)
 
 pub finish-round-spec : {M : Type 1} → statement M
 finish-round-spec =
@@ -71,4 +74,5 @@ finish-round-spec =
     same-length-8
     same-length-9
     returns-3
+    end-final-requires
     returns-4)

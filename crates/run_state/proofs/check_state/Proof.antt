@@ -1,8 +1,6 @@
 -- `run_state::check_state` meets its contract, return by return. Assumes nothing.
-use mathlib.Core.Path.{sym, _∙_}
-use borrow.Author.Tests.{eq-eqb}
-use Rattle.job.proofs.Passing.{skips, refuses, passes, none}
-use Rattle.run_state.proofs.States.{near-fails, record-stops, record-goes}
+use Rattle.job.proofs.Passing.{refuses, passes, none}
+use Rattle.run_state.proofs.States.{record-stops, record-goes}
 use borrow.Author.Needs.{needs}
 use Rattle.run_state.proofs.check_state.Statement.{statement}
 use Rattle.run_state.proofs.check_state.Tie as tie
@@ -13,26 +11,26 @@ check-record-requires c κs = search needs
 returns : tie.Need-returns
 returns c = record-stops _ _ _ _ (c .before .before .before .before .before .args .r) _ (c .before .check-record .ensures) (c .if1 .taken)
 
-first-bad-requires : tie.Need-first-bad-requires
-first-bad-requires c κs = search needs
+palette-fits-requires : tie.Need-palette-fits-requires
+palette-fits-requires c κs = search needs
 
 returns-2 : tie.Need-returns-2
-returns-2 c = record-goes _ _ _ _ (c .before .before .before .before .before .before .before .args .r) _ (c .before .before .before .check-record .ensures) (c .before .before .if1 .left) _ (near-fails _ _ _ _ _ (c .before .first-bad .ensures) (c .if2 .taken))
+returns-2 c = record-goes _ _ _ _ (c .before .before .before .before .before .before .before .args .r) _ (c .before .before .before .check-record .ensures) (c .before .before .if1 .left) _ (refuses _ _ _ _ (c .before .palette-fits .ensures) (c .if2 .taken))
 
 least-fits-requires : tie.Need-least-fits-requires
 least-fits-requires c κs = search needs
 
 returns-3 : tie.Need-returns-3
-returns-3 c = record-goes _ _ _ _ (c .before .before .before .before .before .before .before .before .before .args .r) _ (c .before .before .before .before .before .check-record .ensures) (c .before .before .before .before .if1 .left) _ (skips _ _ _ _ (eq-eqb _ _ (sym (c .before .before .before .first-bad .ensures) ∙ c .before .before .if2 .left)) (refuses _ _ _ _ (c .before .least-fits .ensures) (c .if3 .taken)))
+returns-3 c = record-goes _ _ _ _ (c .before .before .before .before .before .before .before .before .before .args .r) _ (c .before .before .before .before .before .check-record .ensures) (c .before .before .before .before .if1 .left) _ (passes _ _ _ _ _ (c .before .before .before .palette-fits .ensures) (c .before .before .if2 .left) (refuses _ _ _ _ (c .before .least-fits .ensures) (c .if3 .taken)))
 
 order-fits-requires : tie.Need-order-fits-requires
 order-fits-requires c κs = search needs
 
 returns-4 : tie.Need-returns-4
-returns-4 c = record-goes _ _ _ _ (c .before .before .before .before .before .before .before .before .before .before .before .args .r) _ (c .before .before .before .before .before .before .before .check-record .ensures) (c .before .before .before .before .before .before .if1 .left) _ (skips _ _ _ _ (eq-eqb _ _ (sym (c .before .before .before .before .before .first-bad .ensures) ∙ c .before .before .before .before .if2 .left)) (passes _ _ _ _ _ (c .before .before .before .least-fits .ensures) (c .before .before .if3 .left) (refuses _ _ _ _ (c .before .order-fits .ensures) (c .if4 .taken))))
+returns-4 c = record-goes _ _ _ _ (c .before .before .before .before .before .before .before .before .before .before .before .args .r) _ (c .before .before .before .before .before .before .before .check-record .ensures) (c .before .before .before .before .before .before .if1 .left) _ (passes _ _ _ _ _ (c .before .before .before .before .before .palette-fits .ensures) (c .before .before .before .before .if2 .left) (passes _ _ _ _ _ (c .before .before .before .least-fits .ensures) (c .before .before .if3 .left) (refuses _ _ _ _ (c .before .order-fits .ensures) (c .if4 .taken))))
 
 returns-5 : tie.Need-returns-5
-returns-5 c = record-goes _ _ _ _ (c .before .before .before .before .before .before .before .before .before .before .before .args .r) _ (c .before .before .before .before .before .before .before .check-record .ensures) (c .before .before .before .before .before .before .if1 .left) _ (skips _ _ _ _ (eq-eqb _ _ (sym (c .before .before .before .before .before .first-bad .ensures) ∙ c .before .before .before .before .if2 .left)) (passes _ _ _ _ _ (c .before .before .before .least-fits .ensures) (c .before .before .if3 .left) (passes _ _ _ _ _ (c .before .order-fits .ensures) (c .if4 .left) none)))
+returns-5 c = record-goes _ _ _ _ (c .before .before .before .before .before .before .before .before .before .before .before .args .r) _ (c .before .before .before .before .before .before .before .check-record .ensures) (c .before .before .before .before .before .before .if1 .left) _ (passes _ _ _ _ _ (c .before .before .before .before .before .palette-fits .ensures) (c .before .before .before .before .if2 .left) (passes _ _ _ _ _ (c .before .before .before .least-fits .ensures) (c .before .before .if3 .left) (passes _ _ _ _ _ (c .before .order-fits .ensures) (c .if4 .left) none)))
 
 pub check-state-spec : {M : Type 1} → statement M
 check-state-spec =
@@ -40,7 +38,7 @@ check-state-spec =
     (tie.spec
     check-record-requires
     returns
-    first-bad-requires
+    palette-fits-requires
     returns-2
     least-fits-requires
     returns-3

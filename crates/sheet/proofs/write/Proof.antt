@@ -1,7 +1,8 @@
 -- `write` meets its contract: the job's refusals first, then the size, then the room. Assumes nothing.
 use native.Mathlib.Omega.{arith}
 use Rattle.job.specs.Job.{job, tileSize}
-use Rattle.sheet.proofs.Files.{job-refused, passed, too-large, no-place, file-written}
+use Rattle.sheet_room.proofs.Places.{placed}
+use Rattle.sheet.proofs.Files.{job-refused, passed, no-place, file-written}
 use borrow.Author.Needs.{needs}
 use Rattle.sheet.proofs.write.Statement.{statement}
 use Rattle.sheet.proofs.write.Tie as tie
@@ -22,23 +23,25 @@ bytes-for-requires c κs =
     let R = passed tileSize (job (c .before .before .before .before .before .before .before .before .args .s) (c .before .before .before .before .before .before .before .before .args .c) (c .before .before .before .before .before .before .before .before .args .t) (c .before .before .before .before .before .before .before .before .args .weight) (c .before .before .before .before .before .before .before .before .args .tiles .now) (c .before .before .before .before .before .before .before .before .args .colours .now) (c .before .before .before .before .before .before .before .before .args .counts .now)) (c .before .before .before .before .before .before .before .before .args .palette .now) (c .before .before .before .before .before .before .before .before .args .dst .now) (c .before .before .check-job .result) (c .before .before .check-job .ensures) (c .before .if1 .left) .ready in
     omega (arith, c .size-of .ensures, R .sizes .cells, R .sizes .tiles, R .total)
 
-returns-2 : tie.Need-returns-2
-returns-2 c = too-large tileSize (job (c .before .before .before .before .before .before .before .before .before .before .args .s) (c .before .before .before .before .before .before .before .before .before .before .args .c) (c .before .before .before .before .before .before .before .before .before .before .args .t) (c .before .before .before .before .before .before .before .before .before .before .args .weight) (c .before .before .before .before .before .before .before .before .before .before .args .tiles .now) (c .before .before .before .before .before .before .before .before .before .before .args .colours .now) (c .before .before .before .before .before .before .before .before .before .before .args .counts .now)) (c .before .before .before .before .before .before .before .before .before .before .args .palette .now) (c .before .before .before .before .before .before .before .before .before .before .args .dst .now) (c .before .before .before .before .check-job .result) (c .before .before .before .before .check-job .ensures) (c .before .before .before .if1 .left) (c .before .before .size-of .result) (c .before .bytes-for .result) (c .before .before .size-of .ensures) (c .before .bytes-for .ensures) (c .if2 .taken)
+place-for-requires : tie.Need-place-for-requires
+place-for-requires c κs = search needs
 
-returns-3 : tie.Need-returns-3
-returns-3 c = no-place tileSize (job (c .before .before .before .before .before .before .before .before .before .before .before .args .s) (c .before .before .before .before .before .before .before .before .before .before .before .args .c) (c .before .before .before .before .before .before .before .before .before .before .before .args .t) (c .before .before .before .before .before .before .before .before .before .before .before .args .weight) (c .before .before .before .before .before .before .before .before .before .before .before .args .tiles .now) (c .before .before .before .before .before .before .before .before .before .before .before .args .colours .now) (c .before .before .before .before .before .before .before .before .before .before .before .args .counts .now)) (c .before .before .before .before .before .before .before .before .before .before .before .args .palette .now) (c .before .before .before .before .before .before .before .before .before .before .before .args .dst .now) (c .before .before .before .before .before .check-job .result) (c .before .before .before .before .before .check-job .ensures) (c .before .before .before .before .if1 .left) (c .before .before .before .size-of .result) (c .before .before .bytes-for .result) (c .before .before .before .size-of .ensures) (c .before .before .bytes-for .ensures) (c .before .if2 .left) (c .if3 .taken)
+returns-2 : tie.Need-returns-2
+returns-2 c = no-place tileSize (job (c .before .before .before .before .before .before .before .before .before .before .before .args .s) (c .before .before .before .before .before .before .before .before .before .before .before .args .c) (c .before .before .before .before .before .before .before .before .before .before .before .args .t) (c .before .before .before .before .before .before .before .before .before .before .before .args .weight) (c .before .before .before .before .before .before .before .before .before .before .before .args .tiles .now) (c .before .before .before .before .before .before .before .before .before .before .before .args .colours .now) (c .before .before .before .before .before .before .before .before .before .before .before .args .counts .now)) (c .before .before .before .before .before .before .before .before .before .before .before .args .palette .now) (c .before .before .before .before .before .before .before .before .before .before .before .args .dst .now) (c .before .before .before .before .before .check-job .result) (c .before .before .before .before .before .check-job .ensures) (c .before .before .before .before .if1 .left) (c .before .before .before .size-of .result) (c .before .before .bytes-for .result) (c .before .before .before .size-of .ensures) (c .before .before .bytes-for .ensures) (c .before .place-for .result) (c .before .place-for .ensures) (c .if2 .taken)
 
 pack-sheet-requires : tie.Need-pack-sheet-requires
 pack-sheet-requires c κs =
     let P = passed tileSize (job (c .before .before .before .before .before .before .before .before .before .before .before .before .args .s) (c .before .before .before .before .before .before .before .before .before .before .before .before .args .c) (c .before .before .before .before .before .before .before .before .before .before .before .before .args .t) (c .before .before .before .before .before .before .before .before .before .before .before .before .args .weight) (c .before .before .before .before .before .before .before .before .before .before .before .before .args .tiles .now) (c .before .before .before .before .before .before .before .before .before .before .before .before .args .colours .now) (c .before .before .before .before .before .before .before .before .before .before .before .before .args .counts .now)) (c .before .before .before .before .before .before .before .before .before .before .before .before .args .palette .now) (c .before .before .before .before .before .before .before .before .before .before .before .before .args .dst .now) (c .before .before .before .before .before .before .check-job .result) (c .before .before .before .before .before .before .check-job .ensures) (c .before .before .before .before .before .if1 .left) in
+    let k = placed (c .before .before .before .bytes-for .result) _ (c .before .before .place-for .result) (c .before .before .place-for .ensures) (c .before .if2 .left) in
     (P .ready, P .lent, c .before .before .before .before .size-of .ensures, omega (arith, c .before .before .before .bytes-for .ensures), omega (arith, c .before .before .before .bytes-for .ensures))
 
 same-length : tie.Need-same-length
 same-length c = search needs
 
-returns-4 : tie.Need-returns-4
-returns-4 c =
-    file-written tileSize (job (c .before .before .before .before .before .before .before .before .before .before .before .before .before .before .before .args .s) (c .before .before .before .before .before .before .before .before .before .before .before .before .before .before .before .args .c) (c .before .before .before .before .before .before .before .before .before .before .before .before .before .before .before .args .t) (c .before .before .before .before .before .before .before .before .before .before .before .before .before .before .before .args .weight) (c .before .before .before .before .before .before .before .before .before .before .before .before .before .before .before .args .tiles .now) (c .before .before .before .before .before .before .before .before .before .before .before .before .before .before .before .args .colours .now) (c .before .before .before .before .before .before .before .before .before .before .before .before .before .before .before .args .counts .now)) (c .before .before .before .before .before .before .before .before .before .before .before .before .before .before .before .args .palette .now) (c .before .before .before .before .before .before .before .before .before .before .before .before .before .before .before .args .dst .now) (c .before .before .before .before .before .before .before .before .before .check-job .result) (c .before .before .before .before .before .before .before .before .before .check-job .ensures) (c .before .before .before .before .before .before .before .before .if1 .left) (c .before .before .before .before .before .before .before .size-of .result) (c .before .before .before .before .before .before .bytes-for .result) (c .before .before .before .before .before .before .before .size-of .ensures) (c .before .before .before .before .before .before .bytes-for .ensures) _ (c .before .before .before .before .before .if2 .left) (c .before .before .before .before .if3 .left)
+returns-3 : tie.Need-returns-3
+returns-3 c =
+    let k = placed (c .before .before .before .before .before .before .bytes-for .result) _ (c .before .before .before .before .before .place-for .result) (c .before .before .before .before .before .place-for .ensures) (c .before .before .before .before .if2 .left) in
+    file-written tileSize (job (c .before .before .before .before .before .before .before .before .before .before .before .before .before .before .before .args .s) (c .before .before .before .before .before .before .before .before .before .before .before .before .before .before .before .args .c) (c .before .before .before .before .before .before .before .before .before .before .before .before .before .before .before .args .t) (c .before .before .before .before .before .before .before .before .before .before .before .before .before .before .before .args .weight) (c .before .before .before .before .before .before .before .before .before .before .before .before .before .before .before .args .tiles .now) (c .before .before .before .before .before .before .before .before .before .before .before .before .before .before .before .args .colours .now) (c .before .before .before .before .before .before .before .before .before .before .before .before .before .before .before .args .counts .now)) (c .before .before .before .before .before .before .before .before .before .before .before .before .before .before .before .args .palette .now) (c .before .before .before .before .before .before .before .before .before .before .before .before .before .before .before .args .dst .now) (c .before .before .before .before .before .before .before .before .before .check-job .result) (c .before .before .before .before .before .before .before .before .before .check-job .ensures) (c .before .before .before .before .before .before .before .before .if1 .left) (c .before .before .before .before .before .before .before .size-of .result) (c .before .before .before .before .before .before .bytes-for .result) (c .before .before .before .before .before .before .before .size-of .ensures) (c .before .before .before .before .before .before .bytes-for .ensures) _ (k .0) (k .1)
     (λ i. omega (arith, c .before .before .before .before .before .before .before .before .before .before .slice-known .given i)) (λ i. omega (arith, c .slice-known2 .given i)) (c .before .before .pack-sheet .kept .1 .1 .1 .1 .1 .1 .1 .1 .0) (c .before .before .pack-sheet .ensures)
 
 pub write-spec : {M : Type 1} → statement M
@@ -49,8 +52,8 @@ write-spec =
     returns
     size-of-requires
     bytes-for-requires
+    place-for-requires
     returns-2
-    returns-3
     pack-sheet-requires
     same-length
-    returns-4)
+    returns-3)

@@ -5,7 +5,7 @@ use mathlib.Core.Bool.{true, false}
 use native.Mathlib.Omega.{arith}
 use Rattle.bits.specs.Bits.{bits}
 use Rattle.sheet_format.specs.Sheet.{edition1}
-use Rattle.sheet_tiles.proofs.Turns.{step-fault}
+use Rattle.sheet_colours.proofs.Turns.{step-fault}
 use Rattle.sheet_check.proofs.Whole.{head-fault, Headed, headed-of, Parted, parted-of, read-long, read-head, read-rest, read-end}
 use borrow.Author.Needs.{needs}
 use Rattle.sheet_check.proofs.check.Statement.{statement}

@@ -9,8 +9,8 @@ use Rattle.bits.specs.Bits.{bits}
 use Rattle.bits.proofs.Bytes.{length-bits}
 use Rattle.sheet_format.specs.Sheet.{tile, edition1}
 use Rattle.sheet_format.proofs.Exact.{tile-lawful}
-use Rattle.sheet_tiles.specs.Steps.{stepAt}
-use Rattle.sheet_tiles.proofs.Turns.{turn-end, turn-fault, turn-got, step-fault, step-at}
+use Rattle.sheet_colours.specs.Steps.{stepAt}
+use Rattle.sheet_colours.proofs.Turns.{turn-end, turn-fault, turn-got, step-fault, step-at}
 use Rattle.sheet_tiles.proofs.all_tiles.Statement.{statement}
 use Rattle.sheet_tiles.proofs.all_tiles.Tie as tie
 

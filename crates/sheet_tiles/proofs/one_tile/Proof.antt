@@ -7,7 +7,7 @@ use lib.ListN.{length}
 use native.Mathlib.Nat.{sub-zero}
 use Rattle.format.specs.Format.{times, next, got}
 use Rattle.bits.specs.Bits.{bits}
-use Rattle.sheet_tiles.proofs.Turns.{tile-short, tile-many, tile-read}
+use Rattle.sheet_tiles.proofs.Tiles.{tile-short, tile-many, tile-read}
 use borrow.Author.Needs.{needs}
 use Rattle.sheet_tiles.proofs.one_tile.Statement.{statement}
 use Rattle.sheet_format.specs.Sheet.{edition1}

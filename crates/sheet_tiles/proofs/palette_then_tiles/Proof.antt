@@ -10,7 +10,7 @@ use Rattle.format.specs.Format.{times, got}
 use Rattle.sheet_format.specs.Sheet.{component, edition1}
 use Rattle.format.proofs.Lawful.{times-lawful}
 use Rattle.sheet_format.proofs.Exact.{component-lawful}
-use Rattle.sheet_tiles.proofs.Turns.{step-fault, step-at}
+use Rattle.sheet_colours.proofs.Turns.{step-fault, step-at}
 use Rattle.sheet_tiles.proofs.Rest.{rest-fault, rest-got}
 use borrow.Author.Needs.{needs}
 use Rattle.sheet_tiles.proofs.palette_then_tiles.Statement.{statement}

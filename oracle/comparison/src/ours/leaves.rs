@@ -1,20 +1,10 @@
 //! ieee's narrowing, prng, cycle, stats, color.
 
+use foreign::{
+    probe_argmax, probe_argmin, probe_base_iterations, probe_cycle_new, probe_cycle_next, probe_mean, probe_narrow,
+    probe_next, probe_shuffle, probe_smallest_two, probe_sqdist,
+};
 use terms::Colour;
-
-unsafe extern "C" {
-    fn probe_narrow(x: f64) -> f32;
-    fn probe_next(state: u64, after: &mut u64) -> u64;
-    fn probe_shuffle(state: u64, items: *mut u32, n: usize) -> u64;
-    fn probe_base_iterations(n: usize) -> usize;
-    fn probe_cycle_new(order: *mut u32, n: usize, seed: u64) -> u64;
-    fn probe_cycle_next(order: *mut u32, n: usize, state: u64, made: u64, after: &mut u64) -> u32;
-    fn probe_smallest_two(values: *const f32, n: usize, dist: &mut f32, second: &mut f32) -> usize;
-    fn probe_argmax(values: *const f32, n: usize) -> usize;
-    fn probe_argmin(values: *const f32, n: usize) -> usize;
-    fn probe_sqdist(pl: f32, pa: f32, pb: f32, ql: f32, qa: f32, qb: f32, weight: f32) -> f32;
-    fn probe_mean(colours: *const f32, n: usize, l: &mut f32, a: &mut f32, b: &mut f32);
-}
 
 pub fn narrow(x: f64) -> f32 {
     unsafe { probe_narrow(x) }

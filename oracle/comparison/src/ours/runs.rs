@@ -4,6 +4,7 @@
 use super::Job;
 use crate::call::{Ask, Call, Memory, Outcome};
 use crate::lent::{self, Lent};
+use foreign::{dunkafeto_advance, dunkafeto_hand_in, dunkafeto_result, dunkafeto_start};
 
 /// What comes of a call: lent between guards, made, and all of it looked at afterwards.
 pub fn answer(call: &Call, ask: &Ask) -> Outcome {
@@ -28,115 +29,6 @@ pub fn answers(call: &mut Call, asks: &[Ask]) -> Vec<Outcome> {
         outcome
     };
     asks.iter().map(next).collect()
-}
-
-unsafe extern "C" {
-    fn dunkafeto_result(
-        s: usize,
-        c: usize,
-        t: usize,
-        n: usize,
-        weight: f32,
-        tiles: *const u32,
-        tiles_len: usize,
-        colours: *const f32,
-        colours_len: usize,
-        counts: *const u32,
-        counts_len: usize,
-        samples: *const u32,
-        samples_len: usize,
-        order: *const u32,
-        order_len: usize,
-        hints: *const u32,
-        hints_len: usize,
-        palette: *const f32,
-        palette_len: usize,
-        least: *const f32,
-        least_len: usize,
-        words: *const u64,
-        words_len: usize,
-        out: *mut f32,
-        out_len: usize,
-    ) -> u64;
-    fn dunkafeto_advance(
-        s: usize,
-        c: usize,
-        t: usize,
-        n: usize,
-        weight: f32,
-        tiles: *const u32,
-        tiles_len: usize,
-        colours: *const f32,
-        colours_len: usize,
-        counts: *const u32,
-        counts_len: usize,
-        samples: *const u32,
-        samples_len: usize,
-        order: *mut u32,
-        order_len: usize,
-        hints: *mut u32,
-        hints_len: usize,
-        palette: *mut f32,
-        palette_len: usize,
-        least: *mut f32,
-        least_len: usize,
-        words: *mut u64,
-        words_len: usize,
-        allotment: u64,
-    ) -> u64;
-    fn dunkafeto_start(
-        s: usize,
-        c: usize,
-        t: usize,
-        n: usize,
-        weight: f32,
-        seed: u64,
-        tiles: *const u32,
-        tiles_len: usize,
-        colours: *const f32,
-        colours_len: usize,
-        counts: *const u32,
-        counts_len: usize,
-        samples: *const u32,
-        samples_len: usize,
-        order: *mut u32,
-        order_len: usize,
-        hints: *mut u32,
-        hints_len: usize,
-        palette: *mut f32,
-        palette_len: usize,
-        least: *mut f32,
-        least_len: usize,
-        words: *mut u64,
-        words_len: usize,
-    ) -> u64;
-    fn dunkafeto_hand_in(
-        s: usize,
-        c: usize,
-        t: usize,
-        n: usize,
-        weight: f32,
-        tiles: *const u32,
-        tiles_len: usize,
-        colours: *const f32,
-        colours_len: usize,
-        counts: *const u32,
-        counts_len: usize,
-        samples: *const u32,
-        samples_len: usize,
-        order: *const u32,
-        order_len: usize,
-        hints: *mut u32,
-        hints_len: usize,
-        palette: *mut f32,
-        palette_len: usize,
-        least: *const f32,
-        least_len: usize,
-        words: *mut u64,
-        words_len: usize,
-        reduced: *const f32,
-        reduced_len: usize,
-    ) -> u64;
 }
 
 /// What a run is lent.

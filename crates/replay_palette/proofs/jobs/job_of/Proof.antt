@@ -1,7 +1,8 @@
 -- `job_of` meets its contract: each list has room in its array, and its part the length asked for. Assumes nothing.
 use mathlib.Core.Path.{sym}
 use native.Mathlib.Omega.{arith}
-use Rattle.replay_palette.proofs.Asks.{start-length, cells-small}
+use Rattle.replay.proofs.Fronts.{start-length}
+use Rattle.replay_palette.proofs.Asks.{cells-small}
 use borrow.Author.Needs.{needs}
 use Rattle.replay_palette.proofs.jobs.job_of.Statement.{statement}
 use Rattle.replay_palette.proofs.jobs.job_of.Tie as tie
@@ -17,30 +18,6 @@ mul-cells c = let z = c .before in omega (arith, cells-small (z .args .s) (z .ar
 
 mul-cells-2 : tie.Need-mul-cells-2
 mul-cells-2 c = let z = c .before in omega (arith, cells-small (z .args .s) (z .args .c) (z .pre .0) (z .pre .1 .0))
-
-mul-passed : tie.Need-mul-passed
-mul-passed c = search needs
-
-passed-requires : tie.Need-passed-requires
-passed-requires c κs = search needs
-
-mul-passed-2 : tie.Need-mul-passed-2
-mul-passed-2 c = search needs
-
-passed-requires-2 : tie.Need-passed-requires-2
-passed-requires-2 c κs = search needs
-
-mul-passed-3 : tie.Need-mul-passed-3
-mul-passed-3 c = search needs
-
-passed-requires-3 : tie.Need-passed-requires-3
-passed-requires-3 c κs = search needs
-
-mul-passed-4 : tie.Need-mul-passed-4
-mul-passed-4 c = let z = c .before .before .before .before in omega (arith, cells-small (z .args .s) (z .args .c) (z .pre .0) (z .pre .1 .0))
-
-passed-requires-4 : tie.Need-passed-requires-4
-passed-requires-4 c κs = search needs
 
 slice-aggregate-words : tie.Need-slice-aggregate-words
 slice-aggregate-words c = search needs
@@ -64,52 +41,46 @@ slice-aggregate-floats-2 : tie.Need-slice-aggregate-floats-2
 slice-aggregate-floats-2 c = search needs
 
 floats-requires-2 : tie.Need-floats-requires-2
-floats-requires-2 c κs = search needs
+floats-requires-2 c κs = let z = c .before .before .before .before .before .before .before .before .before .before .before in omega (arith, cells-small (z .args .s) (z .args .c) (z .pre .0) (z .pre .1 .0))
 
 slice-aggregate-words-3 : tie.Need-slice-aggregate-words-3
 slice-aggregate-words-3 c = search needs
 
 words-requires-3 : tie.Need-words-requires-3
-words-requires-3 c κs = search needs
+words-requires-3 c κs = omega (arith, c .before .before .before .before .before .before .before .before .before .before .before .before .before .before .pre .1 .1 .0)
 
 array-share-prefix-tiles : tie.Need-array-share-prefix-tiles
-array-share-prefix-tiles c = omega (arith, c .before .before .before .before .before .before .before .before .before .before .before .before .before .before .before .before .before .before .before .before .pre .1 .1 .0)
+array-share-prefix-tiles c = omega (arith, c .before .before .before .before .before .before .before .before .before .before .before .before .before .before .before .before .pre .1 .1 .0)
 
 slice-aggregate-ask-any : tie.Need-slice-aggregate-ask-any
-slice-aggregate-ask-any c = start-length _ _ (omega (arith, c .before .before .before .before .before .before .before .before .before .before .before .before .before .before .before .before .before .before .before .before .before .pre .1 .1 .0))
+slice-aggregate-ask-any c = start-length _ _ (omega (arith, c .before .before .before .before .before .before .before .before .before .before .before .before .before .before .before .before .before .pre .1 .1 .0))
 
 array-share-prefix-colours : tie.Need-array-share-prefix-colours
-array-share-prefix-colours c = omega (arith, c .before .before .before .before .before .before .before .before .before .before .before .before .before .before .before .before .before .before .before .before .before .pre .1 .1 .1)
+array-share-prefix-colours c = omega (arith, c .before .before .before .before .before .before .before .before .before .before .before .before .before .before .before .before .before .pre .1 .1 .1)
 
 slice-aggregate-ask-any-2 : tie.Need-slice-aggregate-ask-any-2
-slice-aggregate-ask-any-2 c = start-length _ _ (omega (arith, c .before .before .before .before .before .before .before .before .before .before .before .before .before .before .before .before .before .before .before .before .before .before .pre .1 .1 .1))
+slice-aggregate-ask-any-2 c = start-length _ _ (omega (arith, c .before .before .before .before .before .before .before .before .before .before .before .before .before .before .before .before .before .before .pre .1 .1 .1))
 
 array-share-prefix-counts : tie.Need-array-share-prefix-counts
-array-share-prefix-counts c = omega (arith, c .before .before .before .before .before .before .before .before .before .before .before .before .before .before .before .before .before .before .before .before .before .before .pre .1 .1 .1)
+array-share-prefix-counts c = omega (arith, c .before .before .before .before .before .before .before .before .before .before .before .before .before .before .before .before .before .before .pre .1 .1 .1)
 
 slice-aggregate-ask-any-3 : tie.Need-slice-aggregate-ask-any-3
-slice-aggregate-ask-any-3 c = start-length _ _ (omega (arith, c .before .before .before .before .before .before .before .before .before .before .before .before .before .before .before .before .before .before .before .before .before .before .before .pre .1 .1 .1))
+slice-aggregate-ask-any-3 c = start-length _ _ (omega (arith, c .before .before .before .before .before .before .before .before .before .before .before .before .before .before .before .before .before .before .before .pre .1 .1 .1))
 
 array-share-prefix-pal : tie.Need-array-share-prefix-pal
-array-share-prefix-pal c = let z = c .before .before .before .before .before .before .before .before .before .before .before .before .before .before .before .before .before .before .before .before .before .before .before in omega (arith, cells-small (z .args .s) (z .args .c) (z .pre .0) (z .pre .1 .0))
+array-share-prefix-pal c = let z = c .before .before .before .before .before .before .before .before .before .before .before .before .before .before .before .before .before .before .before in omega (arith, cells-small (z .args .s) (z .args .c) (z .pre .0) (z .pre .1 .0))
 
 slice-aggregate-ask-any-4 : tie.Need-slice-aggregate-ask-any-4
-slice-aggregate-ask-any-4 c = start-length _ _ (let z = c .before .before .before .before .before .before .before .before .before .before .before .before .before .before .before .before .before .before .before .before .before .before .before .before in omega (arith, cells-small (z .args .s) (z .args .c) (z .pre .0) (z .pre .1 .0)))
+slice-aggregate-ask-any-4 c = start-length _ _ (let z = c .before .before .before .before .before .before .before .before .before .before .before .before .before .before .before .before .before .before .before .before in omega (arith, cells-small (z .args .s) (z .args .c) (z .pre .0) (z .pre .1 .0)))
 
 array-borrow-prefix-hints : tie.Need-array-borrow-prefix-hints
-array-borrow-prefix-hints c = omega (arith, c .before .before .before .before .before .before .before .before .before .before .before .before .before .before .before .before .before .before .before .before .before .before .before .before .pre .1 .1 .0)
+array-borrow-prefix-hints c = omega (arith, c .before .before .before .before .before .before .before .before .before .before .before .before .before .before .before .before .before .before .before .before .pre .1 .1 .0)
 
 slice-aggregate-ask-any-5 : tie.Need-slice-aggregate-ask-any-5
-slice-aggregate-ask-any-5 c = start-length _ _ (omega (arith, c .before .before .before .before .before .before .before .before .before .before .before .before .before .before .before .before .before .before .before .before .before .before .before .before .before .pre .1 .1 .0))
+slice-aggregate-ask-any-5 c = start-length _ _ (omega (arith, c .before .before .before .before .before .before .before .before .before .before .before .before .before .before .before .before .before .before .before .before .before .pre .1 .1 .0))
 
 ask-any-requires : tie.Need-ask-any-requires
-ask-any-requires c κs = sym (start-length _ _ (omega (arith, c .before .before .before .before .before .before .before .before .before .before .before .before .before .before .before .before .before .before .before .before .before .before .before .before .before .pre .1 .1 .0)))
-
-mul-passed-5 : tie.Need-mul-passed-5
-mul-passed-5 c = omega (arith, c .before .before .before .before .before .before .before .before .before .before .before .before .before .before .before .before .before .before .before .before .before .before .before .before .before .before .before .pre .1 .1 .0)
-
-passed-requires-5 : tie.Need-passed-requires-5
-passed-requires-5 c κs = search needs
+ask-any-requires c κs = sym (start-length _ _ (omega (arith, c .before .before .before .before .before .before .before .before .before .before .before .before .before .before .before .before .before .before .before .before .before .pre .1 .1 .0)))
 
 index-requires : tie.Need-index-requires
 index-requires c κs = search needs
@@ -121,7 +92,7 @@ float-requires-2 : tie.Need-float-requires-2
 float-requires-2 c κs = search needs
 
 hints-left-requires : tie.Need-hints-left-requires
-hints-left-requires c κs = c .before .before .before .before .before .before .before .before .before .before .before .before .before .before .before .before .before .before .before .before .before .before .before .before .before .before .before .before .before .before .before .before .pre .1 .1 .0
+hints-left-requires c κs = c .before .before .before .before .before .before .before .before .before .before .before .before .before .before .before .before .before .before .before .before .before .before .before .before .before .before .before .pre .1 .1 .0
 
 returns : tie.Need-returns
 returns c = search needs
@@ -134,14 +105,6 @@ job-of-spec =
     mul-numbers
     mul-cells
     mul-cells-2
-    mul-passed
-    passed-requires
-    mul-passed-2
-    passed-requires-2
-    mul-passed-3
-    passed-requires-3
-    mul-passed-4
-    passed-requires-4
     slice-aggregate-words
     words-requires
     slice-aggregate-words-2
@@ -163,8 +126,6 @@ job-of-spec =
     array-borrow-prefix-hints
     slice-aggregate-ask-any-5
     ask-any-requires
-    mul-passed-5
-    passed-requires-5
     index-requires
     float-requires
     float-requires-2

@@ -1,15 +1,14 @@
 -- `same_floats` ends: one value of ours a turn. Assumes nothing.
 use Prim.Native.Nat.{_≤_, _-_}
-use lib.ListN.{length}
 use borrow.Author.Needs.{needs}
 use Rattle.replay_runs.proofs.runs.same_floats.Statement.{statement}
 use Rattle.replay_runs.proofs.runs.same_floats.Tie as tie
 
 abbrev Inv-loop : tie.InvT-loop
-Inv-loop list ours tally₀ i₀ tally i = i ≤ length ours
+Inv-loop list n ours tally₀ i₀ tally i = i ≤ n
 
 abbrev μ-loop : tie.MeasureT-loop
-μ-loop list ours tally₀ i₀ tally i = length ours - i
+μ-loop list n ours tally₀ i₀ tally i = n - i
 
 loop-holds : tie.Need-loop-holds Inv-loop μ-loop
 loop-holds c = search needs
@@ -17,8 +16,8 @@ loop-holds c = search needs
 mul-float : tie.Need-mul-float Inv-loop μ-loop
 mul-float c = search needs
 
-shared-slice-read-float : tie.Need-shared-slice-read-float Inv-loop μ-loop
-shared-slice-read-float c = search needs
+array-read-float : tie.Need-array-read-float Inv-loop μ-loop
+array-read-float c = search needs
 
 float-requires : tie.Need-float-requires Inv-loop μ-loop
 float-requires c κs = search needs
@@ -43,7 +42,7 @@ same-floats-spec =
     μ-loop
     loop-holds
     mul-float
-    shared-slice-read-float
+    array-read-float
     float-requires
     add-i
     loop-less

@@ -1,15 +1,14 @@
 -- `same_words` ends: one value of ours a turn. Assumes nothing.
 use Prim.Native.Nat.{_≤_, _-_}
-use lib.ListN.{length}
 use borrow.Author.Needs.{needs}
 use Rattle.replay_runs.proofs.runs.same_words.Statement.{statement}
 use Rattle.replay_runs.proofs.runs.same_words.Tie as tie
 
 abbrev Inv-loop : tie.InvT-loop
-Inv-loop list ours tally₀ i₀ tally i = i ≤ length ours
+Inv-loop list n ours tally₀ i₀ tally i = i ≤ n
 
 abbrev μ-loop : tie.MeasureT-loop
-μ-loop list ours tally₀ i₀ tally i = length ours - i
+μ-loop list n ours tally₀ i₀ tally i = n - i
 
 loop-holds : tie.Need-loop-holds Inv-loop μ-loop
 loop-holds c = search needs
@@ -20,8 +19,8 @@ word-requires c κs = search needs
 mul-same : tie.Need-mul-same Inv-loop μ-loop
 mul-same c = search needs
 
-shared-slice-read-same : tie.Need-shared-slice-read-same Inv-loop μ-loop
-shared-slice-read-same c = search needs
+array-read-same : tie.Need-array-read-same Inv-loop μ-loop
+array-read-same c = search needs
 
 compare-requires : tie.Need-compare-requires Inv-loop μ-loop
 compare-requires c κs = search needs
@@ -50,7 +49,7 @@ same-words-spec =
     loop-holds
     word-requires
     mul-same
-    shared-slice-read-same
+    array-read-same
     compare-requires
     passed-requires
     add-i

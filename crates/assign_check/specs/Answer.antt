@@ -1,0 +1,15 @@
+-- The number that the call `assign` gets, from a job, a palette and the lengths of both lent slices. Definitions only. Assumes nothing.
+use Prim.Native.Nat.{ℕ}
+use mathlib.Core.Bool.{Bool, cond, _&&_}
+use mathlib.Core.List.{List}
+use lib.Dec.{eqb}
+use lib.Ieee.{Float}
+use Rattle.job.specs.Job.{Job}
+use Rattle.job.specs.Checks.{plainAnswer}
+
+-- a place for each tile in both
+unfoldable pub roomFor : ℕ → ℕ → ℕ → Bool
+roomFor t hints out = eqb hints t && eqb out t
+
+abbrev pub answerFor : ℕ → Job → List Float → ℕ → ℕ → ℕ
+answerFor size J palette hints out = plainAnswer size J palette (roomFor (J .T) hints out)

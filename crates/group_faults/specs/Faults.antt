@@ -1,0 +1,31 @@
+-- The faults of a pixel, 7 before 14, and the first of a tile. Definitions only. Assumes nothing.
+use Prim.Native.Nat.{ℕ, zero, suc, _+_, _<_}
+use mathlib.Core.Bool.{Bool, true, false, cond}
+use mathlib.Core.List.{List}
+use lib.Dec.{eqb}
+use lib.Ieee.{Float}
+use Rattle.color.specs.Color.{colourAt}
+use Rattle.group_pixels.specs.declared.Zero.{Zero}
+use Rattle.group_pixels.specs.Pixel.{rgbaAt, kept, inGamut, clash, Passed}
+
+-- one of the n numbers from i on passes a test
+unfoldable pub some : (ℕ → Bool) → ℕ → ℕ → Bool
+some f i zero = false
+some f i (suc n) = cond (f i) true (some f (i + 1) n)
+
+-- the first number other than 0 that f gives at the n numbers from i on, or 0
+unfoldable pub firstOf : (ℕ → ℕ) → ℕ → ℕ → ℕ
+firstOf f i zero = 0
+firstOf f i (suc n) = cond (eqb (f i) 0) (firstOf f (i + 1) n) (f i)
+
+-- pixel k clashes with an earlier one
+abbrev pub clashes : List ℕ → List Float → ℕ → Bool
+clashes bytes oklab k = some (λ i. clash bytes oklab i k) 0 k
+
+-- what is wrong with pixel k: nothing unless it is kept; 7 before 14
+unfoldable pub fault : List ℕ → List Float → Zero → ℕ → ℕ
+fault bytes oklab cz k = cond (kept cz (rgbaAt bytes k)) (cond (inGamut (colourAt oklab k)) (cond (clashes bytes oklab k) 14 0) 7) 0
+
+-- every kept pixel before k has passed for its Oklab
+abbrev pub Real : List ℕ → List Float → Zero → ℕ → Type 0
+Real bytes oklab cz k = (i : ℕ) → i < k → Passed bytes oklab cz i

@@ -1,0 +1,125 @@
+// The mean squared error of a palette over a job's tiles, each matched to the subpalette that fits it best.
+// It is what the definition in specs/Mse.antt of mse says; the hints then name each tile's winner.
+ghost use mathlib.Core.Path.{_≡_};
+ghost use Prim.Native.Nat.{_+_, _*_, _<_};
+ghost use lib.ListN.{length};
+ghost use Rattle.job.specs.Job.{job};
+ghost use Rattle.palette.specs.Palette.{tileWith};
+ghost use Rattle.palette_tile.specs.Tiles.{hintStep, hintsOf, Shown};
+ghost use Rattle.mse.specs.Mse.{tileTally, tallyStep, meanOf, mseOf, Summed, Turn, Meaned};
+use mse::Tally;
+
+// A tile's distances times counts, added to a sum in f64.
+fn tile_tally(s: &[f32], tile: &[f32], counts: &[u32], w: f32, from: Tally) -> Tally
+    requires { ⌜ Summed (now s) (tileWith (now tile) (now counts)) w × (from .count + 256 * length (now counts) < 18446744073709551616) ⌝ }
+    ensures { λ r. ⌜ r ≡ tileTally (now (s .entry)) (tileWith (now (tile .entry)) (now (counts .entry))) w from (length (now (counts .entry))) ⌝ }
+{
+    let n = counts.len();
+    let mut total = from.total;
+    let mut count = from.count;
+    let mut k = 0;
+    while k < n {
+        let near = palette_near::nearest_distance(s, color::colour(tile, k), w);
+        total = total + (near as f64) * (counts[k] as f64);
+        count = count + (counts[k] as u64);
+        k += 1;
+    }
+    Tally { total, count }
+}
+
+// Tile i's part in the sum; its hint is written, where it is not empty.
+fn tile_step(
+    s: usize,
+    c: usize,
+    t: usize,
+    weight: f32,
+    tiles: &[u32],
+    colours: &[f32],
+    counts: &[u32],
+    pal: &[f32],
+    n: usize,
+    have: usize,
+    hints: &mut [u32],
+    i: usize,
+    sum: Tally,
+) -> Tally
+    requires { ⌜ Turn (job s c t weight (now tiles) (now colours) (now counts)) (now pal) n have (now hints) i sum ⌝ }
+    ensures { λ r. ⌜ (r ≡ tallyStep (job s c t weight (now (tiles .entry)) (now (colours .entry)) (now (counts .entry))) (now (pal .entry)) n have i sum) × (now (hints .exit) ≡ hintStep (job s c t weight (now (tiles .entry)) (now (colours .entry)) (now (counts .entry))) (now (pal .entry)) n have i (now (hints .entry))) ⌝ }
+{
+    if job::is_empty(tiles, i) {
+        return sum;
+    }
+    let best = palette_tile::tile_fit(
+        s,
+        c,
+        t,
+        weight,
+        tiles,
+        colours,
+        counts,
+        pal,
+        n,
+        have,
+        hints,
+        i,
+    );
+    let winner = best.index;
+    let sub = palette::part(pal, c, have, winner);
+    let tile = job::tile_part(tiles, colours, i);
+    let part = job::counts_part(tiles, counts, i);
+    tile_tally(sub, tile, part, weight, sum)
+}
+
+// The mean in f32 of a sum in f64; 0 where nothing counts.
+fn mean(sum: Tally) -> f32
+    requires { ⌜ Meaned sum ⌝ }
+    ensures { λ r. ⌜ r ≡ meanOf sum ⌝ }
+{
+    if sum.count == 0 {
+        return 0.0;
+    }
+    narrow::narrow(sum.total / (sum.count as f64))
+}
+
+// Mean squared error of n subpalettes of `have` colours over the tiles that are not empty.
+pub fn mse(
+    s: usize,
+    c: usize,
+    t: usize,
+    weight: f32,
+    tiles: &[u32],
+    colours: &[f32],
+    counts: &[u32],
+    pal: &[f32],
+    n: usize,
+    have: usize,
+    hints: &mut [u32],
+) -> f32
+    requires { ⌜ Shown (job s c t weight (now tiles) (now colours) (now counts)) (now pal) n have × (length (now hints) ≡ t) ⌝ }
+    ensures { λ r. ⌜ (r ≡ mseOf (job s c t weight (now (tiles .entry)) (now (colours .entry)) (now (counts .entry))) (now (pal .entry)) n have) × (now (hints .exit) ≡ hintsOf (job s c t weight (now (tiles .entry)) (now (colours .entry)) (now (counts .entry))) (now (pal .entry)) n have (now (hints .entry)) t) ⌝ }
+{
+    let mut sum = Tally {
+        total: 0.0,
+        count: 0,
+    };
+    let mut i = 0;
+    while i < t {
+        sum = tile_step(
+            s,
+            c,
+            t,
+            weight,
+            tiles,
+            colours,
+            counts,
+            pal,
+            n,
+            have,
+            hints,
+            i,
+            sum,
+        );
+        i += 1;
+    }
+    mean(sum)
+}

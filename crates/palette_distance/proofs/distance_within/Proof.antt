@@ -1,0 +1,82 @@
+-- `palette_distance::distance_within` meets its contract. The loop's invariant: the sum is that over the first k colours, and it is not over the limit.
+-- Assumes nothing.
+use Prim.Native.Nat.{_≤_, _-_}
+use mathlib.Core.Path.{_≡_, refl, ap, sym, subst, _∙_}
+use mathlib.Core.Bool.{false}
+use native.Mathlib.Omega.{arith}
+use lib.Dec.{T}
+use lib.Ieee.{binary32, lt}
+use Rattle.ieee.proofs.Goods.{count-exact}
+use Rattle.palette.specs.Palette.{tileWith, totalOf}
+use Rattle.palette_distance.proofs.Walks.{total-step, walk-asks, none-over, over-already, not-over}
+use Rattle.palette_distance.proofs.distance_within.Statement.{statement}
+use Rattle.palette_distance.proofs.distance_within.Tie as tie
+
+abbrev Inv-loop : tie.InvT-loop
+Inv-loop s tile counts w limit n sum₀ k₀ sum k = (k ≤ n) × ((sum ≡ totalOf s (tileWith tile counts) w k) × (lt limit sum ≡ false))
+
+abbrev μ-loop : tie.MeasureT-loop
+μ-loop s tile counts w limit n sum₀ k₀ sum k = n - k
+
+loop-holds : tie.Need-loop-holds Inv-loop μ-loop
+unfolding totalOf
+loop-holds c = (omega arith, (refl, none-over _ (c .before .before .before .pre .clear)))
+
+colour-requires : tie.Need-colour-requires Inv-loop μ-loop
+colour-requires c κs = omega arith
+
+nearest-distance-requires : tie.Need-nearest-distance-requires Inv-loop μ-loop
+nearest-distance-requires c κs =
+    let z = c .before .before .before .before .before .before in
+    walk-asks _ _ _ (record { sub = z .pre .sub; tile = z .pre .tile; weight = z .pre .weight }) (c .before .before .loop .k) (omega (arith, c .before .loop-test)) _ (c .colour .ensures)
+
+mul-sum : tie.Need-mul-sum Inv-loop μ-loop
+mul-sum c = omega arith
+
+shared-slice-read-sum : tie.Need-shared-slice-read-sum Inv-loop μ-loop
+shared-slice-read-sum c = omega arith
+
+int-to-float-sum : tie.Need-int-to-float-sum Inv-loop μ-loop
+int-to-float-sum c =
+    count-exact binary32 _ (c .before .before .before .before .before .before .before .before .before .pre .tile .high (c .before .before .before .before .before .loop .k) (omega arith))
+
+returns : tie.Need-returns Inv-loop μ-loop
+returns c =
+    let z = c .before .before .before .before .before .before .before .before .before .before in
+    let v = c .before .before .before .before .before .before in
+    over-already _ _ _ _ (z .pre) (subst T (sym (z .good .1 .1 .1 .1 .0 .1)) tt) (v .loop .k) (omega arith) _
+    (total-step _ _ _ _ _ _ _ (v .loop .inv .1 .0) (c .before .before .before .before .colour .ensures) (c .before .before .before .nearest-distance .ensures)) (c .if1 .taken)
+
+add-k : tie.Need-add-k Inv-loop μ-loop
+add-k c = omega arith
+
+loop-less : tie.Need-loop-less Inv-loop μ-loop
+loop-less c = omega arith
+
+loop-again : tie.Need-loop-again Inv-loop μ-loop
+loop-again c =
+    let v = c .before .before .before .before .before .before in (
+      omega arith,
+      (total-step _ _ _ _ _ _ _ (v .loop .inv .1 .0) (c .before .before .before .before .colour .ensures) (c .before .before .before .nearest-distance .ensures), c .if1 .left),
+    )
+
+returns-2 : tie.Need-returns-2 Inv-loop μ-loop
+returns-2 c = not-over _ _ _ _ _ (c .before .loop .inv .1 .0 ∙ ap (totalOf _ _ _) (omega arith)) (c .before .loop .inv .1 .1)
+
+pub distance-within-spec : {M : Type 1} → statement M
+distance-within-spec =
+    tie.close
+    (tie.spec
+    Inv-loop
+    μ-loop
+    loop-holds
+    colour-requires
+    nearest-distance-requires
+    mul-sum
+    shared-slice-read-sum
+    int-to-float-sum
+    returns
+    add-k
+    loop-less
+    loop-again
+    returns-2)

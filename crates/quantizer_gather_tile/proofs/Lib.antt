@@ -1,0 +1,2 @@
+mod Tiles
+pub mod Through

@@ -1,0 +1,53 @@
+-- A walk over a tile's colours keeps the lists whole, and tiles of a job that is shown may be gathered. Assumes nothing.
+use Prim.Native.Nat.{ℕ, suc, _+_, _*_, _/_, _≤_, _<_}
+use mathlib.Core.Path.{_≡_}
+use mathlib.Core.List.{List}
+use native.Mathlib.Omega.{arith}
+use lib.ListN.{getD, length}
+use lib.Ieee.{Float}
+use Rattle.lists.specs.Every.{sum}
+use Rattle.lists.proofs.Loops.{sum-rises}
+use Rattle.color.specs.declared.Oklab.{Oklab}
+use Rattle.color.specs.Color.{colourAt, Sized}
+use Rattle.color.proofs.Sizes.{colour-sized}
+use Rattle.job.specs.Job.{Job}
+use Rattle.job.proofs.Tiles.{tile-three, tile-near}
+use Rattle.palette.specs.Palette.{Tile, subOf, nearestOf}
+use Rattle.palette.proofs.Near.{nearest-below}
+use Rattle.palette_tile.specs.Tiles.{tileAt, Shown}
+use Rattle.palette_tile.proofs.Present.{part-colours, part-some}
+use Rattle.quantizer.specs.Refining.{Gather, tileGather}
+use Rattle.quantizer.proofs.Indexes.{row-256}
+use Rattle.quantizer.specs.Refines.{Gathered}
+use Rattle.quantizer.proofs.Refines.{Summed, tile-summed}
+use Rattle.quantizer_gather_tile.specs.Gathers.{pixels, Gathering}
+
+-- colour k's are among all
+pub pixels-part : (X : Tile) (k : ℕ) → k < length (X .counts) → pixels X k + getD (X .counts) k 0 ≤ pixels X (length (X .counts))
+unfolding sum
+pixels-part X k l = sum-rises (λ j. getD (X .counts) j 0) (length (X .counts)) (suc k) l
+
+module _ (s : List Float) (X : Tile) (w : Float) (base : ℕ) (A : Gather) (G : Gathering s X base A) where
+  pub place-in : (q : Oklab) → base + nearestOf s q w .index < 256
+  place-in q = omega (arith, nearest-below s q w (G .some), G .place)
+
+  tile-sized : (k : ℕ) → k < length (X .counts) → Sized (colourAt (X .colours) k) 2
+  tile-sized k l = colour-sized (X .colours) 2 k (G .near) (third (length (X .colours)) (G .three))
+    where
+      third : (z : ℕ) → z ≡ 3 * length (X .counts) → k < z / 3
+      third z e = omega arith
+
+  pub through : (k : ℕ) → k ≤ length (X .counts) → Summed A (tileGather s X w base A k) (pixels X k)
+  through = tile-summed s X w base A (G .held) place-in tile-sized (G .few)
+
+-- tile t may go to subpalette i
+pub gathering : (J : Job) (pal : List Float) → Shown J pal (J .S) (J .C) → (t : ℕ) → t < J .T → (A : Gather) → Gathered A (256 * t) → (i : ℕ) → i < J .S → Gathering (subOf pal (J .C) (J .C) i) (tileAt J t) (i * J .C) A
+gathering J pal S t l A K i m =
+    record {
+      some = part-some J pal (J .S) (J .C) S i m;
+      place = omega (arith, row-256 J pal (J .S) (J .C) S i m, part-colours J pal (J .S) (J .C) S i m);
+      three = tile-three (S .size) J (S .ready) t l;
+      near = tile-near (S .size) J (S .ready) t l;
+      held = K .held;
+      few = λ p. omega (arith, K .few p, S .ready .full t l, S .small, S .ready .sizes .tiles);
+    }

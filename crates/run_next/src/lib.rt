@@ -1,0 +1,46 @@
+// What follows in the record of a run: whether a round is to be closed, a round opened, the final draws ended.
+use stages::Record;
+ghost use mathlib.Core.Path.{_≡_};
+ghost use mathlib.Core.Bool.{_&&_};
+ghost use mathlib.Core.List.{[]};
+ghost use Prim.Native.Nat.{_/_};
+ghost use lib.Dec.{eqb};
+ghost use Rattle.stages.specs.State.{stateWith, recordIn, at, draws};
+
+// Whether a round is to be closed.
+pub fn is_due(r: Record) -> bool
+    ensures { λ x. ⌜ x ≡ (draws (r .stage) && eqb (r .left) 0) ⌝ }
+{
+    if r.left != 0 {
+        return false;
+    }
+    run_record::makes_draws(r.stage)
+}
+
+// A round of a tenth of the n samples begins.
+pub fn open_round(r: Record, stage: u64, round: u64, n: usize) -> Record
+    ensures { λ x. ⌜ x ≡ recordIn (at (stateWith [] [] [] [] r) stage round (n / 10)) ⌝ }
+{
+    Record {
+        generator: r.generator,
+        stage,
+        rounds: round,
+        left: n as u64 / 10,
+        made: r.made,
+        error: r.error,
+    }
+}
+
+// The final draws are one round; the next stop follows.
+pub fn end_final(r: Record) -> Record
+    ensures { λ x. ⌜ x ≡ recordIn (at (stateWith [] [] [] [] r) 5 0 0) ⌝ }
+{
+    Record {
+        generator: r.generator,
+        stage: 5,
+        rounds: 0,
+        left: 0,
+        made: r.made,
+        error: r.error,
+    }
+}

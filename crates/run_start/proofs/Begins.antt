@@ -1,0 +1,28 @@
+-- The state that a start begins with is sound, and so is its first round, which stands at a place of the record. Assumes nothing.
+use mathlib.Core.Path.{_≡_, subst⁻¹}
+use Rattle.quantizer.specs.Course.{Course}
+use Rattle.stages.specs.State.{State}
+use Rattle.calls.specs.Place.{Placed}
+use Rattle.calls.proofs.Place.{first-placed}
+use Rattle.calls.specs.Sound.{Sound}
+use Rattle.calls.proofs.Sound.{fresh-sound, first-sound}
+use Rattle.run_round.specs.Settles.{Standing}
+use Rattle.run_start.specs.Starts.{firstRound, Beginning}
+
+module _ (K : Course) (s : State) (B : Beginning K s) where
+  pub sound : Sound K s
+  sound = subst⁻¹ (Sound K) (B .same) (fresh-sound (B .size) (B .small) K (B .room) (B .passed) (B .seed) (s .hints) (B .each))
+
+  -- what the first round and the settling ask
+  pub standing : (x : State) → x ≡ firstRound K s → Standing K x
+  unfolding firstRound
+  standing x e =
+      let R = B .passed .ready in
+      subst⁻¹ (Standing K) e
+      (record {
+        size = B .size;
+        small = B .small;
+        ready = R;
+        place = subst⁻¹ (λ (y : State). Placed K (firstRound K y)) (B .same) (first-placed K (R .sizes .subs) (R .sizes .some) (B .seed) (s .hints));
+        sound = subst⁻¹ (λ (y : State). Sound K (firstRound K y)) (B .same) (first-sound (B .size) (B .small) K (B .room) (B .passed) (B .seed) (s .hints) (B .each));
+      })

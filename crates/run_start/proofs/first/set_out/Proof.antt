@@ -1,0 +1,29 @@
+-- `first::set_out` meets its contract. Assumes nothing.
+use Rattle.run_start.proofs.Begins.{standing}
+use Rattle.run_start.proofs.FirstRound.{set-on}
+use borrow.Author.Needs.{needs}
+use Rattle.run_start.proofs.first.set_out.Statement.{statement}
+use Rattle.run_start.proofs.first.set_out.Tie as tie
+
+open-first-requires : tie.Need-open-first-requires
+open-first-requires c κs = search needs
+
+settle-requires : tie.Need-settle-requires
+settle-requires c κs = standing _ _ (c .before .before .before .before .before .before .before .before .before .before .before .before .before .before .before .before .before .before .before .before .before .pre) _ (c .before .before .before .before .before .before .before .before .before .open-first .ensures)
+
+same-length : tie.Need-same-length
+same-length c = search needs
+
+same-length-2 : tie.Need-same-length-2
+same-length-2 c = search needs
+
+same-length-3 : tie.Need-same-length-3
+same-length-3 c = search needs
+
+returns : tie.Need-returns
+returns c = set-on _ _ _ _ (c .before .before .before .before .before .before .settle .ensures) (c .before .before .before .before .before .before .before .before .before .before .before .before .before .before .before .before .open-first .ensures)
+
+pub set-out-spec : {M : Type 1} → statement M
+set-out-spec =
+    tie.close
+    (tie.spec open-first-requires settle-requires same-length same-length-2 same-length-3 returns)

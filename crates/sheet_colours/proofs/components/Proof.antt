@@ -1,0 +1,75 @@
+-- `components` meets its contract. The loop's invariant: what is left to read gives the whole answer. Assumes nothing.
+use Prim.Native.Nat.{_≤_, _-_, _*_, _+_}
+use mathlib.Core.Path.{_≡_, sym, _∙_}
+use mathlib.Core.Bool.{true, false}
+use native.Mathlib.Omega.{arith}
+use lib.ListN.{length}
+use native.Mathlib.Nat.{sub-zero}
+use Rattle.format.specs.Format.{times}
+use Rattle.sheet_format.specs.Sheet.{component}
+use Rattle.sheet_colours.specs.Steps.{stepAt}
+use Rattle.sheet_colours.proofs.Entries.{component-short, component-read}
+use Rattle.sheet_colours.proofs.Turns.{turn-end, turn-fault, turn-got}
+use Rattle.sheet_colours.proofs.components.Statement.{statement}
+use Rattle.sheet_colours.proofs.components.Tie as tie
+
+abbrev Inv-loop : tie.InvT-loop
+Inv-loop s p n end q₀ i₀ q i = (i ≤ n) × (q ≤ 8 * length s) × (stepAt (times (n - i) component) s q ≡ stepAt (times n component) s p)
+
+abbrev μ-loop : tie.MeasureT-loop
+μ-loop s p n end q₀ i₀ q i = n - i
+
+mul-end : tie.Need-mul-end Inv-loop μ-loop
+mul-end c = omega arith
+
+loop-holds : tie.Need-loop-holds Inv-loop μ-loop
+loop-holds c = (omega arith, omega arith, rw sub-zero)
+
+sub-if1 : tie.Need-sub-if1 Inv-loop μ-loop
+sub-if1 c = omega arith
+
+returns : tie.Need-returns Inv-loop μ-loop
+returns c = turn-fault component (c .before .before .before .before .args .s .now) (c .before .before .before .before .args .n) (c .before .before .loop .i) (c .before .before .loop .q) _ (c .before .before .loop .inv .2) 13 (omega arith) (component-short (c .before .before .before .before .args .s .now) (c .before .before .loop .q) (omega arith))
+
+get-requires : tie.Need-get-requires Inv-loop μ-loop
+get-requires c κs = omega arith
+
+is-small-requires : tie.Need-is-small-requires Inv-loop μ-loop
+is-small-requires c κs = tt
+
+add-q : tie.Need-add-q Inv-loop μ-loop
+add-q c = omega arith
+
+add-i : tie.Need-add-i Inv-loop μ-loop
+add-i c = omega arith
+
+loop-less : tie.Need-loop-less Inv-loop μ-loop
+loop-less c = omega arith
+
+loop-again : tie.Need-loop-again Inv-loop μ-loop
+loop-again c = (omega arith, omega arith, turn-got component (c .before .before .before .before .before .before .before .args .s .now) (c .before .before .before .before .before .before .before .args .n) (c .before .before .before .before .before .loop .i) (c .before .before .before .before .before .loop .q) _ (c .before .before .before .before .before .loop .inv .2) (c .before .before .get .result) (c .before .before .before .before .before .loop .q + 32) (omega arith) (component-read (c .before .before .before .before .before .before .before .args .s .now) (c .before .before .before .before .before .loop .q) (c .before .before .get .result) true (omega arith) (c .before .before .get .ensures) (sym (c .before .is-small .ensures) ∙ c .if2 .taken)))
+
+returns-2 : tie.Need-returns-2 Inv-loop μ-loop
+returns-2 c = turn-fault component (c .before .before .before .before .before .before .before .args .s .now) (c .before .before .before .before .before .before .before .args .n) (c .before .before .before .before .before .loop .i) (c .before .before .before .before .before .loop .q) _ (c .before .before .before .before .before .loop .inv .2) 7 (omega arith) (component-read (c .before .before .before .before .before .before .before .args .s .now) (c .before .before .before .before .before .loop .q) (c .before .before .get .result) false (omega arith) (c .before .before .get .ensures) (sym (c .before .is-small .ensures) ∙ c .if2 .left))
+
+returns-3 : tie.Need-returns-3 Inv-loop μ-loop
+returns-3 c = turn-end component (c .before .before .before .args .s .now) (c .before .before .before .args .n) (c .before .loop .i) (c .before .loop .q) _ (c .before .loop .inv .2) (omega arith) (omega arith)
+
+pub components-spec : {M : Type 1} → statement M
+components-spec =
+    tie.close
+    (tie.spec
+    Inv-loop
+    μ-loop
+    mul-end
+    loop-holds
+    sub-if1
+    returns
+    get-requires
+    is-small-requires
+    add-q
+    add-i
+    loop-less
+    loop-again
+    returns-2
+    returns-3)

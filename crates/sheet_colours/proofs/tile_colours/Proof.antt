@@ -1,0 +1,113 @@
+-- `tile_colours` meets its contract. The loop's invariant: what is left to read, at the sum so far, gives the whole answer. Assumes nothing.
+use Prim.Native.Nat.{ℕ, _≤_, _-_, _*_, _+_}
+use mathlib.Core.Path.{_≡_, sym, _∙_}
+use native.Mathlib.Omega.{arith}
+use lib.ListN.{length}
+use native.Mathlib.Nat.{sub-zero}
+use Rattle.format.specs.Format.{times}
+use Rattle.bits.specs.Bits.{bits}
+use Rattle.bits.proofs.Fields.{field-lt}
+use Rattle.bits.proofs.Bytes.{length-bits}
+use Rattle.sheet_format.specs.Sheet.{component, colours, edition1}
+use Rattle.format.proofs.Lawful.{times-lawful}
+use Rattle.sheet_format.proofs.Exact.{component-lawful}
+use Rattle.sheet_colours.specs.Steps.{stepAt}
+use Rattle.sheet_colours.proofs.Turns.{colours-end, colours-fault, colours-got, step-fault, step-at}
+use Rattle.sheet_colours.proofs.Entries.{entry-short, entry-big, entry-read}
+use Rattle.sheet_colours.proofs.tile_colours.Statement.{statement}
+use Rattle.sheet_colours.proofs.tile_colours.Tie as tie
+
+abbrev Inv-loop : tie.InvT-loop
+Inv-loop s p n end q₀ sum₀ i₀ q sum i = (i ≤ n) × (q ≤ 8 * length s) × (sum ≤ 64) × (stepAt (colours edition1 (n - i) sum) s q ≡ stepAt (colours edition1 n 0) s p)
+
+abbrev μ-loop : tie.MeasureT-loop
+μ-loop s p n end q₀ sum₀ i₀ q sum i = n - i
+
+mul-end : tie.Need-mul-end Inv-loop μ-loop
+mul-end c = omega arith
+
+loop-holds : tie.Need-loop-holds Inv-loop μ-loop
+loop-holds c = (omega arith, omega arith, omega arith, rw sub-zero)
+
+sub-if1 : tie.Need-sub-if1 Inv-loop μ-loop
+sub-if1 c = omega arith
+
+returns : tie.Need-returns Inv-loop μ-loop
+returns c = colours-fault edition1 (c .before .before .before .before .args .s .now) (c .before .before .before .before .args .n) (c .before .before .loop .i) (c .before .before .loop .q) (c .before .before .loop .sum) _ (c .before .before .loop .inv .3) 13 (omega arith) (entry-short edition1 (c .before .before .before .before .args .s .now) (c .before .before .loop .q) (c .before .before .loop .sum) (omega arith))
+
+get-requires : tie.Need-get-requires Inv-loop μ-loop
+get-requires c κs = omega arith
+
+add-c : tie.Need-add-c Inv-loop μ-loop
+add-c c = omega (arith, c .get .ensures, field-lt (bits (c .before .before .before .before .before .args .s .now)) (c .before .before .before .loop .q) 6 6 (rw length-bits (omega arith)) (omega arith))
+
+add-if2 : tie.Need-add-if2 Inv-loop μ-loop
+add-if2 c = omega (arith, c .get .ensures, field-lt (bits (c .before .before .before .before .before .args .s .now)) (c .before .before .before .loop .q) 6 6 (rw length-bits (omega arith)) (omega arith))
+
+returns-2 : tie.Need-returns-2 Inv-loop μ-loop
+returns-2 c = colours-fault edition1 (c .before .before .before .before .before .before .args .s .now) (c .before .before .before .before .before .before .args .n) (c .before .before .before .before .loop .i) (c .before .before .before .before .loop .q) (c .before .before .before .before .loop .sum) _ (c .before .before .before .before .loop .inv .3) 6 (omega arith) (entry-big edition1 (c .before .before .before .before .before .before .args .s .now) (c .before .before .before .before .loop .q) (c .before .before .before .before .loop .sum) (c .before .get .result) (omega arith) (c .before .get .ensures) (omega arith))
+
+add-components : tie.Need-add-components Inv-loop μ-loop
+add-components c = omega arith
+
+components-requires : tie.Need-components-requires Inv-loop μ-loop
+components-requires c κs = omega arith
+
+enum-known-f : tie.Need-enum-known-f Inv-loop μ-loop
+enum-known-f c = c .match .keys1
+
+returns-3 : tie.Need-returns-3 Inv-loop μ-loop
+returns-3 c = colours-fault edition1 (c .before .before .before .before .before .before .before .before .before .before .args .s .now) (c .before .before .before .before .before .before .before .before .before .before .args .n) (c .before .before .before .before .before .before .before .before .loop .i) (c .before .before .before .before .before .before .before .before .loop .q) (c .before .before .before .before .before .before .before .before .loop .sum) _ (c .before .before .before .before .before .before .before .before .loop .inv .3) (c .before .f .given .0 .0) (omega arith) (entry-read edition1 (c .before .before .before .before .before .before .before .before .before .before .args .s .now) (c .before .before .before .before .before .before .before .before .loop .q) (c .before .before .before .before .before .before .before .before .loop .sum) (c .before .before .before .before .before .get .result) _ (omega arith) (c .before .before .before .before .before .get .ensures) (omega arith) (step-fault (bits (c .before .before .before .before .before .before .before .before .before .before .args .s .now)) _ (c .before .f .given .0 .0) (sym (c .before .f .given .1) ∙ c .before .before .before .components .ensures)))
+
+enum-known-z : tie.Need-enum-known-z Inv-loop μ-loop
+enum-known-z c = c .match .keys2
+
+add-sum : tie.Need-add-sum Inv-loop μ-loop
+add-sum c = omega arith
+
+add-i : tie.Need-add-i Inv-loop μ-loop
+add-i c = omega arith
+
+loop-less : tie.Need-loop-less Inv-loop μ-loop
+loop-less c = omega arith
+
+again : (c : tie.After-known-told2 Inv-loop μ-loop) → Inv-loop (c .before .before .before .before .before .before .before .before .before .before .args .s .now) (c .before .before .before .before .before .before .before .before .before .before .args .p) (c .before .before .before .before .before .before .before .before .before .before .args .n) 0 0 0 0 (c .before .z .given .0 .0) (c .before .before .before .before .before .before .before .before .loop .sum + (c .before .before .before .before .before .get .result + 1)) (c .before .before .before .before .before .before .before .before .loop .i + 1)
+again c =
+    let z : ℕ = c .before .z .given .0 .0 in
+    let x = step-at (times 3 component) (times-lawful 3 component component-lawful) (bits (c .before .before .before .before .before .before .before .before .before .before .args .s .now)) (c .before .before .before .before .before .before .before .before .loop .q + 6) (rw length-bits (omega arith)) z (sym (c .before .z .given .1) ∙ c .before .before .before .components .ensures) in (
+      omega arith,
+      omega (arith, x .2, length-bits (c .before .before .before .before .before .before .before .before .before .before .args .s .now)),
+      omega arith,
+      colours-got edition1 (c .before .before .before .before .before .before .before .before .before .before .args .s .now) (c .before .before .before .before .before .before .before .before .before .before .args .n) (c .before .before .before .before .before .before .before .before .loop .i) (c .before .before .before .before .before .before .before .before .loop .q) (c .before .before .before .before .before .before .before .before .loop .sum) _ (c .before .before .before .before .before .before .before .before .loop .inv .3) (c .before .before .before .before .before .get .result + 1, x .0) z (omega arith) (entry-read edition1 (c .before .before .before .before .before .before .before .before .before .before .args .s .now) (c .before .before .before .before .before .before .before .before .loop .q) (c .before .before .before .before .before .before .before .before .loop .sum) (c .before .before .before .before .before .get .result) _ (omega arith) (c .before .before .before .before .before .get .ensures) (omega arith) (x .1)),
+    )
+
+loop-again : tie.Need-loop-again Inv-loop μ-loop
+loop-again c = again c
+
+returns-4 : tie.Need-returns-4 Inv-loop μ-loop
+returns-4 c = colours-end edition1 (c .before .before .before .args .s .now) (c .before .before .before .args .n) (c .before .loop .i) (c .before .loop .q) (c .before .loop .sum) _ (c .before .loop .inv .3) (omega arith) (omega arith)
+
+pub tile-colours-spec : {M : Type 1} → statement M
+tile-colours-spec =
+    tie.close
+    (tie.spec
+    Inv-loop
+    μ-loop
+    mul-end
+    loop-holds
+    sub-if1
+    returns
+    get-requires
+    add-c
+    add-if2
+    returns-2
+    add-components
+    components-requires
+    enum-known-f
+    returns-3
+    enum-known-z
+    add-sum
+    add-i
+    loop-less
+    loop-again
+    returns-4)

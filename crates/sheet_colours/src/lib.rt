@@ -1,0 +1,67 @@
+// The numbers of a sheet behind its head, tested bit by bit: components, and a tile's colours. Nothing is written.
+// Each function answers what the format in crate sheet_format says. Assumes nothing.
+ghost use mathlib.Core.Path.{_≡_};
+ghost use Prim.Native.Nat.{_*_, _≤_};
+ghost use lib.ListN.{length};
+ghost use Rattle.format.specs.Format.{times};
+ghost use Rattle.sheet_format.specs.Sheet.{edition1, component, colours};
+ghost use Rattle.sheet_colours.specs.Steps.{stepAt};
+
+pub const TILE_SIZE: u32 = 64;
+
+// The number of a fault, or the bit to read next.
+pub enum Step {
+    Fault(u32),
+    At(usize),
+}
+
+// n components from bit p.
+pub fn components(s: &[u8], p: usize, n: usize) -> Step
+    requires { ⌜ (length (now s) ≤ 65536) × (p ≤ 8 * length (now s)) ⌝ }
+    ensures { λ r. ⌜ r ≡ stepAt (times n component) (now (s .entry)) p ⌝ }
+{
+    let end = 8 * s.len();
+    let mut q = p;
+    let mut i = 0;
+    while i < n {
+        if end - q < 32 {
+            return Step::Fault(13);
+        }
+        if pattern::is_small(bits::get(s, q, 32)) {
+            q += 32;
+            i += 1;
+        } else {
+            return Step::Fault(7);
+        }
+    }
+    Step::At(q)
+}
+
+// n colours of a tile from bit p, whose counts sum to at most the tile's size.
+pub fn tile_colours(s: &[u8], p: usize, n: usize) -> Step
+    requires { ⌜ (length (now s) ≤ 65536) × (p ≤ 8 * length (now s)) ⌝ }
+    ensures { λ r. ⌜ r ≡ stepAt (colours edition1 n 0) (now (s .entry)) p ⌝ }
+{
+    let end = 8 * s.len();
+    let mut q = p;
+    let mut sum: u32 = 0;
+    let mut i = 0;
+    while i < n {
+        if end - q < 6 {
+            return Step::Fault(13);
+        }
+        let c = bits::get(s, q, 6) + 1;
+        if TILE_SIZE < sum + c {
+            return Step::Fault(6);
+        }
+        match components(s, q + 6, 3) {
+            Step::Fault(f) => return Step::Fault(f),
+            Step::At(z) => {
+                q = z;
+                sum += c;
+                i += 1;
+            }
+        }
+    }
+    Step::At(q)
+}

@@ -1,0 +1,112 @@
+-- `fill_colours` meets its contract. The loop's invariant: what is left to store, at some sum, gives the whole. Assumes nothing.
+use Prim.Native.Nat.{ℕ, _≤_, _-_, _*_, _+_}
+use mathlib.Core.Path.{_≡_, refl, sym, _∙_, subst}
+use native.Mathlib.Omega.{arith}
+use native.Mathlib.Nat.{sub-zero, add-zero}
+use lib.ListN.{length, length-set}
+use lib.Seq.{sets}
+use Rattle.bits.specs.Bits.{bits}
+use Rattle.bits.proofs.Bytes.{length-bits}
+use Rattle.bits.proofs.Fields.{field-lt}
+use Rattle.sheet_format.specs.Sheet.{edition1, colours}
+use Rattle.sheet_format.specs.Lists.{tileCounts, tileFloats}
+use Rattle.sheet_fill_colours.specs.Fill.{Reads, listAt}
+use Rattle.sheet_fill_colours.proofs.Colours.{Filling, filling-now, filling-again, filling-end}
+use Rattle.sheet_fill_colours.proofs.fill_colours.Statement.{statement}
+use Rattle.sheet_fill_colours.proofs.fill_colours.Tie as tie
+
+abbrev Inv-loop : tie.InvT-loop
+Inv-loop s p n counts₀ parts₀ k q₀ i₀ counts parts q i =
+    (i ≤ n) × (length counts ≡ length counts₀) × (length parts ≡ length parts₀)
+    × Filling edition1 s (n - i) q (k + i) counts parts (sets counts₀ k (tileCounts (listAt (colours edition1 n 0) s p))) (sets parts₀ (3 * k) (tileFloats (listAt (colours edition1 n 0) s p)))
+
+abbrev μ-loop : tie.MeasureT-loop
+μ-loop s p n counts₀ parts₀ k q₀ i₀ counts parts q i = n - i
+
+loop-holds : tie.Need-loop-holds Inv-loop μ-loop
+loop-holds c = (
+  omega arith,
+  refl,
+  refl,
+  record {
+    sum = 0;
+    reads = subst (λ (j : ℕ). Reads (colours edition1 j 0) (c .before .before .before .args .s .now) (c .before .before .before .args .p)) (sym (sub-zero (c .before .before .before .args .n))) (c .before .before .before .pre .3);
+    counts = rw (add-zero, sub-zero);
+    parts = rw (add-zero, sub-zero);
+  },
+)
+
+add-j : tie.Need-add-j Inv-loop μ-loop
+add-j c = omega arith
+
+get-requires : tie.Need-get-requires Inv-loop μ-loop
+get-requires c κs = omega (arith, filling-now edition1 (c .before .before .before .before .before .args .n) (c .before .loop .i) (c .before .before .before .before .before .args .k) (c .before .loop .inv .3) (omega arith) .room)
+
+add-counts : tie.Need-add-counts Inv-loop μ-loop
+add-counts c =
+    let room = filling-now edition1 (c .before .before .before .before .before .before .args .n) (c .before .before .loop .i) (c .before .before .before .before .before .before .args .k) (c .before .before .loop .inv .3) (omega arith) .room in
+    omega (arith, c .get .ensures, field-lt (bits (c .before .before .before .before .before .before .args .s .now)) (c .before .before .loop .q) 6 6 (rw length-bits (omega arith)) (omega arith))
+
+mul-counts : tie.Need-mul-counts Inv-loop μ-loop
+mul-counts c = omega arith
+
+slice-write-counts : tie.Need-slice-write-counts Inv-loop μ-loop
+slice-write-counts c = omega arith
+
+add-fill-components : tie.Need-add-fill-components Inv-loop μ-loop
+add-fill-components c = omega (arith, filling-now edition1 (c .before .before .before .before .before .before .args .n) (c .before .before .loop .i) (c .before .before .before .before .before .before .args .k) (c .before .before .loop .inv .3) (omega arith) .room)
+
+mul-fill-components : tie.Need-mul-fill-components Inv-loop μ-loop
+mul-fill-components c = omega arith
+
+fill-components-requires : tie.Need-fill-components-requires Inv-loop μ-loop
+fill-components-requires c κs = (c .before .before .before .before .before .before .before .pre .0, omega arith, filling-now edition1 (c .before .before .before .before .before .before .before .args .n) (c .before .before .before .loop .i) (c .before .before .before .before .before .before .before .args .k) (c .before .before .before .loop .inv .3) (omega arith) .parts)
+
+add-q : tie.Need-add-q Inv-loop μ-loop
+add-q c = omega (arith, filling-now edition1 (c .before .before .before .before .before .before .before .before .before .before .args .n) (c .before .before .before .before .before .before .loop .i) (c .before .before .before .before .before .before .before .before .before .before .args .k) (c .before .before .before .before .before .before .loop .inv .3) (omega arith) .room)
+
+add-i : tie.Need-add-i Inv-loop μ-loop
+add-i c = omega arith
+
+loop-less : tie.Need-loop-less Inv-loop μ-loop
+loop-less c = omega arith
+
+loop-again : tie.Need-loop-again Inv-loop μ-loop
+loop-again c = (
+  omega arith,
+  length-set (c .before .before .before .before .before .before .loop .counts) (c .before .before .before .before .before .before .before .before .before .before .args .k + c .before .before .before .before .before .before .loop .i) (c .before .before .before .before .get .result + 1) ∙ c .before .before .before .before .before .before .loop .inv .1,
+  c .before .before .fill-components .kept .1 .1 .1 .0 ∙ c .before .before .before .before .before .before .loop .inv .2,
+  filling-again edition1 (c .before .before .before .before .before .before .before .before .before .before .args .n) (c .before .before .before .before .before .before .loop .i) (c .before .before .before .before .before .before .before .before .before .before .args .k) (c .before .before .before .before .before .before .loop .inv .3) (omega arith) (c .before .before .before .before .get .result) _ (c .before .before .before .before .get .ensures) (c .before .before .fill-components .ensures),
+)
+
+same-length : tie.Need-same-length Inv-loop μ-loop
+same-length c = omega arith
+
+same-length-2 : tie.Need-same-length-2 Inv-loop μ-loop
+same-length-2 c = omega arith
+
+returns : tie.Need-returns Inv-loop μ-loop
+returns c = filling-end edition1 (c .before .before .before .before .before .args .n) (c .before .loop .i) (c .before .before .before .before .before .args .k) (c .before .loop .inv .3) (omega arith)
+
+pub fill-colours-spec : {M : Type 1} → statement M
+fill-colours-spec =
+    tie.close
+    (tie.spec
+    Inv-loop
+    μ-loop
+    loop-holds
+    add-j
+    get-requires
+    add-counts
+    mul-counts
+    slice-write-counts
+    add-fill-components
+    mul-fill-components
+    fill-components-requires
+    add-q
+    add-i
+    loop-less
+    loop-again
+    same-length
+    same-length-2
+    returns)

@@ -1,0 +1,92 @@
+-- `fill_components` meets its contract. The loop's invariant: what is left to store gives the whole. Assumes nothing.
+use Prim.Native.Nat.{ℕ, _≤_, _-_, _+_}
+use mathlib.Core.Path.{_≡_, refl, sym, ap, _∙_, subst}
+use native.Mathlib.Omega.{arith}
+use native.Mathlib.Nat.{sub-zero, add-zero}
+use lib.Dec.{T}
+use lib.ListN.{length, set, length-set}
+use lib.Seq.{sets}
+use lib.Ieee.{binary32, ofBits}
+use Rattle.format.specs.Format.{times}
+use Rattle.pattern.specs.Pattern.{small}
+use Rattle.sheet_format.specs.Sheet.{component}
+use Rattle.sheet_format.specs.Lists.{floats}
+use Rattle.sheet_fill_colours.specs.Fill.{Reads, listAt}
+use Rattle.sheet_fill_colours.proofs.Components.{fill-now, fill-again, fill-end}
+use Rattle.sheet_fill_colours.proofs.fill_components.Statement.{statement}
+use Rattle.sheet_fill_colours.proofs.fill_components.Tie as tie
+
+abbrev Inv-loop : tie.InvT-loop
+Inv-loop s p n dst₀ at q₀ i₀ dst q i =
+    (i ≤ n) × (length dst ≡ length dst₀) × (Reads (times (n - i) component) s q) × (sets dst (at + i) (floats (listAt (times (n - i) component) s q)) ≡ sets dst₀ at (floats (listAt (times n component) s p)))
+
+abbrev μ-loop : tie.MeasureT-loop
+μ-loop s p n dst₀ at q₀ i₀ dst q i = n - i
+
+loop-holds : tie.Need-loop-holds Inv-loop μ-loop
+loop-holds c = (
+  omega arith,
+  refl,
+  subst (λ (j : ℕ). Reads (times j component) (c .before .before .args .s .now) (c .before .before .args .p)) (sym (sub-zero (c .before .before .args .n))) (c .before .before .pre .2),
+  rw (add-zero, sub-zero),
+)
+
+add-k : tie.Need-add-k Inv-loop μ-loop
+add-k c = omega arith
+
+get-requires : tie.Need-get-requires Inv-loop μ-loop
+get-requires c κs = omega (arith, fill-now (c .before .before .before .before .args .s .now) (c .before .before .before .before .args .n) (c .before .loop .i) (c .before .loop .q) (c .before .before .before .before .args .at) (c .before .loop .dst) _ (c .before .loop .inv .2) (c .before .loop .inv .3) (omega arith) .room)
+
+component-requires : tie.Need-component-requires Inv-loop μ-loop
+component-requires c κs =
+    subst (λ (v : ℕ). T (small v)) (sym (c .get .ensures))
+    (fill-now (c .before .before .before .before .before .args .s .now) (c .before .before .before .before .before .args .n) (c .before .before .loop .i) (c .before .before .loop .q) (c .before .before .before .before .before .args .at) (c .before .before .loop .dst) _ (c .before .before .loop .inv .2) (c .before .before .loop .inv .3) (omega arith) .fine)
+
+mul-dst : tie.Need-mul-dst Inv-loop μ-loop
+mul-dst c = omega arith
+
+slice-write-dst : tie.Need-slice-write-dst Inv-loop μ-loop
+slice-write-dst c = omega arith
+
+add-q : tie.Need-add-q Inv-loop μ-loop
+add-q c = omega (arith, fill-now (c .before .before .before .before .before .before .args .s .now) (c .before .before .before .before .before .before .args .n) (c .before .before .before .loop .i) (c .before .before .before .loop .q) (c .before .before .before .before .before .before .args .at) (c .before .before .before .loop .dst) _ (c .before .before .before .loop .inv .2) (c .before .before .before .loop .inv .3) (omega arith) .room)
+
+add-i : tie.Need-add-i Inv-loop μ-loop
+add-i c = omega arith
+
+loop-less : tie.Need-loop-less Inv-loop μ-loop
+loop-less c = omega arith
+
+loop-again : tie.Need-loop-again Inv-loop μ-loop
+loop-again c = (
+  omega arith,
+  length-set (c .before .before .before .loop .dst) (c .before .before .before .before .before .before .args .at + c .before .before .before .loop .i) (c .component .result) ∙ c .before .before .before .loop .inv .1,
+  fill-now (c .before .before .before .before .before .before .args .s .now) (c .before .before .before .before .before .before .args .n) (c .before .before .before .loop .i) (c .before .before .before .loop .q) (c .before .before .before .before .before .before .args .at) (c .before .before .before .loop .dst) _ (c .before .before .before .loop .inv .2) (c .before .before .before .loop .inv .3) (omega arith) .left,
+  fill-again (c .before .before .before .before .before .before .args .s .now) (c .before .before .before .before .before .before .args .n) (c .before .before .before .loop .i) (c .before .before .before .loop .q) (c .before .before .before .before .before .before .args .at) (c .before .before .before .loop .dst) _ (c .before .before .before .loop .inv .2) (c .before .before .before .loop .inv .3) (omega arith) _
+      (ap (set (c .before .before .before .loop .dst) (c .before .before .before .before .before .before .args .at + c .before .before .before .loop .i)) (c .component .ensures .0 ∙ ap (ofBits binary32) (c .before .get .ensures))),
+)
+
+same-length : tie.Need-same-length Inv-loop μ-loop
+same-length c = omega arith
+
+returns : tie.Need-returns Inv-loop μ-loop
+returns c = fill-end (c .before .before .before .before .args .s .now) (c .before .before .before .before .args .n) (c .before .loop .i) (c .before .loop .q) (c .before .before .before .before .args .at) (c .before .loop .dst) _ (c .before .loop .inv .2) (c .before .loop .inv .3) (omega arith)
+
+pub fill-components-spec : {M : Type 1} → statement M
+fill-components-spec =
+    tie.close
+    (tie.spec
+    Inv-loop
+    μ-loop
+    loop-holds
+    add-k
+    get-requires
+    component-requires
+    mul-dst
+    slice-write-dst
+    add-q
+    add-i
+    loop-less
+    loop-again
+    same-length
+    returns)

@@ -1,0 +1,12 @@
+-- `text_room` meets its contract. Assumes nothing.
+use Prim.Native.Nat.{ℕ}
+use mathlib.Core.Path.{sym}
+use lib.ListN.{length-replicate}
+use Rattle.train.proofs.text_room.Statement.{statement}
+use Rattle.train.proofs.text_room.Tie as tie
+
+returns : tie.Need-returns
+returns c = sym (length-replicate {A = ℕ} 65536 0)
+
+pub text-room-spec : {M : Type 1} → statement M
+text-room-spec = tie.close (tie.spec returns)

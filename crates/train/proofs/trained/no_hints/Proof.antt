@@ -1,0 +1,11 @@
+-- `no_hints` meets its contract. Assumes nothing.
+use mathlib.Core.Path.{refl}
+use Rattle.train.proofs.Rooms.{zero-at}
+use Rattle.train.proofs.trained.no_hints.Statement.{statement}
+use Rattle.train.proofs.trained.no_hints.Tie as tie
+
+returns : tie.Need-returns
+returns c = (refl, zero-at 1024)
+
+pub no-hints-spec : {M : Type 1} → statement M
+no-hints-spec = tie.close (tie.spec returns)

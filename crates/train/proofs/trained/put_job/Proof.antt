@@ -1,0 +1,66 @@
+-- `put_job` meets its contract, by the refusal that its number of samples gets. Assumes nothing.
+use native.Mathlib.Omega.{arith}
+use Rattle.sheet_parts.proofs.Parts.{front-long}
+use Rattle.fit_tiles.proofs.Lengths.{refused-most}
+use Rattle.train.proofs.Rules.{countable}
+use Rattle.train.proofs.Texts.{taken, refused-text, some-text, sheeted}
+use borrow.Author.Needs.{needs}
+use Rattle.train.proofs.trained.put_job.Statement.{statement}
+use Rattle.train.proofs.trained.put_job.Tie as tie
+
+samples-room-requires : tie.Need-samples-room-requires
+samples-room-requires c κs = search needs
+
+slice-aggregate-put-samples : tie.Need-slice-aggregate-put-samples
+slice-aggregate-put-samples c = search needs
+
+put-samples-requires : tie.Need-put-samples-requires
+put-samples-requires c κs = (countable _ _ (c .before .before .before .before .before .before .before .pre .0 .passed), omega (arith, c .before .samples-room .ensures))
+
+refusal-requires : tie.Need-refusal-requires
+refusal-requires c κs = search needs
+
+put-refused-requires : tie.Need-put-refused-requires
+put-refused-requires c κs = search needs
+
+same-length : tie.Need-same-length
+same-length c = search needs
+
+returns : tie.Need-returns
+returns c = (refused-text _ _ (c .before .before .before .before .before .before .before .before .before .before .before .before .before .before .before .pre .0) _ _ _ (c .before .before .before .before .before .before .before .put-samples .ensures) _ _ _ _ (c .before .before .before .before .before .refusal .ensures) (c .before .before .before .before .if1 .taken) (c .before .before .put-refused .ensures), omega (arith, c .before .before .put-refused .ensures .place, refused-most (c .before .before .before .before .before .refusal .result)))
+
+array-share-prefix-samples : tie.Need-array-share-prefix-samples
+array-share-prefix-samples c = omega (arith, taken _ _ (c .before .before .before .before .before .before .before .before .before .before .before .pre .0) _ _ _ (c .before .before .before .put-samples .ensures) _ (c .before .refusal .ensures) (c .if1 .left), c .before .before .before .put-samples .kept .1 .1 .1 .0, c .before .before .before .before .before .samples-room .ensures)
+
+slice-aggregate-put-trained : tie.Need-slice-aggregate-put-trained
+slice-aggregate-put-trained c = front-long (c .before .before .before .before .put-samples .result) (c .before .before .before .before .put-samples .last .1 .1 .1 .0) (omega (arith, taken _ _ (c .before .before .before .before .before .before .before .before .before .before .before .before .pre .0) _ _ _ (c .before .before .before .before .put-samples .ensures) _ (c .before .before .refusal .ensures) (c .before .if1 .left), c .before .before .before .before .put-samples .kept .1 .1 .1 .0, c .before .before .before .before .before .before .samples-room .ensures))
+
+put-trained-requires : tie.Need-put-trained-requires
+put-trained-requires c κs = sheeted _ _ (c .before .before .before .before .before .before .before .before .before .before .before .before .before .before .pre .0) _ _ _ (c .before .before .before .before .before .before .put-samples .ensures) _ _ (c .before .before .before .before .before .before .before .before .before .before .before .before .before .before .pre .1) (omega (arith, c .before .before .before .before .before .before .before .before .samples-room .ensures)) (c .before .before .before .before .refusal .ensures) (c .before .before .before .if1 .left)
+
+same-length-2 : tie.Need-same-length-2
+same-length-2 c = search needs
+
+same-length-3 : tie.Need-same-length-3
+same-length-3 c = search needs
+
+returns-2 : tie.Need-returns-2
+returns-2 c = (some-text _ _ (c .before .before .before .before .before .before .before .before .before .before .before .before .before .before .before .before .before .before .before .pre .0) _ _ _ (c .before .before .before .before .before .before .before .before .before .before .before .put-samples .ensures) _ _ _ _ (c .before .before .before .before .before .before .before .before .before .refusal .ensures) (c .before .before .before .before .before .before .before .before .if1 .left) (c .before .before .before .before .put-trained .ensures .0), c .before .before .before .before .put-trained .ensures .1)
+
+pub put-job-spec : {M : Type 1} → statement M
+put-job-spec =
+    tie.close
+    (tie.spec
+    samples-room-requires
+    slice-aggregate-put-samples
+    put-samples-requires
+    refusal-requires
+    put-refused-requires
+    same-length
+    returns
+    array-share-prefix-samples
+    slice-aggregate-put-trained
+    put-trained-requires
+    same-length-2
+    same-length-3
+    returns-2)

@@ -1,0 +1,38 @@
+-- `put_sheet` meets its contract: the writer refuses none that can be written. Assumes nothing.
+use Rattle.train.proofs.Files.{never, file-stored, file-short}
+use borrow.Author.Needs.{needs}
+use Rattle.train.proofs.trained.put_sheet.Statement.{statement}
+use Rattle.train.proofs.trained.put_sheet.Tie as tie
+
+write-requires : tie.Need-write-requires
+write-requires c κs = search needs
+
+enum-known-n : tie.Need-enum-known-n
+enum-known-n c = search needs
+
+enum-known-n-2 : tie.Need-enum-known-n-2
+enum-known-n-2 c = search needs
+
+same-length : tie.Need-same-length
+same-length c = search needs
+
+returns : tie.Need-returns
+returns c = absurd (never _ _ _ (c .before .before .before .before .before .before .before .before .before .before .before .before .pre .0) (c .before .before .before .before .before .before .before .before .before .before .before .before .pre .1) _ _ (c .before .before .before .before .before .write .ensures) _ (c .before .n .given .1))
+
+same-length-2 : tie.Need-same-length-2
+same-length-2 c = search needs
+
+returns-2 : tie.Need-returns-2
+returns-2 c = (file-stored _ _ _ (c .before .before .before .before .before .before .before .before .before .before .before .before .pre .0) (c .before .before .before .before .before .before .before .before .before .before .before .before .pre .1) _ _ (c .before .before .before .before .before .write .ensures) _ (c .before .n2 .given .1), file-short _ _ _ (c .before .before .before .before .before .before .before .before .before .before .before .before .pre .0) (c .before .before .before .before .before .before .before .before .before .before .before .before .pre .1) _ _ (c .before .before .before .before .before .write .ensures) _ (c .before .n2 .given .1))
+
+pub put-sheet-spec : {M : Type 1} → statement M
+put-sheet-spec =
+    tie.close
+    (tie.spec
+    write-requires
+    enum-known-n
+    enum-known-n-2
+    same-length
+    returns
+    same-length-2
+    returns-2)

@@ -1,4 +1,0 @@
-pub mod Rules
-pub mod Files
-pub mod Rooms
-pub mod Texts
