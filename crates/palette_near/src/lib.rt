@@ -47,7 +47,7 @@ fn least_by_fours(s: &[f32], q: Oklab, w: f32) -> f32
     lesser(fourth, lesser(third, lesser(second, first)))
 }
 
-// Squared distance of the nearest colour to q: the lanes from eight colours on, then colour by colour.
+// Squared distance of the nearest colour to q: the lanes from four colours on, then colour by colour.
 pub fn nearest_distance(s: &[f32], q: Oklab, w: f32) -> f32
     requires { ⌜ Clear (now s) q w ⌝ }
     ensures { λ r. ⌜ r ≡ nearestOf (now (s .entry)) q w .dist ⌝ }
@@ -55,7 +55,7 @@ pub fn nearest_distance(s: &[f32], q: Oklab, w: f32) -> f32
     let n = s.len() / 3;
     let mut least: f32 = 1.0 / 0.0;
     let mut i = 0;
-    if 24 <= s.len() {
+    if 12 <= s.len() {
         least = least_by_fours(s, q, w);
         i = 4 * (s.len() / 12);
     }
