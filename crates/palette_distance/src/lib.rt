@@ -13,7 +13,7 @@ pub fn tile_distance(s: &[f32], tile: &[f32], counts: &[u32], w: f32) -> f32
     let mut sum: f32 = 0.0;
     let mut k = 0;
     while k < n {
-        let near = palette_near::nearest_distance(s, color::colour(tile, k), w);
+        let near = palette_near::nearest_distance(s, tile, k, w);
         sum = sum + near * (counts[k] as f32);
         k += 1;
     }
@@ -34,7 +34,7 @@ pub fn distance_within(s: &[f32], tile: &[f32], counts: &[u32], w: f32, limit: f
     let mut sum: f32 = 0.0;
     let mut k = 0;
     while k < n {
-        let near = palette_near::nearest_distance(s, color::colour(tile, k), w);
+        let near = palette_near::nearest_distance(s, tile, k, w);
         sum = sum + near * (counts[k] as f32);
         if sum > limit {
             return Within::Over;

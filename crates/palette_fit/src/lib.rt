@@ -34,7 +34,7 @@ pub fn best_from(
         let sub = palette::part(pal, c, have, i);
         let mut sum: f32 = 0.0;
         for k in 0..counts.len() {
-            let near = palette_near::nearest_distance(sub, color::colour(tile, k), w);
+            let near = palette_near::nearest_distance(sub, tile, k, w);
             sum = sum + near * (counts[k] as f32);
             if sum > least || (sum == least && i > best) {
                 continue 'subs;

@@ -2,6 +2,7 @@
 ghost use mathlib.Core.Path.{_≡_};
 ghost use Prim.Native.Nat.{_+_, _*_, _/_, _<_};
 ghost use lib.ListN.{length};
+ghost use Rattle.color.specs.Color.{colourAt};
 ghost use Rattle.stats.specs.Stats.{leastOf};
 ghost use Rattle.choice.specs.Lesser.{lesserOf};
 ghost use Rattle.palette.specs.Palette.{gap, nearestOf, Clear};
@@ -48,7 +49,7 @@ fn least_by_fours(s: &[f32], q: Oklab, w: f32) -> f32
 }
 
 // Squared distance of the nearest colour to q: the lanes from four colours on, then colour by colour.
-pub fn nearest_distance(s: &[f32], q: Oklab, w: f32) -> f32
+fn distance_to(s: &[f32], q: Oklab, w: f32) -> f32
     requires { ⌜ Clear (now s) q w ⌝ }
     ensures { λ r. ⌜ r ≡ nearestOf (now (s .entry)) q w .dist ⌝ }
 {
@@ -64,4 +65,13 @@ pub fn nearest_distance(s: &[f32], q: Oklab, w: f32) -> f32
         i += 1;
     }
     least
+}
+
+// Squared distance of the nearest colour to colour k of a tile. It takes the tile and not the colour, which would be written to the
+// stack and read back in parts, and a processor waits there.
+pub fn nearest_distance(s: &[f32], tile: &[f32], k: usize, w: f32) -> f32
+    requires { ⌜ (3 * k + 2 < length (now tile)) × Clear (now s) (colourAt (now tile) k) w ⌝ }
+    ensures { λ r. ⌜ r ≡ nearestOf (now (s .entry)) (colourAt (now (tile .entry)) k) w .dist ⌝ }
+{
+    distance_to(s, color::colour(tile, k), w)
 }

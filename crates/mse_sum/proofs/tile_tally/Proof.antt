@@ -20,17 +20,14 @@ loop-holds : tie.Need-loop-holds Inv-loop μ-loop
 unfolding tileTally
 loop-holds c = (omega arith, (omega arith, refl))
 
-colour-requires : tie.Need-colour-requires Inv-loop μ-loop
-colour-requires c κs = let z = c .before .before .before .before .before in omega (arith, z .pre .0 .three)
-
 nearest-distance-requires : tie.Need-nearest-distance-requires Inv-loop μ-loop
-nearest-distance-requires c κs = near-asks _ _ _ (c .before .before .before .before .before .before .pre .0) (c .before .before .loop .k) (omega (arith, c .before .loop-test)) _ (c .colour .ensures)
+nearest-distance-requires c κs = (omega (arith, c .loop-test), near-asks _ _ _ (c .before .before .before .before .before .pre .0) (c .before .loop .k) (omega (arith, c .loop-test)) _ refl)
 
 float-to-float-total : tie.Need-float-to-float-total Inv-loop μ-loop
 float-to-float-total c =
-    let z = c .before .before .before .before .before .before .before .before in
-    let v = c .before .before .before .before .loop in
-    near-widens _ _ _ (z .pre .0) (v .k) (omega arith) _ _ (c .before .before .colour .ensures) (c .before .nearest-distance .ensures)
+    let z = c .before .before .before .before .before .before .before in
+    let v = c .before .before .before .loop in
+    near-widens _ _ _ (z .pre .0) (v .k) (omega arith) _ _ refl (c .before .nearest-distance .ensures)
 
 mul-total : tie.Need-mul-total Inv-loop μ-loop
 mul-total c = omega arith
@@ -51,7 +48,7 @@ cast-count : tie.Need-cast-count Inv-loop μ-loop
 cast-count c = search needs
 
 add-count : tie.Need-add-count Inv-loop μ-loop
-add-count c = let z = c .before .before .before .before .before .before .before .before .before .before .before in omega (arith, z .pre .0 .high (c .before .before .before .before .before .before .before .loop .k) (omega arith), z .pre .1)
+add-count c = let z = c .before .before .before .before .before .before .before .before .before .before in omega (arith, z .pre .0 .high (c .before .before .before .before .before .before .loop .k) (omega arith), z .pre .1)
 
 add-k : tie.Need-add-k Inv-loop μ-loop
 add-k c = omega arith
@@ -61,9 +58,9 @@ loop-less c = omega arith
 
 loop-again : tie.Need-loop-again Inv-loop μ-loop
 loop-again c =
-    let z = c .before .before .before .before .before .before .before .before .before .before .before in
-    let v = c .before .before .before .before .before .before .before .loop in
-    (omega arith, (omega (arith, z .pre .0 .high (v .k) (omega arith)), tally-step _ _ _ _ _ _ _ _ _ (v .inv .1 .1) (c .before .before .before .before .before .colour .ensures) (c .before .before .before .before .nearest-distance .ensures)))
+    let z = c .before .before .before .before .before .before .before .before .before .before in
+    let v = c .before .before .before .before .before .before .loop in
+    (omega arith, (omega (arith, z .pre .0 .high (v .k) (omega arith)), tally-step _ _ _ _ _ _ _ _ _ (v .inv .1 .1) refl (c .before .before .before .before .nearest-distance .ensures)))
 
 returns : tie.Need-returns Inv-loop μ-loop
 returns c = c .before .loop .inv .1 .1 ∙ ap (tileTally _ _ _ _) (omega arith)
@@ -75,7 +72,6 @@ tile-tally-spec =
     Inv-loop
     μ-loop
     loop-holds
-    colour-requires
     nearest-distance-requires
     float-to-float-total
     mul-total

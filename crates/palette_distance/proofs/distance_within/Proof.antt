@@ -22,13 +22,10 @@ loop-holds : tie.Need-loop-holds Inv-loop μ-loop
 unfolding totalOf
 loop-holds c = (omega arith, (refl, none-over _ (c .before .before .before .pre .clear)))
 
-colour-requires : tie.Need-colour-requires Inv-loop μ-loop
-colour-requires c κs = omega arith
-
 nearest-distance-requires : tie.Need-nearest-distance-requires Inv-loop μ-loop
 nearest-distance-requires c κs =
-    let z = c .before .before .before .before .before .before in
-    walk-asks _ _ _ (record { sub = z .pre .sub; tile = z .pre .tile; weight = z .pre .weight }) (c .before .before .loop .k) (omega (arith, c .before .loop-test)) _ (c .colour .ensures)
+    let z = c .before .before .before .before .before in
+    (omega (arith, c .loop-test), walk-asks _ _ _ (record { sub = z .pre .sub; tile = z .pre .tile; weight = z .pre .weight }) (c .before .loop .k) (omega (arith, c .loop-test)) _ refl)
 
 mul-sum : tie.Need-mul-sum Inv-loop μ-loop
 mul-sum c = omega arith
@@ -38,14 +35,14 @@ shared-slice-read-sum c = omega arith
 
 int-to-float-sum : tie.Need-int-to-float-sum Inv-loop μ-loop
 int-to-float-sum c =
-    count-exact binary32 _ (c .before .before .before .before .before .before .before .before .before .pre .tile .high (c .before .before .before .before .before .loop .k) (omega arith))
+    count-exact binary32 _ (c .before .before .before .before .before .before .before .before .pre .tile .high (c .before .before .before .before .loop .k) (omega arith))
 
 returns : tie.Need-returns Inv-loop μ-loop
 returns c =
-    let z = c .before .before .before .before .before .before .before .before .before .before in
-    let v = c .before .before .before .before .before .before in
+    let z = c .before .before .before .before .before .before .before .before .before in
+    let v = c .before .before .before .before .before in
     over-already _ _ _ _ (z .pre) (subst T (sym (z .good .1 .1 .1 .1 .0 .1)) tt) (v .loop .k) (omega arith) _
-    (total-step _ _ _ _ _ _ _ (v .loop .inv .1 .0) (c .before .before .before .before .colour .ensures) (c .before .before .before .nearest-distance .ensures)) (c .if1 .taken)
+    (total-step _ _ _ _ _ _ _ (v .loop .inv .1 .0) refl (c .before .before .before .nearest-distance .ensures)) (c .if1 .taken)
 
 add-k : tie.Need-add-k Inv-loop μ-loop
 add-k c = omega arith
@@ -55,9 +52,9 @@ loop-less c = omega arith
 
 loop-again : tie.Need-loop-again Inv-loop μ-loop
 loop-again c =
-    let v = c .before .before .before .before .before .before in (
+    let v = c .before .before .before .before .before in (
       omega arith,
-      (total-step _ _ _ _ _ _ _ (v .loop .inv .1 .0) (c .before .before .before .before .colour .ensures) (c .before .before .before .nearest-distance .ensures), c .if1 .left),
+      (total-step _ _ _ _ _ _ _ (v .loop .inv .1 .0) refl (c .before .before .before .nearest-distance .ensures), c .if1 .left),
     )
 
 returns-2 : tie.Need-returns-2 Inv-loop μ-loop
@@ -70,7 +67,6 @@ distance-within-spec =
     Inv-loop
     μ-loop
     loop-holds
-    colour-requires
     nearest-distance-requires
     mul-sum
     shared-slice-read-sum

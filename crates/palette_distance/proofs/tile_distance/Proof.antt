@@ -19,11 +19,8 @@ loop-holds : tie.Need-loop-holds Inv-loop μ-loop
 unfolding totalOf
 loop-holds c = (omega arith, refl)
 
-colour-requires : tie.Need-colour-requires Inv-loop μ-loop
-colour-requires c κs = omega arith
-
 nearest-distance-requires : tie.Need-nearest-distance-requires Inv-loop μ-loop
-nearest-distance-requires c κs = walk-asks _ _ _ (c .before .before .before .before .before .before .pre) (c .before .before .loop .k) (omega (arith, c .before .loop-test)) _ (c .colour .ensures)
+nearest-distance-requires c κs = (omega (arith, c .loop-test), walk-asks _ _ _ (c .before .before .before .before .before .pre) (c .before .loop .k) (omega (arith, c .loop-test)) _ refl)
 
 mul-sum : tie.Need-mul-sum Inv-loop μ-loop
 mul-sum c = omega arith
@@ -33,7 +30,7 @@ shared-slice-read-sum c = omega arith
 
 int-to-float-sum : tie.Need-int-to-float-sum Inv-loop μ-loop
 int-to-float-sum c =
-    count-exact binary32 _ (c .before .before .before .before .before .before .before .before .before .pre .tile .high (c .before .before .before .before .before .loop .k) (omega arith))
+    count-exact binary32 _ (c .before .before .before .before .before .before .before .before .pre .tile .high (c .before .before .before .before .loop .k) (omega arith))
 
 add-k : tie.Need-add-k Inv-loop μ-loop
 add-k c = omega arith
@@ -44,7 +41,7 @@ loop-less c = omega arith
 loop-again : tie.Need-loop-again Inv-loop μ-loop
 loop-again c = (
   omega arith,
-  total-step _ _ _ _ _ _ _ (c .before .before .before .before .before .loop .inv .1) (c .before .before .before .colour .ensures) (c .before .before .nearest-distance .ensures),
+  total-step _ _ _ _ _ _ _ (c .before .before .before .before .loop .inv .1) refl (c .before .before .nearest-distance .ensures),
 )
 
 returns : tie.Need-returns Inv-loop μ-loop
@@ -57,7 +54,6 @@ tile-distance-spec =
     Inv-loop
     μ-loop
     loop-holds
-    colour-requires
     nearest-distance-requires
     mul-sum
     shared-slice-read-sum
