@@ -2,14 +2,13 @@
 //! Each wrapper's caller meets what the function requires; the cases are made so.
 
 mod calls;
-mod leaves;
 mod palettes;
 mod runs;
 mod sheets;
 mod training;
 
 pub use calls::*;
-pub use leaves::*;
+pub use foreign::ours::*;
 pub use palettes::*;
 pub use runs::*;
 pub use sheets::*;

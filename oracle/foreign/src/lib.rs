@@ -5,6 +5,7 @@ mod calls;
 #[path = "../../../hosts/rust/src/exports.rs"]
 mod exports;
 mod leaves;
+pub mod ours;
 mod palettes;
 mod sheets;
 mod training;

@@ -66,7 +66,7 @@ fn cycle(rng: &mut Rng, _: u64, tally: &mut Tally) {
     let n = if rng.once_in(50) { rng.among(1000, 16_384) } else { rng.among(1, 120) };
     let (seed, draws) = (rng.bits(), rng.among(1, 4 * n));
     let mut cycle = ours::Cycle::new(n, seed);
-    let ours: Vec<usize> = (0..draws).map(|_| cycle.next()).collect();
+    let ours: Vec<usize> = (0..draws).map(|_| cycle.draw()).collect();
     tally.same(ours, probed(2.15).cycle(seed, n, draws), || format!("{draws} draws of {n}, seed {seed:x}"));
 }
 

@@ -1,39 +1,10 @@
-//! palette, palette_two, palette_edit, view.
+//! palette, palette_two, palette_edit.
 
 use foreign::{
     probe_best_fit, probe_best_two, probe_copy_color, probe_copy_subpalette, probe_duplicate_color,
-    probe_duplicate_palette, probe_nearest, probe_nearest_two, probe_nudge, probe_tile_distance, probe_view_nearest,
-    probe_view_nearest_two,
+    probe_duplicate_palette, probe_nudge, probe_tile_distance,
 };
 use terms::{Colour, Edit, Fit, FitTwo, Palette, Tile};
-
-pub fn nearest(sub: &[Colour], q: Colour, weight: f32) -> (usize, f32) {
-    let (flat, mut dist) = (sub.as_flattened(), 0.0);
-    let index = unsafe { probe_nearest(flat.as_ptr(), flat.len(), q[0], q[1], q[2], weight, &mut dist) };
-    (index, dist)
-}
-
-/// By the view.
-pub fn view_nearest(sub: &[Colour], q: Colour, weight: f32) -> (usize, f32) {
-    let (flat, mut dist) = (sub.as_flattened(), 0.0);
-    let index = unsafe { probe_view_nearest(flat.as_ptr(), flat.len(), q[0], q[1], q[2], weight, &mut dist) };
-    (index, dist)
-}
-
-pub fn nearest_two(sub: &[Colour], q: Colour, weight: f32) -> (usize, f32, f32) {
-    let (flat, mut dist, mut second) = (sub.as_flattened(), 0.0, 0.0);
-    let index =
-        unsafe { probe_nearest_two(flat.as_ptr(), flat.len(), q[0], q[1], q[2], weight, &mut dist, &mut second) };
-    (index, dist, second)
-}
-
-/// By the view.
-pub fn view_nearest_two(sub: &[Colour], q: Colour, weight: f32) -> (usize, f32, f32) {
-    let (flat, mut dist, mut second) = (sub.as_flattened(), 0.0, 0.0);
-    let index =
-        unsafe { probe_view_nearest_two(flat.as_ptr(), flat.len(), q[0], q[1], q[2], weight, &mut dist, &mut second) };
-    (index, dist, second)
-}
 
 pub fn tile_distance(sub: &[Colour], tile: &Tile, weight: f32) -> f32 {
     let (sub, colours, counts) = (sub.as_flattened(), tile.colours.as_flattened(), &tile.counts);

@@ -1,0 +1,110 @@
+//! What needs no job, as Rust has it: narrowing, prng, cycle, stats, color, the nearest colours. Each caller meets what the function
+//! requires.
+
+use crate::leaves::{
+    probe_argmax, probe_argmin, probe_base_iterations, probe_cycle_new, probe_cycle_next, probe_mean, probe_narrow,
+    probe_next, probe_shuffle, probe_smallest_two, probe_sqdist,
+};
+use crate::palettes::{probe_nearest, probe_nearest_two, probe_view_nearest, probe_view_nearest_two};
+
+/// An Oklab colour: l, a, b.
+pub type Colour = [f32; 3];
+
+pub fn narrow(x: f64) -> f32 {
+    unsafe { probe_narrow(x) }
+}
+
+/// The output, and the state after it.
+pub fn next(state: u64) -> (u64, u64) {
+    let mut after = 0;
+    let value = unsafe { probe_next(state, &mut after) };
+    (value, after)
+}
+
+/// Gives the state after it.
+pub fn shuffle(state: u64, items: &mut [u32]) -> u64 {
+    unsafe { probe_shuffle(state, items.as_mut_ptr(), items.len()) }
+}
+
+pub fn base_iterations(n: usize) -> usize {
+    unsafe { probe_base_iterations(n) }
+}
+
+/// The order of draws in memory of its own.
+pub struct Cycle {
+    pub order: Vec<u32>,
+    pub state: u64,
+    pub made: u64,
+}
+
+impl Cycle {
+    pub fn new(n: usize, seed: u64) -> Self {
+        let mut order = vec![u32::MAX; n];
+        let state = unsafe { probe_cycle_new(order.as_mut_ptr(), n, seed) };
+        Cycle { order, state, made: 0 }
+    }
+
+    /// The next sample.
+    pub fn draw(&mut self) -> usize {
+        let (order, mut after) = (&mut self.order, 0);
+        let sample = unsafe { probe_cycle_next(order.as_mut_ptr(), order.len(), self.state, self.made, &mut after) };
+        (self.state, self.made) = (after, self.made + 1);
+        sample as usize
+    }
+}
+
+pub fn smallest_two(values: &[f32]) -> (usize, f32, f32) {
+    let [mut dist, mut second] = [0.0; 2];
+    let index = unsafe { probe_smallest_two(values.as_ptr(), values.len(), &mut dist, &mut second) };
+    (index, dist, second)
+}
+
+/// No value is a NaN.
+pub fn argmax(values: &[f32]) -> usize {
+    unsafe { probe_argmax(values.as_ptr(), values.len()) }
+}
+
+/// No value is a NaN.
+pub fn argmin(values: &[f32]) -> usize {
+    unsafe { probe_argmin(values.as_ptr(), values.len()) }
+}
+
+pub fn sqdist(p: Colour, q: Colour, weight: f32) -> f32 {
+    unsafe { probe_sqdist(p[0], p[1], p[2], q[0], q[1], q[2], weight) }
+}
+
+/// Of one colour at least.
+pub fn mean(colours: &[Colour]) -> Colour {
+    let flat = colours.as_flattened();
+    let [mut l, mut a, mut b] = [0.0; 3];
+    unsafe { probe_mean(flat.as_ptr(), flat.len(), &mut l, &mut a, &mut b) };
+    [l, a, b]
+}
+
+pub fn nearest(sub: &[Colour], q: Colour, weight: f32) -> (usize, f32) {
+    let (flat, mut dist) = (sub.as_flattened(), 0.0);
+    let index = unsafe { probe_nearest(flat.as_ptr(), flat.len(), q[0], q[1], q[2], weight, &mut dist) };
+    (index, dist)
+}
+
+/// By the view.
+pub fn view_nearest(sub: &[Colour], q: Colour, weight: f32) -> (usize, f32) {
+    let (flat, mut dist) = (sub.as_flattened(), 0.0);
+    let index = unsafe { probe_view_nearest(flat.as_ptr(), flat.len(), q[0], q[1], q[2], weight, &mut dist) };
+    (index, dist)
+}
+
+pub fn nearest_two(sub: &[Colour], q: Colour, weight: f32) -> (usize, f32, f32) {
+    let (flat, mut dist, mut second) = (sub.as_flattened(), 0.0, 0.0);
+    let index =
+        unsafe { probe_nearest_two(flat.as_ptr(), flat.len(), q[0], q[1], q[2], weight, &mut dist, &mut second) };
+    (index, dist, second)
+}
+
+/// By the view.
+pub fn view_nearest_two(sub: &[Colour], q: Colour, weight: f32) -> (usize, f32, f32) {
+    let (flat, mut dist, mut second) = (sub.as_flattened(), 0.0, 0.0);
+    let index =
+        unsafe { probe_view_nearest_two(flat.as_ptr(), flat.len(), q[0], q[1], q[2], weight, &mut dist, &mut second) };
+    (index, dist, second)
+}
