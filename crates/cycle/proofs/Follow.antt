@@ -1,14 +1,8 @@
 -- How a run keeps to the definition: as long as its cycle is `after n seed t`, its next draw is `drawAt n seed t`, and leaves it at `after n seed (suc t)`.
 -- So a run that keeps its order and its record in lent memory has one invariant, that the cycle they hold is `after n seed t`. Assumes nothing.
-use mathlib.Core.Path.{_≡_, refl, ap, _∙_}
-use Prim.Native.Nat.{ℕ, zero, suc, _+_}
-use native.Mathlib.Numerals.{add-one}
+use mathlib.Core.Path.{_≡_, ap, _∙_}
+use Prim.Native.Nat.{ℕ, suc}
 use Rattle.cycle.specs.Cycle.{Cycle, Drawn, drawn, drawOne, after, drawAt}
-
-pub after-made : (n seed t : ℕ) → after n seed t .made ≡ t
-unfolding after drawOne
-after-made n seed zero = refl
-after-made n seed (suc t) = ap (λ (m : ℕ). m + 1) (after-made n seed t) ∙ add-one t
 
 -- the cycle `held` is at draw t; one more draw answers a sample and leaves the cycle `left`
 module _ (n seed t sample : ℕ) (held left : Cycle) (at : held ≡ after n seed t) (draws : drawn sample left ≡ drawOne held) where

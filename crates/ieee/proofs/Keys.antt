@@ -16,7 +16,7 @@ use lib.Ieee.Digits.{size-lt, size-le, size-reaches}
 use lib.Ieee.Exact.{HasValue}
 use lib.Ieee.Fits.{down-pos, kept-lt, two, two-le-pos, eq→eqb}
 use lib.Ieee.Nearest.{div-mono}
-use lib.Ieee.Bits.{ofBits-toBits, nanBits-above, nanBits-is}
+use lib.Ieee.Bits.{ofBits-toBits, nanBits-above}
 use Rattle.ieee.proofs.Order.{same-test, le-fin→}
 use Rattle.ieee.proofs.Total.{total, refl-le, lt→le, lt-is, antisym, eq→le, eq→ge}
 use Rattle.ieee.proofs.Self.{fits-under}
@@ -167,9 +167,6 @@ size-small f x h = lt-of-le-of-lt (pack-mono f (key f x) (2 ^ (low f + suc (emax
 -- ---- bits of no `nan`: the size is an infinity's at most
 pub real-bits : (f : Format) (b : ℕ) → b % top f ≤ ones f * hid f → T (not (nanBits f b))
 real-bits f b h = subst (λ (z : Bool). T (not z)) (sym (nanBits-above f b)) (le→nltb (ones f * hid f) (b % top f) h)
-
-pub real-of-bits : (f : Format) (b : ℕ) → b % top f ≤ ones f * hid f → T (not (isNan (ofBits f b)))
-real-of-bits f b h = subst (λ (z : Bool). T (not z)) (nanBits-is f b) (real-bits f b h)
 
 -- ---- values that the format holds, no `nan`, with the sign clear
 plus-abs : (x : Float) → T (plus x) → abs x ≡ x

@@ -9,7 +9,7 @@ use native.Mathlib.Omega.{arith}
 use lib.Dec.{ltb}
 use lib.Ieee.{Float, Format, lt, eq}
 use borrow.Author.Tests.{lt-ltb, le-ltb, eq-eqb, ne-eqb, ltb-true, ltb-false, eqb-true, eqb-false}
-use Rattle.lists.proofs.Tests.{and-l, and-r, and-i, and-no-l, and-no-r, and-case, or-l, or-r, or-case, or-none, or-no}
+use Rattle.lists.proofs.Tests.{and-l, and-r, and-i, and-no-l, and-case, or-l, or-r, or-case, or-none, or-no}
 use Rattle.ieee.specs.Terms.{key, Good}
 use Rattle.ieee.proofs.Keys.{lt-key, eq-key}
 use Rattle.ieee.specs.Terms.{key32, rankOf, rank, over}
@@ -58,13 +58,6 @@ module _ {f : Format} (x d limit : Float) (lose : Bool) (gx : Good f x) (gd : Go
   over-mono t =
       or-case (lt limit x) (eq x limit && lose) t over-past
       (λ (p : eq x limit && lose ≡ true). over-tie (and-l (eq x limit) lose p) (and-r (eq x limit) lose p))
-
--- ---- not over
-pub not-over-ne : (d limit : Float) (lose : Bool) → lt limit d ≡ false → eq d limit ≡ false → over d limit lose ≡ false
-not-over-ne d limit lose p q = or-no (lt limit d) (eq d limit && lose) p (and-no-l (eq d limit) lose q)
-
-pub not-over-win : (d limit : Float) (lose : Bool) → lt limit d ≡ false → lose ≡ false → over d limit lose ≡ false
-not-over-win d limit lose p q = or-no (lt limit d) (eq d limit && lose) p (and-no-r (eq d limit) lose q)
 
 -- ---- the code's `sum > limit || (sum == limit && lose)`: r is what its second half answers
 module _ (x limit : Float) (lose r : Bool) where
