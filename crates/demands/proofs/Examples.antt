@@ -12,7 +12,8 @@ use Rattle.lists.proofs.Hits.{length-firsts}
 use Rattle.prng.proofs.Shuffled.{shuffle-one}
 use Rattle.cycle.specs.Cycle.{drawAt}
 use Rattle.cycle.proofs.Examples.{tenths, twenty-of-ten, forty-four-of-twenty-five}
-use Rattle.stats.proofs.Examples.{argmax-of-1-3-3, argmin-of-2-1-1, smallest-two-of-2-1-1, smallest-two-of-5}
+use Rattle.stats.proofs.Examples.{smallest-two-of-2-1-1, smallest-two-of-5}
+use Rattle.extremes.proofs.Examples.{argmax-of-1-3-3, argmin-of-2-1-1}
 use Rattle.stats.specs.declared.Near.{Near}
 use Rattle.job.specs.Job.{job}
 use Rattle.job.specs.Rules.{answer}

@@ -9,7 +9,8 @@ use Rattle.lists.specs.Count.{count}
 use Rattle.lists.specs.Firsts.{hits}
 use Rattle.prng.specs.Shuffle.{deck, shuffleOf}
 use Rattle.cycle.specs.Tenth.{tenth}
-use Rattle.stats.specs.Stats.{valueAt, leastTwo, argmaxOf, argminOf}
+use Rattle.stats.specs.Stats.{valueAt, leastTwo}
+use Rattle.extremes.specs.Extremes.{argmaxOf, argminOf}
 use Rattle.job.specs.Job.{Job, job}
 use Rattle.palette_edit.specs.Edits.{blend}
 use Rattle.palette_tile.specs.Tiles.{fitAt}

@@ -1,9 +1,10 @@
-// Forwarders to stats, and to narrow. Assumes of callers what each callee requires.
+// Forwarders to stats, extremes and narrow. Assumes of callers what each callee requires.
 ghost use mathlib.Core.Bool.{not};
 ghost use lib.Dec.{T};
 ghost use lib.Ieee.{isNan};
 ghost use lib.ListN.{length};
-ghost use Rattle.stats.specs.Stats.{valueAt, NoNan};
+ghost use Rattle.stats.specs.Stats.{valueAt};
+ghost use Rattle.extremes.specs.Extremes.{NoNan};
 
 #[no_mangle]
 pub extern "C" fn probe_narrow(x: f64) -> f32
@@ -24,12 +25,12 @@ pub extern "C" fn probe_smallest_two(values: &[f32], dist: &mut f32, second: &mu
 pub extern "C" fn probe_argmax(values: &[f32]) -> usize
     requires { ⌜ NoNan (valueAt (now values)) (length (now values)) ⌝ }
 {
-    stats::argmax(values)
+    extremes::argmax(values)
 }
 
 #[no_mangle]
 pub extern "C" fn probe_argmin(values: &[f32]) -> usize
     requires { ⌜ NoNan (valueAt (now values)) (length (now values)) ⌝ }
 {
-    stats::argmin(values)
+    extremes::argmin(values)
 }

@@ -3,7 +3,8 @@ use Prim.Native.Nat.{ℕ}
 use mathlib.Core.List.{List}
 use lib.ListN.{getD, length, set, take, drop, replicate}
 use lib.Ieee.{Float, nan, binary32, add, ofBits}
-use Rattle.stats.specs.Stats.{valueAt, argmaxOf, argminOf}
+use Rattle.stats.specs.Stats.{valueAt}
+use Rattle.extremes.specs.Extremes.{argmaxOf, argminOf}
 
 -- d(i) += x
 abbrev pub bump : List Float → ℕ → Float → List Float

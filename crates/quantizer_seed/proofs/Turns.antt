@@ -12,7 +12,8 @@ use borrow.Author.Tests.{eqb-true, eqb-false}
 use Rattle.job.specs.Job.{Job, sizeOf, isEmpty}
 use Rattle.job.proofs.Tiles.{tile-listed}
 use Rattle.stats.specs.declared.Near.{Near}
-use Rattle.stats.specs.Stats.{valueAt, NoNan}
+use Rattle.stats.specs.Stats.{valueAt}
+use Rattle.extremes.specs.Extremes.{NoNan}
 use Rattle.palette_tile.specs.Tiles.{fitAt, hintStep, hintsOf, Shown, Fitted}
 use Rattle.palette_tile.proofs.Present.{winner-below}
 use Rattle.palette_tile.proofs.Hints.{length-hints, hint-kept, hint-written, hints-none, hints-more}

@@ -165,5 +165,5 @@ pub fn worst(
         hints,
         &mut distances,
     );
-    stats::argmax(&distances[0..subs])
+    extremes::argmax(&distances[0..subs])
 }

@@ -8,7 +8,7 @@ use lib.ListN.{getD, length}
 use lib.Ieee.{Float, nan}
 use borrow.Author.Tests.{eq-eqb, ne-eqb, not-true, not-false}
 use Rattle.stats.specs.Stats.{valueAt}
-use Rattle.stats.proofs.Choices.{max-below, min-below}
+use Rattle.extremes.proofs.Choices.{max-below, min-below}
 use Rattle.palette_edit.specs.Edits.{colourCopied, subCopied}
 use Rattle.quantizer.specs.declared.Swap.{Swap}
 use Rattle.quantizer.specs.Sums.{greatest, smallest}

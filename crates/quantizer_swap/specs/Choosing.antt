@@ -4,7 +4,8 @@ use mathlib.Core.Path.{_≡_}
 use mathlib.Core.List.{List}
 use lib.ListN.{length}
 use lib.Ieee.{Float}
-use Rattle.stats.specs.Stats.{valueAt, NoNan}
+use Rattle.stats.specs.Stats.{valueAt}
+use Rattle.extremes.specs.Extremes.{NoNan}
 
 pub record Choosing (had lost : List Float) : Type 0 where
   pub some : 1 ≤ length had

@@ -14,8 +14,8 @@ pub fn choose(had: &[f32], lost: &[f32]) -> Swap
     requires { ⌜ Choosing (now had) (now lost) ⌝ }
     ensures { λ r. ⌜ r ≡ swapOf (now (had .entry)) (now (lost .entry)) ⌝ }
 {
-    let from = stats::argmax(had);
-    let to = stats::argmin(lost);
+    let from = extremes::argmax(had);
+    let to = extremes::argmin(lost);
     if to == from {
         return Swap {
             from,

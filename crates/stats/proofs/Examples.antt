@@ -2,8 +2,8 @@
 use mathlib.Core.Path.{_≡_, refl}
 use mathlib.Core.Bool.{false}
 use mathlib.Core.List.{[], _∷_}
-use lib.Ieee.{Float, inf, binary32, ofBits, lt, le}
-use Rattle.stats.specs.Stats.{valueAt, leastTwo, nextOf, argmaxOf, argminOf}
+use lib.Ieee.{Float, inf, binary32, ofBits, lt}
+use Rattle.stats.specs.Stats.{valueAt, leastTwo, nextOf}
 
 abbrev one : Float
 one = ofBits binary32 0x3f80_0000
@@ -11,19 +11,8 @@ one = ofBits binary32 0x3f80_0000
 abbrev two : Float
 two = ofBits binary32 0x4000_0000
 
-abbrev three : Float
-three = ofBits binary32 0x4040_0000
-
 abbrev five : Float
 five = ofBits binary32 0x40a0_0000
-
-pub argmax-of-1-3-3 : argmaxOf (valueAt (one ∷ three ∷ three ∷ [])) 3 ≡ 2
-unfolding argmaxOf ofBits le lt
-argmax-of-1-3-3 = refl
-
-pub argmin-of-2-1-1 : argminOf (valueAt (two ∷ one ∷ one ∷ [])) 3 ≡ 1
-unfolding argminOf ofBits le lt
-argmin-of-2-1-1 = refl
 
 pub smallest-two-of-2-1-1 : leastTwo (valueAt (two ∷ one ∷ one ∷ [])) 3 ≡ record { index = 1; dist = one; second = one }
 unfolding leastTwo ofBits lt

@@ -1,6 +1,3 @@
-pub mod Turns
 pub mod Examples
 pub mod Seconds
-pub mod Choices
 pub mod Steps
-pub mod Extremes

@@ -1,11 +1,10 @@
--- The least of n values, the least two, the greatest and the least by IEEE 754's total order: over any values d 0 .. d (n - 1). Definitions only. Assumes nothing.
-use Prim.Native.Nat.{ℕ, zero, suc, _<_}
-use mathlib.Core.Bool.{Bool, true, false, not, _||_, cond}
+-- The least of n values and the least two: over any values d 0 .. d (n - 1). Definitions only. Assumes nothing.
+use Prim.Native.Nat.{ℕ, zero, suc}
+use mathlib.Core.Bool.{Bool, true, false, _||_, cond}
 use mathlib.Core.List.{List}
 use lib.ListN.{getD}
-use lib.Dec.{T, eqb}
-use lib.Ieee.{Float, nan, inf, lt, isNan}
-use Rattle.ieee.specs.Terms.{tle}
+use lib.Dec.{eqb}
+use lib.Ieee.{Float, nan, inf, lt}
 use Rattle.stats.specs.declared.Near.{Near}
 use Rattle.stats.specs.declared.Two.{Two}
 
@@ -46,17 +45,3 @@ nextOf d zero = 0
 nextOf d (suc n) =
     let b = leastTwo d n in
     cond (lt (d n) (b .dist)) (b .index) (cond (lt (d n) (b .second) || eqb n 1) n (nextOf d n))
-
--- no value is NaN
-abbrev pub NoNan : (ℕ → Float) → ℕ → Type 0
-NoNan d n = (i : ℕ) → i < n → T (not (isNan (d i)))
-
--- the greatest of the first n: one that is not before the greatest so far is taken, so of equals the last
-unfoldable pub argmaxOf : (ℕ → Float) → ℕ → ℕ
-argmaxOf d zero = 0
-argmaxOf d (suc n) = let b = argmaxOf d n in cond (tle (d b) (d n)) n b
-
--- the least of the first n: the least so far is kept unless it is after the next, so of equals the first
-unfoldable pub argminOf : (ℕ → Float) → ℕ → ℕ
-argminOf d zero = 0
-argminOf d (suc n) = let b = argminOf d n in cond (tle (d b) (d n)) b n

@@ -1,9 +1,8 @@
-// Selection helpers: the least, the least two, the greatest and the least by IEEE 754's total order.
-// Each function gives what its definition in specs/Stats.antt says. Where the total order decides, no value may be a NaN:
-// it is placed by its bits, which the language keeps to itself. smallest_two takes any values.
+// Selection helpers: the least and the least two of any values. Each function gives what its definition in specs/Stats.antt says.
+// Assumes nothing.
 ghost use mathlib.Core.Path.{_≡_};
 ghost use lib.ListN.{length};
-ghost use Rattle.stats.specs.Stats.{valueAt, stepNear, stepTwo, leastTwo, NoNan, argmaxOf, argminOf};
+ghost use Rattle.stats.specs.Stats.{valueAt, stepNear, stepTwo, leastTwo};
 
 // Index and value of the smallest.
 pub struct Near {
@@ -63,40 +62,6 @@ pub fn smallest_two(values: &[f32]) -> Two
     let mut i = 0;
     while i < n {
         best = step_two(best, i, values[i]);
-        i += 1;
-    }
-    best
-}
-
-// The last of the greatest, 0 where there is none.
-pub fn argmax(values: &[f32]) -> usize
-    requires { ⌜ NoNan (valueAt (now values)) (length (now values)) ⌝ }
-    ensures { λ r. ⌜ r ≡ argmaxOf (valueAt (now (values .entry))) (length (now (values .entry))) ⌝ }
-{
-    let n = values.len();
-    let mut best = 0;
-    let mut i = 0;
-    while i < n {
-        if total_order::total_key(values[best]) <= total_order::total_key(values[i]) {
-            best = i;
-        }
-        i += 1;
-    }
-    best
-}
-
-// The first of the least, 0 where there is none.
-pub fn argmin(values: &[f32]) -> usize
-    requires { ⌜ NoNan (valueAt (now values)) (length (now values)) ⌝ }
-    ensures { λ r. ⌜ r ≡ argminOf (valueAt (now (values .entry))) (length (now (values .entry))) ⌝ }
-{
-    let n = values.len();
-    let mut best = 0;
-    let mut i = 0;
-    while i < n {
-        if total_order::total_key(values[i]) < total_order::total_key(values[best]) {
-            best = i;
-        }
         i += 1;
     }
     best

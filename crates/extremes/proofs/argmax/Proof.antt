@@ -1,12 +1,13 @@
--- `stats::argmax` meets its contract. The loop's invariant: best is the last of the greatest of the first i. Assumes nothing.
+-- `extremes::argmax` meets its contract. The loop's invariant: best is the last of the greatest of the first i. Assumes nothing.
 use Prim.Native.Nat.{_≤_, _-_}
 use mathlib.Core.Path.{_≡_, refl, ap, _∙_}
 use mathlib.Core.Logic.{⊎-elim}
 use native.Mathlib.Omega.{arith}
-use Rattle.stats.specs.Stats.{valueAt, argmaxOf}
-use Rattle.stats.proofs.Turns.{max-taken, max-left}
-use Rattle.stats.proofs.argmax.Statement.{statement}
-use Rattle.stats.proofs.argmax.Tie as tie
+use Rattle.stats.specs.Stats.{valueAt}
+use Rattle.extremes.specs.Extremes.{argmaxOf}
+use Rattle.extremes.proofs.Turns.{max-taken, max-left}
+use Rattle.extremes.proofs.argmax.Statement.{statement}
+use Rattle.extremes.proofs.argmax.Tie as tie
 
 abbrev Inv-loop : tie.InvT-loop
 Inv-loop values n best₀ i₀ best i = (i ≤ n) × (best ≤ i) × (best ≡ argmaxOf (valueAt values) i)

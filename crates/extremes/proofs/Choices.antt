@@ -5,7 +5,7 @@ use mathlib.Core.Bool.{Bool, true, false, cond}
 use native.Mathlib.Omega.{arith}
 use lib.Ieee.{Float}
 use Rattle.ieee.specs.Terms.{tle}
-use Rattle.stats.specs.Stats.{argmaxOf, argminOf}
+use Rattle.extremes.specs.Extremes.{argmaxOf, argminOf}
 
 cond-below : (t : Bool) (a b n : ℕ) → a < n → b < n → cond t a b < n
 cond-below true a b n p q = p

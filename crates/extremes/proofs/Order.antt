@@ -11,8 +11,8 @@ use lib.Dec.{T, leb}
 use lib.Ieee.{Float, binary32, fits, toBits}
 use Rattle.ieee.specs.Terms.{tle, keyOf}
 use Rattle.ieee.proofs.Cmp.{tle-is-key}
-use Rattle.stats.specs.Stats.{NoNan, argmaxOf, argminOf}
-use Rattle.stats.proofs.Choices.{max-below, min-below}
+use Rattle.extremes.specs.Extremes.{NoNan, argmaxOf, argminOf}
+use Rattle.extremes.proofs.Choices.{max-below, min-below}
 
 -- ---- among the first m numbers k 0 .. k (m - 1)
 record LastGreatest (k : ℕ → ℕ) (m b : ℕ) : Type 0 where

@@ -1,12 +1,13 @@
--- `stats::argmin` meets its contract. The loop's invariant: best is the first of the least of the first i. Assumes nothing.
+-- `extremes::argmin` meets its contract. The loop's invariant: best is the first of the least of the first i. Assumes nothing.
 use Prim.Native.Nat.{_≤_, _-_}
 use mathlib.Core.Path.{_≡_, refl, ap, _∙_}
 use mathlib.Core.Logic.{⊎-elim}
 use native.Mathlib.Omega.{arith}
-use Rattle.stats.specs.Stats.{valueAt, argminOf}
-use Rattle.stats.proofs.Turns.{min-taken, min-left}
-use Rattle.stats.proofs.argmin.Statement.{statement}
-use Rattle.stats.proofs.argmin.Tie as tie
+use Rattle.stats.specs.Stats.{valueAt}
+use Rattle.extremes.specs.Extremes.{argminOf}
+use Rattle.extremes.proofs.Turns.{min-taken, min-left}
+use Rattle.extremes.proofs.argmin.Statement.{statement}
+use Rattle.extremes.proofs.argmin.Tie as tie
 
 abbrev Inv-loop : tie.InvT-loop
 Inv-loop values n best₀ i₀ best i = (i ≤ n) × (best ≤ i) × (best ≡ argminOf (valueAt values) i)

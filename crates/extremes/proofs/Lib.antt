@@ -1,0 +1,4 @@
+pub mod Turns
+pub mod Examples
+pub mod Choices
+pub mod Order
