@@ -39,5 +39,5 @@ pub extern "C" fn probe_worst(
 ) -> usize
     requires { ⌜ Shown (job s c t weight (now tiles) (now colours) (now counts)) (now pal) subs 1 × (length (now hints) ≡ t) ⌝ }
 {
-    quantizer_seed::worst(s, c, t, weight, tiles, colours, counts, pal, subs, hints)
+    quantizer_worst::worst(s, c, t, weight, tiles, colours, counts, pal, subs, hints)
 }

@@ -1,11 +1,8 @@
--- What seeding asks. Definitions only. Assumes nothing.
+-- What the first colour asks. Definitions only. Assumes nothing.
 use Prim.Native.Nat.{ℕ, _≤_, _<_}
-use mathlib.Core.Path.{_≡_}
 use mathlib.Core.List.{List}
 use lib.ListN.{length}
 use lib.Ieee.{Float}
-use Rattle.job.specs.Job.{Job}
-use Rattle.palette_tile.specs.Tiles.{Paired}
 use Rattle.quantizer.specs.Course.{Course}
 use Rattle.quantizer_sample.specs.Samples.{Told, Sampling}
 
@@ -18,8 +15,3 @@ pub record Averaging (K : Course) : Type 0 where
 pub record Seeding (K : Course) (pal : List Float) : Type 0 where
   pub sampling : Sampling K
   pub room : 3 ≤ length pal
-
--- of a turn over tile t
-pub record Turned (J : Job) (pal : List Float) (n : ℕ) (hints : List ℕ) (t : ℕ) (d : List Float) : Type 0 where
-  pub paired : Paired J pal n 1 hints t
-  pub whole : length d ≡ 16

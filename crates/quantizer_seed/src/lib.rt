@@ -1,13 +1,9 @@
-// Seeding: the mean of the samples becomes the first colour, and the subpalette of greatest summed distance is to be split next.
-// Both are what the definitions in quantizer's specs/Seeding.antt say. Duplicating is palette_edit's.
+// Seeding: the mean of the samples becomes the first colour, as the definitions in quantizer's specs/Seeding.antt say. Assumes nothing.
 ghost use mathlib.Core.Path.{_≡_};
-ghost use lib.ListN.{length};
 ghost use Rattle.job.specs.Job.{job};
-ghost use Rattle.palette_tile.specs.Tiles.{hintStep, hintsOf, Shown};
 ghost use Rattle.quantizer.specs.Course.{course};
-ghost use Rattle.quantizer.specs.Sums.{zeros};
-ghost use Rattle.quantizer.specs.Seeding.{seedMean, seeded, distanceStep, distancesOf, worstOf};
-ghost use Rattle.quantizer_seed.specs.Seeds.{Averaging, Seeding, Turned};
+ghost use Rattle.quantizer.specs.Seeding.{seedMean, seeded};
+ghost use Rattle.quantizer_seed.specs.Seeds.{Averaging, Seeding};
 use color::Oklab;
 
 // The mean of the n samples' colours, summed in order.
@@ -57,113 +53,4 @@ pub fn seed(
 {
     let mean = seed_mean(s, c, t, n, weight, tiles, colours, counts, samples);
     color::put(pal, 0, mean);
-}
-
-// Tile i's distance goes to the sum of the subpalette that fits it best, where it is not empty; its hint is written.
-fn distance_step(
-    s: usize,
-    c: usize,
-    t: usize,
-    weight: f32,
-    tiles: &[u32],
-    colours: &[f32],
-    counts: &[u32],
-    pal: &[f32],
-    subs: usize,
-    hints: &mut [u32],
-    i: usize,
-    distances: &mut [f32],
-)
-    requires { ⌜ Turned (job s c t weight (now tiles) (now colours) (now counts)) (now pal) subs (now hints) i (now distances) ⌝ }
-    ensures { λ r. ⌜ (now (distances .exit) ≡ distanceStep (job s c t weight (now (tiles .entry)) (now (colours .entry)) (now (counts .entry))) (now (pal .entry)) subs i (now (distances .entry))) × (now (hints .exit) ≡ hintStep (job s c t weight (now (tiles .entry)) (now (colours .entry)) (now (counts .entry))) (now (pal .entry)) subs 1 i (now (hints .entry))) ⌝ }
-{
-    if job::is_empty(tiles, i) {
-        return;
-    }
-    let best = palette_tile::tile_fit(
-        s,
-        c,
-        t,
-        weight,
-        tiles,
-        colours,
-        counts,
-        pal,
-        subs,
-        1,
-        hints,
-        i,
-    );
-    let winner = best.index;
-    distances[winner] = distances[winner] + best.dist;
-}
-
-// The summed distances of all tiles, by subpalette, from sums of 0.
-fn sum_distances(
-    s: usize,
-    c: usize,
-    t: usize,
-    weight: f32,
-    tiles: &[u32],
-    colours: &[f32],
-    counts: &[u32],
-    pal: &[f32],
-    subs: usize,
-    hints: &mut [u32],
-    distances: &mut [f32],
-)
-    requires { ⌜ Shown (job s c t weight (now tiles) (now colours) (now counts)) (now pal) subs 1 × ((length (now hints) ≡ t) × (now distances ≡ zeros 16)) ⌝ }
-    ensures { λ r. ⌜ (now (distances .exit) ≡ distancesOf (job s c t weight (now (tiles .entry)) (now (colours .entry)) (now (counts .entry))) (now (pal .entry)) subs t) × (now (hints .exit) ≡ hintsOf (job s c t weight (now (tiles .entry)) (now (colours .entry)) (now (counts .entry))) (now (pal .entry)) subs 1 (now (hints .entry)) t) ⌝ }
-{
-    let mut i = 0;
-    while i < t {
-        distance_step(
-            s,
-            c,
-            t,
-            weight,
-            tiles,
-            colours,
-            counts,
-            pal,
-            subs,
-            hints,
-            i,
-            distances,
-        );
-        i += 1;
-    }
-}
-
-// Of the `subs` subpalettes present, of one colour each, the last of greatest summed distance.
-pub fn worst(
-    s: usize,
-    c: usize,
-    t: usize,
-    weight: f32,
-    tiles: &[u32],
-    colours: &[f32],
-    counts: &[u32],
-    pal: &[f32],
-    subs: usize,
-    hints: &mut [u32],
-) -> usize
-    requires { ⌜ Shown (job s c t weight (now tiles) (now colours) (now counts)) (now pal) subs 1 × (length (now hints) ≡ t) ⌝ }
-    ensures { λ r. ⌜ (r ≡ worstOf (job s c t weight (now (tiles .entry)) (now (colours .entry)) (now (counts .entry))) (now (pal .entry)) subs) × (now (hints .exit) ≡ hintsOf (job s c t weight (now (tiles .entry)) (now (colours .entry)) (now (counts .entry))) (now (pal .entry)) subs 1 (now (hints .entry)) t) ⌝ }
-{
-    let mut distances = [0.0f32; 16];
-    sum_distances(
-        s,
-        c,
-        t,
-        weight,
-        tiles,
-        colours,
-        counts,
-        pal,
-        subs,
-        hints,
-        &mut distances,
-    );
-    extremes::argmax(&distances[0..subs])
 }

@@ -51,7 +51,7 @@ pub fn close_seeding(
     let next = r.rounds + 1;
     let last = s as u64 - 1;
     let subs = r.rounds as usize + 2;
-    let from = quantizer_seed::worst(
+    let from = quantizer_worst::worst(
         s,
         c,
         t,

@@ -1,8 +1,8 @@
--- `quantizer_seed::worst` meets its contract: the distances are summed from zeros, and the greatest of those present is chosen. Assumes nothing.
+-- `quantizer_worst::worst` meets its contract: the distances are summed from zeros, and the greatest of those present is chosen. Assumes nothing.
 use borrow.Author.Needs.{needs}
-use Rattle.quantizer_seed.proofs.Turns.{sums-asked, worst-done}
-use Rattle.quantizer_seed.proofs.worst.Statement.{statement}
-use Rattle.quantizer_seed.proofs.worst.Tie as tie
+use Rattle.quantizer_worst.proofs.Turns.{sums-asked, worst-done}
+use Rattle.quantizer_worst.proofs.worst.Statement.{statement}
+use Rattle.quantizer_worst.proofs.worst.Tie as tie
 
 slice-aggregate-sum-distances : tie.Need-slice-aggregate-sum-distances
 slice-aggregate-sum-distances c = search needs

@@ -1,10 +1,10 @@
--- `quantizer_seed::sum_distances` meets its contract. The loop's invariant: the sums and the hints are those after the first i tiles. Assumes nothing.
+-- `quantizer_worst::sum_distances` meets its contract. The loop's invariant: the sums and the hints are those after the first i tiles. Assumes nothing.
 use Prim.Native.Nat.{_-_}
 use native.Mathlib.Omega.{arith}
 use Rattle.job.specs.Job.{job}
-use Rattle.quantizer_seed.proofs.Turns.{Going, going-start, going-length, going-kept, going-turn, going-more, going-end}
-use Rattle.quantizer_seed.proofs.sum_distances.Statement.{statement}
-use Rattle.quantizer_seed.proofs.sum_distances.Tie as tie
+use Rattle.quantizer_worst.proofs.Turns.{Going, going-start, going-length, going-kept, going-turn, going-more, going-end}
+use Rattle.quantizer_worst.proofs.sum_distances.Statement.{statement}
+use Rattle.quantizer_worst.proofs.sum_distances.Tie as tie
 
 abbrev Inv-loop : tie.InvT-loop
 Inv-loop s c t weight tiles colours counts pal subs hints₀ distances₀ i₀ hints distances i = Going (job s c t weight tiles colours counts) pal subs hints₀ hints distances i

@@ -1,9 +1,9 @@
--- `quantizer_seed::distance_step` meets its contract: an empty tile is left, another's distance is added to its winner's sum. Assumes nothing.
+-- `quantizer_worst::distance_step` meets its contract: an empty tile is left, another's distance is added to its winner's sum. Assumes nothing.
 use native.Mathlib.Omega.{arith}
 use borrow.Author.Needs.{needs}
-use Rattle.quantizer_seed.proofs.Turns.{turn-listed, turn-none, turn-fitted, turn-below, turn-done}
-use Rattle.quantizer_seed.proofs.distance_step.Statement.{statement}
-use Rattle.quantizer_seed.proofs.distance_step.Tie as tie
+use Rattle.quantizer_worst.proofs.Turns.{turn-listed, turn-none, turn-fitted, turn-below, turn-done}
+use Rattle.quantizer_worst.proofs.distance_step.Statement.{statement}
+use Rattle.quantizer_worst.proofs.distance_step.Tie as tie
 
 is-empty-requires : tie.Need-is-empty-requires
 is-empty-requires c κs =

@@ -25,7 +25,7 @@ use Rattle.quantizer.proofs.Goods.{sums-no-nan}
 use Rattle.quantizer.proofs.Lengths.{length-distances}
 use Rattle.quantizer.proofs.Indexes.{shown-subs}
 use Rattle.quantizer.proofs.NoNans.{distances-good}
-use Rattle.quantizer_seed.specs.Seeds.{Turned}
+use Rattle.quantizer_worst.specs.Turns.{Turned}
 
 module _ (J : Job) (pal : List Float) (n : ℕ) (hints : List ℕ) (t : ℕ) (d : List Float) (K : Turned J pal n hints t d) where
   abbrev Stepped : List Float → List ℕ → Type 0
