@@ -1,7 +1,7 @@
 -- The walks over a tile's colours follow the definitions: one colour more, at `k + 1`; and a sum over the limit stays over it.
 -- Assumes nothing.
 use Prim.Native.Nat.{ℕ, _+_, _*_, _<_}
-use mathlib.Core.Path.{_≡_, refl, sym, ap, subst, subst⁻¹, _∙_}
+use mathlib.Core.Path.{_≡_, refl, sym, ap, subst, _∙_}
 use mathlib.Core.Bool.{Bool, true, false}
 use mathlib.Core.List.{List}
 use native.Mathlib.Nat.{le-refl}
@@ -14,25 +14,23 @@ use lib.Dec.{T}
 use lib.Ieee.{Float, nan, inf, fin, binary32, ofBits, ofInt, add, mul, up, down, lt, fits}
 use Rattle.ieee.specs.Terms.{plus, Good, key32}
 use Rattle.ieee.proofs.Ranks.{lt-yes, yes-lt}
-use Rattle.color.specs.declared.Oklab.{Oklab}
-use Rattle.color.specs.Color.{colourAt, Real}
-use Rattle.palette.specs.Palette.{Tile, nearestOf, totalOf, tileDistance, Clear, Measured}
+use Rattle.color.specs.Color.{colourAt}
+use Rattle.palette.specs.Palette.{Tile, nearestOf, termOf, totalOf, tileDistance, Clear, Measured}
 use Rattle.palette.proofs.Sums.{tile-real, total-good, total-end}
 use Rattle.palette_distance.specs.declared.Within.the-variants.{Over, Sum}
 use Rattle.palette_distance.specs.Distance.{pickWithin, withinOf, Walked}
 
 module _ (s : List Float) (X : Tile) (w : Float) (k : ℕ) where
-  pub total-step : (x : Float) (q : Oklab) (d : Float) → x ≡ totalOf s X w k → q ≡ colourAt (X .colours) k → d ≡ nearestOf s q w .dist
-      → add binary32 x (mul binary32 d (ofInt binary32 (pos (getD (X .counts) k 0)))) ≡ totalOf s X w (k + 1)
+  pub term-is : (d : Float) → d ≡ nearestOf s (colourAt (X .colours) k) w .dist → mul binary32 d (ofInt binary32 (pos (getD (X .counts) k 0))) ≡ termOf s X w k
+  term-is d = ap (λ (y : Float). mul binary32 y (ofInt binary32 (pos (getD (X .counts) k 0))))
+
+  pub total-step : (x t : Float) → x ≡ totalOf s X w k → t ≡ termOf s X w k → add binary32 x t ≡ totalOf s X w (k + 1)
   unfolding totalOf
-  total-step x q d h g e =
-      ap (λ (y : Float). add binary32 y (mul binary32 d (ofInt binary32 (pos (getD (X .counts) k 0))))) h
-      ∙ ap (λ (y : Float). add binary32 (totalOf s X w k) (mul binary32 y (ofInt binary32 (pos (getD (X .counts) k 0))))) (e ∙ ap (λ (y : Oklab). nearestOf s y w .dist) g)
-      ∙ sym (ap (totalOf s X w) (add-one k))
+  total-step x t h e = ap (λ (y : Float). add binary32 y t) h ∙ ap (add binary32 (totalOf s X w k)) e ∙ sym (ap (totalOf s X w) (add-one k))
 
 -- what the nearest distance asks, of a tile's colour k
-pub walk-asks : (s : List Float) (X : Tile) (w : Float) → Measured s X w → (k : ℕ) → k < length (X .counts) → (q : Oklab) → q ≡ colourAt (X .colours) k → Clear s q w
-walk-asks s X w W k l q e = record { sub = W .sub; colour = subst⁻¹ Real e (tile-real s w (W .sub) (W .weight) X (W .tile) k l); weight = W .weight }
+pub walk-asks : (s : List Float) (X : Tile) (w : Float) → Measured s X w → (k : ℕ) → k < length (X .counts) → Clear s (colourAt (X .colours) k) w
+walk-asks s X w W k l = record { sub = W .sub; colour = tile-real s w (W .sub) (W .weight) X (W .tile) k l; weight = W .weight }
 
 -- ---- a distance within a limit
 -- no sum yet is over no limit

@@ -34,9 +34,8 @@ pub fn best_from(
         let sub = palette::part(pal, c, have, i);
         let mut sum: f32 = 0.0;
         for k in 0..counts.len() {
-            let near = palette_near::nearest_distance(sub, tile, k, w);
-            sum = sum + near * (counts[k] as f32);
-            if sum > least || (sum == least && i > best) {
+            sum = sum + palette_distance::term(sub, tile, counts, w, k);
+            if palette_distance::loses(sum, least, i > best) {
                 continue 'subs;
             }
         }

@@ -5,10 +5,9 @@ use mathlib.Core.Path.{_≡_, refl, ap, sym, subst, _∙_}
 use mathlib.Core.Bool.{false}
 use native.Mathlib.Omega.{arith}
 use lib.Dec.{T}
-use lib.Ieee.{binary32, lt}
-use Rattle.ieee.proofs.Goods.{count-exact}
+use lib.Ieee.{lt}
 use Rattle.palette.specs.Palette.{tileWith, totalOf}
-use Rattle.palette_distance.proofs.Walks.{total-step, walk-asks, none-over, over-already, not-over}
+use Rattle.palette_distance.proofs.Walks.{total-step, none-over, over-already, not-over}
 use Rattle.palette_distance.proofs.distance_within.Statement.{statement}
 use Rattle.palette_distance.proofs.distance_within.Tie as tie
 
@@ -22,27 +21,15 @@ loop-holds : tie.Need-loop-holds Inv-loop μ-loop
 unfolding totalOf
 loop-holds c = (omega arith, (refl, none-over _ (c .before .before .before .pre .clear)))
 
-nearest-distance-requires : tie.Need-nearest-distance-requires Inv-loop μ-loop
-nearest-distance-requires c κs =
-    let z = c .before .before .before .before .before in
-    (omega (arith, c .loop-test), walk-asks _ _ _ (record { sub = z .pre .sub; tile = z .pre .tile; weight = z .pre .weight }) (c .before .loop .k) (omega (arith, c .loop-test)) _ refl)
-
-mul-sum : tie.Need-mul-sum Inv-loop μ-loop
-mul-sum c = omega arith
-
-shared-slice-read-sum : tie.Need-shared-slice-read-sum Inv-loop μ-loop
-shared-slice-read-sum c = omega arith
-
-int-to-float-sum : tie.Need-int-to-float-sum Inv-loop μ-loop
-int-to-float-sum c =
-    count-exact binary32 _ (c .before .before .before .before .before .before .before .before .pre .tile .high (c .before .before .before .before .loop .k) (omega arith))
+term-requires : tie.Need-term-requires Inv-loop μ-loop
+term-requires c κs = let pre = c .before .before .before .before .before .pre in (record { sub = pre .sub; tile = pre .tile; weight = pre .weight }, omega arith)
 
 returns : tie.Need-returns Inv-loop μ-loop
 returns c =
-    let z = c .before .before .before .before .before .before .before .before .before in
-    let v = c .before .before .before .before .before in
+    let z = c .before .before .before .before .before .before .before in
+    let v = c .before .before .before in
     over-already _ _ _ _ (z .pre) (subst T (sym (z .good .1 .1 .1 .1 .0 .1)) tt) (v .loop .k) (omega arith) _
-    (total-step _ _ _ _ _ _ _ (v .loop .inv .1 .0) refl (c .before .before .before .nearest-distance .ensures)) (c .if1 .taken)
+    (total-step _ _ _ _ _ _ (v .loop .inv .1 .0) (c .before .term .ensures)) (c .if1 .taken)
 
 add-k : tie.Need-add-k Inv-loop μ-loop
 add-k c = omega arith
@@ -52,9 +39,9 @@ loop-less c = omega arith
 
 loop-again : tie.Need-loop-again Inv-loop μ-loop
 loop-again c =
-    let v = c .before .before .before .before .before in (
+    let v = c .before .before .before in (
       omega arith,
-      (total-step _ _ _ _ _ _ _ (v .loop .inv .1 .0) refl (c .before .before .before .nearest-distance .ensures), c .if1 .left),
+      (total-step _ _ _ _ _ _ (v .loop .inv .1 .0) (c .before .term .ensures), c .if1 .left),
     )
 
 returns-2 : tie.Need-returns-2 Inv-loop μ-loop
@@ -67,10 +54,7 @@ distance-within-spec =
     Inv-loop
     μ-loop
     loop-holds
-    nearest-distance-requires
-    mul-sum
-    shared-slice-read-sum
-    int-to-float-sum
+    term-requires
     returns
     add-k
     loop-less

@@ -2,10 +2,8 @@
 use Prim.Native.Nat.{_≤_, _-_}
 use mathlib.Core.Path.{_≡_, refl, ap, _∙_}
 use native.Mathlib.Omega.{arith}
-use lib.Ieee.{binary32}
-use Rattle.ieee.proofs.Goods.{count-exact}
 use Rattle.palette.specs.Palette.{tileWith, totalOf}
-use Rattle.palette_distance.proofs.Walks.{total-step, walk-asks}
+use Rattle.palette_distance.proofs.Walks.{total-step}
 use Rattle.palette_distance.proofs.tile_distance.Statement.{statement}
 use Rattle.palette_distance.proofs.tile_distance.Tie as tie
 
@@ -19,18 +17,8 @@ loop-holds : tie.Need-loop-holds Inv-loop μ-loop
 unfolding totalOf
 loop-holds c = (omega arith, refl)
 
-nearest-distance-requires : tie.Need-nearest-distance-requires Inv-loop μ-loop
-nearest-distance-requires c κs = (omega (arith, c .loop-test), walk-asks _ _ _ (c .before .before .before .before .before .pre) (c .before .loop .k) (omega (arith, c .loop-test)) _ refl)
-
-mul-sum : tie.Need-mul-sum Inv-loop μ-loop
-mul-sum c = omega arith
-
-shared-slice-read-sum : tie.Need-shared-slice-read-sum Inv-loop μ-loop
-shared-slice-read-sum c = omega arith
-
-int-to-float-sum : tie.Need-int-to-float-sum Inv-loop μ-loop
-int-to-float-sum c =
-    count-exact binary32 _ (c .before .before .before .before .before .before .before .before .pre .tile .high (c .before .before .before .before .loop .k) (omega arith))
+term-requires : tie.Need-term-requires Inv-loop μ-loop
+term-requires c κs = (c .before .before .before .before .before .pre, omega arith)
 
 add-k : tie.Need-add-k Inv-loop μ-loop
 add-k c = omega arith
@@ -39,10 +27,7 @@ loop-less : tie.Need-loop-less Inv-loop μ-loop
 loop-less c = omega arith
 
 loop-again : tie.Need-loop-again Inv-loop μ-loop
-loop-again c = (
-  omega arith,
-  total-step _ _ _ _ _ _ _ (c .before .before .before .before .loop .inv .1) refl (c .before .before .nearest-distance .ensures),
-)
+loop-again c = (omega arith, total-step _ _ _ _ _ _ (c .before .before .loop .inv .1) (c .term .ensures))
 
 returns : tie.Need-returns Inv-loop μ-loop
 returns c = c .before .loop .inv .1 ∙ ap (totalOf _ _ _) (omega arith)
@@ -54,10 +39,7 @@ tile-distance-spec =
     Inv-loop
     μ-loop
     loop-holds
-    nearest-distance-requires
-    mul-sum
-    shared-slice-read-sum
-    int-to-float-sum
+    term-requires
     add-k
     loop-less
     loop-again

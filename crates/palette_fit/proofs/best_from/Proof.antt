@@ -1,19 +1,16 @@
 -- `palette_fit::best_from` meets its contract. The outer invariant: `best` leads among the hint and the subpalettes before i.
 -- The inner one: the sum is that over the first k colours, and it has not lost yet. Assumes nothing.
 use Prim.Native.Nat.{_≤_, _<_, _-_}
-use mathlib.Core.Path.{_≡_, refl, ap, _∙_}
-use mathlib.Core.Bool.{true, false}
-use mathlib.Core.Logic.{⊎-elim}
+use mathlib.Core.Path.{_≡_, refl, sym, ap, _∙_}
+use mathlib.Core.Bool.{false}
 use native.Mathlib.Omega.{arith}
+use borrow.Author.Needs.{needs}
 use lib.Dec.{ltb}
-use lib.Ieee.{binary32}
 use Rattle.ieee.specs.Terms.{over}
-use Rattle.ieee.proofs.Ranks.{half-asked, half-not, over-by-first, over-by-second, over-by-none}
-use Rattle.ieee.proofs.Goods.{count-exact}
 use Rattle.choice.proofs.Leading.{Leading, lead-skips}
 use Rattle.palette.specs.Palette.{paletteWith, tileWith, totalOf, distAt}
 use Rattle.palette.proofs.Parts.{part-asks, sub-measured}
-use Rattle.palette_distance.proofs.Walks.{total-step, walk-asks}
+use Rattle.palette_distance.proofs.Walks.{total-step}
 use Rattle.palette_fit.proofs.Turns.{turn-start, turn-left, turn-reached, turn-end}
 use Rattle.palette_fit.proofs.best_from.Statement.{statement}
 use Rattle.palette_fit.proofs.best_from.Tie as tie
@@ -59,20 +56,14 @@ loop-holds : tie.Need-loop-holds Inv-loop μ-loop Inv-subs μ-subs
 unfolding totalOf
 loop-holds c = (refl, (omega arith, (refl, λ h. absurd (none h))))
 
-nearest-distance-requires : tie.Need-nearest-distance-requires Inv-loop μ-loop Inv-subs μ-subs
-nearest-distance-requires c κs =
+term-requires : tie.Need-term-requires Inv-loop μ-loop Inv-subs μ-subs
+term-requires c κs =
     let z = c .before .before .before .before .before .before .before .before .before .before .before in
     let o = c .before .before .before .before .before in
-    (omega (arith, c .loop-test), walk-asks _ _ _ (sub-measured _ (z .pre .0 .palette) (o .subs .i) (omega (arith, c .before .before .before .before .subs-test)) _ _ (z .pre .0 .tile) (z .pre .0 .weight) _ (c .before .before .part2 .ensures)) (c .before .loop .k) (omega (arith, c .loop-test)) _ refl)
+    (sub-measured _ (z .pre .0 .palette) (o .subs .i) (omega (arith, c .before .before .before .before .subs-test)) _ _ (z .pre .0 .tile) (z .pre .0 .weight) _ (c .before .before .part2 .ensures), omega arith)
 
-mul-sum : tie.Need-mul-sum Inv-loop μ-loop Inv-subs μ-subs
-mul-sum c = omega (arith, c .before .before .before .before .before .before .before .before .before .before .before .before .good .1 .1 .1 .1 .1 .0 .1)
-
-shared-slice-read-sum : tie.Need-shared-slice-read-sum Inv-loop μ-loop Inv-subs μ-subs
-shared-slice-read-sum c = omega arith
-
-int-to-float-sum : tie.Need-int-to-float-sum Inv-loop μ-loop Inv-subs μ-subs
-int-to-float-sum c = let z = c .before .before .before .before .before .before .before .before .before .before .before .before .before .before in count-exact binary32 _ (z .pre .0 .tile .high (c .before .before .before .before .loop .k) (omega arith))
+loses-requires : tie.Need-loses-requires Inv-loop μ-loop Inv-subs μ-subs
+loses-requires c κs = search needs
 
 add-i-2 : tie.Need-add-i-2 Inv-loop μ-loop Inv-subs μ-subs
 add-i-2 c = omega arith
@@ -82,31 +73,22 @@ subs-less-2 c = omega arith
 
 subs-again-2 : tie.Need-subs-again-2 Inv-loop μ-loop Inv-subs μ-subs
 subs-again-2 c =
-    let z = c .before .before .before .before .before .before .before .before .before .before .before .before .before .before .before in
-    let o = c .before .before .before .before .before .before .before .before .before in
-    let v = c .before .before .before .before .before in
-    turn-left _ _ _ (z .pre .0) _ (omega (arith, z .fits .n)) _ (o .subs .i) (o .subs .inv .1) (omega (arith, c .before .before .before .before .before .before .before .before .subs-test)) _ (c .before .before .before .before .before .before .part2 .ensures) (v .loop .i) (v .loop .inv .0) (v .loop .k) (omega (arith, c .before .before .before .before .loop-test)) _
-    (total-step _ _ _ _ _ _ _ (v .loop .inv .1 .1 .0) refl (c .before .before .before .nearest-distance .ensures))
-    (⊎-elim {C = over _ _ _ ≡ true} (λ y. over-by-first _ _ _ false (y .taken)) (λ y. over-by-second _ _ _ _ (⊎-elim (λ u. half-asked _ _ _ _ (u .0 .taken) (u .1)) (λ u. half-not _ _ _ _ (u .0 .left) (u .1)) (y .1 .came)) (y .2 .taken)) (c .if2 .came))
+    let z = c .before .before .before .before .before .before .before .before .before .before .before .before .before .before in
+    let o = c .before .before .before .before .before .before .before .before in
+    let v = c .before .before .before .before in
+    turn-left _ _ _ (z .pre .0) _ (omega (arith, z .fits .n)) _ (o .subs .i) (o .subs .inv .1) (omega (arith, c .before .before .before .before .before .before .before .subs-test)) _ (c .before .before .before .before .before .part2 .ensures) (v .loop .i) (v .loop .inv .0) (v .loop .k) (omega (arith, c .before .before .before .loop-test)) _
+    (total-step _ _ _ _ _ _ (v .loop .inv .1 .1 .0) (c .before .before .term .ensures)) (sym (c .before .loses .ensures) ∙ c .if2 .taken)
 
 add-k : tie.Need-add-k Inv-loop μ-loop Inv-subs μ-subs
-add-k c = omega (arith, c .before .before .before .before .before .before .before .before .before .before .before .before .before .before .before .before .before .good .1 .1 .1 .1 .1 .0 .0)
+add-k c = omega arith
 
 loop-less : tie.Need-loop-less Inv-loop μ-loop Inv-subs μ-subs
 loop-less c = omega arith
 
 loop-again : tie.Need-loop-again Inv-loop μ-loop Inv-subs μ-subs
 loop-again c =
-    let v = c .before .before .before .before .before .before .before in (
-      v .loop .inv .0,
-      (
-        omega arith,
-        (
-          total-step _ _ _ _ _ _ _ (v .loop .inv .1 .1 .0) refl (c .before .before .before .before .before .nearest-distance .ensures),
-          λ h. over-by-none _ _ _ _ (c .before .before .if2 .left) (⊎-elim (λ u. half-asked _ _ _ _ (u .0 .taken) (u .1)) (λ u. half-not _ _ _ _ (u .0 .left) (u .1)) (c .before .if3 .came)) (c .if4 .left),
-        ),
-      ),
-    )
+    let v = c .before .before .before .before in
+    (v .loop .inv .0, (omega arith, (total-step _ _ _ _ _ _ (v .loop .inv .1 .1 .0) (c .before .before .term .ensures), λ h. sym (c .before .loses .ensures) ∙ c .if2 .left)))
 
 add-i-3 : tie.Need-add-i-3 Inv-loop μ-loop Inv-subs μ-subs
 add-i-3 c = omega arith
@@ -141,10 +123,8 @@ best-from-spec =
     subs-again
     part-requires-2
     loop-holds
-    nearest-distance-requires
-    mul-sum
-    shared-slice-read-sum
-    int-to-float-sum
+    term-requires
+    loses-requires
     add-i-2
     subs-less-2
     subs-again-2
