@@ -7,7 +7,7 @@ ghost use lib.ListN.{length};
 ghost use Rattle.lists.specs.Firsts.{upTo};
 ghost use Rattle.prng.specs.Shuffle.{deck};
 ghost use Rattle.cycle.specs.Tenth.{tenth};
-ghost use Rattle.cycle.specs.Cycle.{cycle, drawn, ready, drawOne, after};
+ghost use Rattle.cycle.specs.Cycle.{cycle, drawn, drawOne, after};
 
 // The draws of a round: what the Rust computes as an f32 tenth of n, cut to a whole number.
 pub fn base_iterations(n: usize) -> usize
@@ -52,30 +52,13 @@ impl SampleCycle {
         SampleCycle { prng, made: 0 }
     }
 
-    // Shuffles the present order again where a round is over and another begins; gives the generator.
-    fn reshuffle(self, order: &mut [u32]) -> Prng
-        requires { ⌜ 0 < length (now order) ⌝ }
-        ensures { λ r. ⌜ deck (now (order .exit)) (r .state) ≡ ready (cycle (deck (now (order .entry)) (self .prng .state)) (self .made)) ⌝ }
-    {
-        let made = self.made;
-        let prng = self.prng;
-        if made == 0 {
-            return prng;
-        }
-        let at = made % order.len() as u64;
-        if 0 < at {
-            return prng;
-        }
-        prng.shuffle(order)
-    }
-
     // The next draw.
     pub fn next(self, order: &mut [u32]) -> Drawn
         requires { ⌜ (0 < length (now order)) × (self .made + 1 < 2 ^ 64) ⌝ }
         ensures { λ r. ⌜ drawn (r .sample) (cycle (deck (now (order .exit)) (r .after .prng .state)) (r .after .made)) ≡ drawOne (cycle (deck (now (order .entry)) (self .prng .state)) (self .made)) ⌝ }
     {
         let made = self.made;
-        let prng = self.reshuffle(order);
+        let prng = reshuffle::reshuffle(self.prng, made, order);
         let at = (made % order.len() as u64) as usize;
         let sample = order[at];
         let after = SampleCycle {

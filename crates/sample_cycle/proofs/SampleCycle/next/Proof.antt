@@ -17,12 +17,12 @@ rem-at c = search needs
 mul-sample : tie.Need-mul-sample
 mul-sample c =
     let at-reshuffle = c .before .before in
-    omega (arith, mod-lt (at-reshuffle .before .before .before .args .self .made) {m = length (at-reshuffle .reshuffle .last .1 .0)} (omega (arith, at-reshuffle .reshuffle .kept .1 .0)))
+    omega (arith, mod-lt (at-reshuffle .before .before .before .args .self .made) {m = length (at-reshuffle .reshuffle .last .1 .1 .0)} (omega (arith, at-reshuffle .reshuffle .kept .1 .1 .0)))
 
 slice-read-sample : tie.Need-slice-read-sample
 slice-read-sample c =
     let at-reshuffle = c .before .before .before in
-    mod-lt (at-reshuffle .before .before .before .args .self .made) (omega (arith, at-reshuffle .reshuffle .kept .1 .0))
+    mod-lt (at-reshuffle .before .before .before .args .self .made) (omega (arith, at-reshuffle .reshuffle .kept .1 .1 .0))
 
 add-t12 : tie.Need-add-t12
 add-t12 c = search needs
@@ -35,7 +35,7 @@ unfolding drawOne
 returns c =
     let at-reshuffle = c .before .before .before in
     let made = at-reshuffle .before .before .before .args .self .made in
-    λ i. drawn (getD (at-reshuffle .reshuffle .ensures i .order) (made % at-reshuffle .reshuffle .kept .1 .0 i) 0) (cycle (at-reshuffle .reshuffle .ensures i) (made + 1))
+    λ i. drawn (getD (at-reshuffle .reshuffle .ensures i .order) (made % at-reshuffle .reshuffle .kept .1 .1 .0 i) 0) (cycle (at-reshuffle .reshuffle .ensures i) (made + 1))
 
 pub next-spec : {M : Type 1} → statement M
 next-spec =

@@ -1,4 +1,4 @@
--- `sample_cycle::SampleCycle::reshuffle` meets its contract: each return is a case of the definition. Assumes nothing.
+-- `reshuffle::reshuffle` meets its contract: each return is a case of the definition. Assumes nothing.
 use mathlib.Core.Path.{sym, ap, _∙_}
 use Prim.Native.Nat.{ℕ}
 use native.Mathlib.Omega.{arith}
@@ -6,13 +6,13 @@ use Rattle.prng.specs.Shuffle.{deck}
 use Rattle.cycle.specs.Cycle.{cycle, ready}
 use Rattle.cycle.proofs.Ready.{ready-first, ready-within, ready-again}
 use borrow.Author.Needs.{needs}
-use Rattle.sample_cycle.proofs.SampleCycle.reshuffle.Statement.{statement}
-use Rattle.sample_cycle.proofs.SampleCycle.reshuffle.Tie as tie
+use Rattle.reshuffle.proofs.reshuffle.Statement.{statement}
+use Rattle.reshuffle.proofs.reshuffle.Tie as tie
 
 returns : tie.Need-returns
 returns c =
-    let at-start = c .before .before .before in
-    let d = deck (at-start .args .order .now) (at-start .args .self .prng .state) in
+    let at-start = c .before .before in
+    let d = deck (at-start .args .order .now) (at-start .args .prng .state) in
     sym (ap (λ (m : ℕ). ready (cycle d m)) (c .if1 .taken) ∙ ready-first d)
 
 rem-at : tie.Need-rem-at
@@ -20,8 +20,8 @@ rem-at c = search needs
 
 returns-2 : tie.Need-returns-2
 returns-2 c =
-    let at-start = c .before .before .before .before in
-    sym (ready-within (deck (at-start .args .order .now) (at-start .args .self .prng .state)) (at-start .args .self .made) (omega (arith, c .if2 .taken)))
+    let at-start = c .before .before .before in
+    sym (ready-within (deck (at-start .args .order .now) (at-start .args .prng .state)) (at-start .args .made) (omega (arith, c .if2 .taken)))
 
 shuffle-requires : tie.Need-shuffle-requires
 shuffle-requires c κs = search needs
@@ -34,9 +34,9 @@ returns-3 c =
     let at-shuffle = c .before .before in
     let at-if2 = at-shuffle .before .before in
     let at-if1 = at-if2 .before in
-    let at-start = at-if1 .before .before .before in
+    let at-start = at-if1 .before .before in
     at-shuffle .shuffle .ensures
-    ∙ sym (ready-again (deck (at-start .args .order .now) (at-start .args .self .prng .state)) (at-start .args .self .made) (omega (arith, at-if1 .if1 .left)) (omega (arith, at-if2 .if2 .left)))
+    ∙ sym (ready-again (deck (at-start .args .order .now) (at-start .args .prng .state)) (at-start .args .made) (omega (arith, at-if1 .if1 .left)) (omega (arith, at-if2 .if2 .left)))
 
 pub reshuffle-spec : {M : Type 1} → statement M
 reshuffle-spec = tie.close (tie.spec returns rem-at returns-2 shuffle-requires same-length returns-3)
