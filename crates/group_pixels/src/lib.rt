@@ -61,11 +61,11 @@ pub fn same_bytes(x: Rgba, y: Rgba) -> bool
 pub fn in_gamut(x: color::Oklab) -> bool
     ensures { λ r. ⌜ r ≡ inGamut x ⌝ }
 {
-    if !job::is_within(x.l, job::MOST_COMPONENT) {
+    if !components::is_within(x.l, job::MOST_COMPONENT) {
         return false;
     }
-    if !job::is_within(x.a, job::MOST_COMPONENT) {
+    if !components::is_within(x.a, job::MOST_COMPONENT) {
         return false;
     }
-    job::is_within(x.b, job::MOST_COMPONENT)
+    components::is_within(x.b, job::MOST_COMPONENT)
 }

@@ -34,7 +34,7 @@ pub fn check_places(t: usize, tiles: &[u32], colours: &[f32], n: usize, samples:
     requires { ⌜ (length (now tiles) ≡ 2 * t) × (length (now samples) ≡ 2 * n) ⌝ }
     ensures { λ r. ⌜ r ≡ answer (placeRules t (now (tiles .entry)) (now (colours .entry)) n (now (samples .entry))) ⌝ }
 {
-    if job::first_bad(colours, job::MOST_COMPONENT) != colours.len() {
+    if components::first_bad(colours, job::MOST_COMPONENT) != colours.len() {
         return 7;
     }
     if !job_tables::samples_fit(tiles, t, samples, n) {
