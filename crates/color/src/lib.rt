@@ -1,24 +1,14 @@
-// Oklab colours: the squared distance, places of a flat slice of three numbers a colour, sums and the mean.
+// Oklab colours: places of a flat slice of three numbers a colour, sums, products and quotients.
 // Each function gives what its definition in specs/Color.antt says, bit for bit.
 ghost use mathlib.Core.Path.{_≡_};
-ghost use Prim.Native.Nat.{_+_, _*_, _/_, _≤_, _<_};
+ghost use Prim.Native.Nat.{_+_, _*_, _≤_, _<_};
 ghost use lib.ListN.{length};
-ghost use Rattle.color.specs.Color.{sqdistOf, colourAt, putAt, plusOf, scaledOf, plusTimes, overOf, meanOf};
+ghost use Rattle.color.specs.Color.{colourAt, putAt, plusOf, scaledOf, plusTimes, overOf};
 
 pub struct Oklab {
     pub l: f32,
     pub a: f32,
     pub b: f32,
-}
-
-// Squared distance between two colours, penalizing chroma mismatch by `weight`.
-pub fn oklab_sqdist(p: Oklab, q: Oklab, weight: f32) -> f32
-    ensures { λ r. ⌜ r ≡ sqdistOf p q weight ⌝ }
-{
-    let dl = p.l - q.l;
-    let da = p.a - q.a;
-    let db = p.b - q.b;
-    dl * dl + weight * (da * da + db * db)
 }
 
 // Colour i of a flat slice.
@@ -84,23 +74,4 @@ pub fn over(x: Oklab, n: usize) -> Oklab
         a: x.a / f,
         b: x.b / f,
     }
-}
-
-// Component-wise mean of the colours of a flat slice, summed in order.
-pub fn mean_oklab(colours: &[f32]) -> Oklab
-    requires { ⌜ (1 ≤ length (now colours) / 3) × (length (now colours) / 3 ≤ 16777216) ⌝ }
-    ensures { λ r. ⌜ r ≡ meanOf (colourAt (now (colours .entry))) (length (now (colours .entry)) / 3) ⌝ }
-{
-    let n = colours.len() / 3;
-    let mut sum = Oklab {
-        l: 0.0,
-        a: 0.0,
-        b: 0.0,
-    };
-    let mut i = 0;
-    while i < n {
-        sum = plus(sum, colour(colours, i));
-        i += 1;
-    }
-    over(sum, n)
 }

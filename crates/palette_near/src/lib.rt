@@ -22,7 +22,7 @@ fn gap(s: &[f32], i: usize, q: Oklab, w: f32) -> f32
     requires { ⌜ 3 * i + 2 < length (now s) ⌝ }
     ensures { λ r. ⌜ r ≡ gap (now (s .entry)) q w i ⌝ }
 {
-    color::oklab_sqdist(color::colour(s, i), q, w)
+    color_distance::oklab_sqdist(color::colour(s, i), q, w)
 }
 
 // The least distance to q among the first colours, as many as four divides. Four lanes that do not wait for each other: a

@@ -17,7 +17,7 @@ pub fn nearest_two(s: &[f32], q: Oklab, w: f32) -> Two
     };
     let mut i = 0;
     while i < n {
-        let d = color::oklab_sqdist(color::colour(s, i), q, w);
+        let d = color_distance::oklab_sqdist(color::colour(s, i), q, w);
         best = stats::step_two(best, i, d);
         i += 1;
     }

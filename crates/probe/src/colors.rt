@@ -13,7 +13,7 @@ pub extern "C" fn probe_sqdist(
     qb: f32,
     weight: f32,
 ) -> f32 {
-    color::oklab_sqdist(
+    color_distance::oklab_sqdist(
         Oklab {
             l: pl,
             a: pa,
@@ -32,7 +32,7 @@ pub extern "C" fn probe_sqdist(
 pub extern "C" fn probe_mean(colours: &[f32], l: &mut f32, a: &mut f32, b: &mut f32)
     requires { ⌜ (1 ≤ length (now colours) / 3) × (length (now colours) / 3 ≤ 16777216) ⌝ }
 {
-    let mean = color::mean_oklab(colours);
+    let mean = color_mean::mean_oklab(colours);
     *l = mean.l;
     *a = mean.a;
     *b = mean.b;

@@ -1,12 +1,12 @@
--- `color::mean_oklab` meets its contract. The loop's invariant: the sum is that of the first i colours. Assumes nothing.
+-- `color_mean::mean_oklab` meets its contract. The loop's invariant: the sum is that of the first i colours. Assumes nothing.
 use Prim.Native.Nat.{_≤_, _-_}
 use mathlib.Core.Path.{_≡_}
 use native.Mathlib.Omega.{arith}
 use borrow.Author.Needs.{needs}
 use Rattle.color.specs.Color.{colourAt, sumOf}
 use Rattle.color.proofs.Steps.{sum-none, sum-more, mean-done}
-use Rattle.color.proofs.mean_oklab.Statement.{statement}
-use Rattle.color.proofs.mean_oklab.Tie as tie
+use Rattle.color_mean.proofs.mean_oklab.Statement.{statement}
+use Rattle.color_mean.proofs.mean_oklab.Tie as tie
 
 abbrev Inv-loop : tie.InvT-loop
 Inv-loop colours n sum₀ i₀ sum i = (i ≤ n) × (sum ≡ sumOf (colourAt colours) i)
