@@ -20,7 +20,7 @@ pub fn check_tables(size: usize, t: usize, weight: f32, tiles: &[u32], counts: &
     if total > MOST_TILE_COLOURS {
         return 5;
     }
-    if !job_tables::tiles_fit(size, tiles, t, total) {
+    if !job_tiles::tiles_fit(size, tiles, t, total) {
         return 5;
     }
     if !job_tables::counts_fit(size, tiles, t, counts) {
