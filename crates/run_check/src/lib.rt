@@ -101,7 +101,7 @@ fn check_run(
     requires { ⌜ (room ≡ true → length (now words) ≡ 6) ⌝ }
     ensures { λ r. ⌜ r ≡ runAnswer tileSize (course (job s c t weight (now (tiles .entry)) (now (colours .entry)) (now (counts .entry))) n (now (samples .entry))) (memory (now (order .entry)) (now (hints .entry)) (now (palette .entry)) (now (least .entry)) (now (words .entry))) room ⌝ }
 {
-    let a = job_check::check_sampled(
+    let a = job_sampled::check_sampled(
         job::TILE_SIZE,
         s,
         c,
@@ -142,7 +142,7 @@ pub fn refuses_start(
     ensures { λ r. ⌜ r ≡ startAnswer tileSize (course (job s c t weight (now (tiles .entry)) (now (colours .entry)) (now (counts .entry))) n (now (samples .entry))) (memory (now (order .entry)) (now (hints .entry)) (now (palette .entry)) (now (least .entry)) (now (words .entry))) ⌝ }
 {
     let room = memory_room(s, c, t, n, order, hints, palette, least, words);
-    job_check::check_sampled(
+    job_sampled::check_sampled(
         job::TILE_SIZE,
         s,
         c,
