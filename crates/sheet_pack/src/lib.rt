@@ -20,7 +20,7 @@ pub fn pack_components(dst: &mut [u8], p: usize, src: &[f32])
     let mut i = 0;
     while i < src.len() {
         let v = f32::to_bits(src[i]);
-        bits::put(dst, q, 32, v);
+        bits_put::put(dst, q, 32, v);
         q += 32;
         i += 1;
     }
@@ -35,7 +35,7 @@ pub fn pack_colours(dst: &mut [u8], p: usize, counts: &[u32], colours: &[f32])
     let mut i = 0;
     while i < counts.len() {
         let at = 3 * i;
-        bits::put(dst, q, 6, counts[i] - 1);
+        bits_put::put(dst, q, 6, counts[i] - 1);
         pack_components(dst, q + 6, &colours[at..at + 3]);
         q += 102;
         i += 1;
@@ -47,7 +47,7 @@ pub fn pack_tile(dst: &mut [u8], p: usize, counts: &[u32], colours: &[f32])
     requires { ⌜ (p + (7 + 102 * length (now counts)) ≤ 8 * length (now dst)) × (p + (7 + 102 * length (now counts)) ≤ 524288) × (length (now colours) ≡ 3 * length (now counts)) × Counted (now counts) × Bounded (now colours) 2 ⌝ }
     ensures { λ r. ⌜ bits (now (dst .exit)) ≡ sets (bits (now (dst .entry))) p (tileBits edition1 (coloursOf (now (counts .entry)) (now (colours .entry)))) ⌝ }
 {
-    bits::put(dst, p, 7, counts.len() as u32);
+    bits_put::put(dst, p, 7, counts.len() as u32);
     pack_colours(dst, p + 7, counts, colours);
 }
 
@@ -78,10 +78,10 @@ pub fn pack_head(dst: &mut [u8], s: usize, c: usize, t: usize, w: u32)
     requires { ⌜ (86 ≤ 8 * length (now dst)) × (0 < s) × (s ≤ 16) × (0 < c) × (c ≤ 16) × (0 < t) × (t ≤ 1024) ⌝ }
     ensures { λ r. ⌜ bits (now (dst .exit)) ≡ sets (bits (now (dst .entry))) 0 (headBits edition1 s c t w) ⌝ }
 {
-    bits::put(dst, 0, 32, OPENING);
-    bits::put(dst, 32, 4, 1);
-    bits::put(dst, 36, 4, (s - 1) as u32);
-    bits::put(dst, 40, 4, (c - 1) as u32);
-    bits::put(dst, 44, 10, (t - 1) as u32);
-    bits::put(dst, 54, 32, w);
+    bits_put::put(dst, 0, 32, OPENING);
+    bits_put::put(dst, 32, 4, 1);
+    bits_put::put(dst, 36, 4, (s - 1) as u32);
+    bits_put::put(dst, 40, 4, (c - 1) as u32);
+    bits_put::put(dst, 44, 10, (t - 1) as u32);
+    bits_put::put(dst, 54, 32, w);
 }

@@ -33,5 +33,5 @@ pub fn pack_sheet(
     sheet_pack::pack_head(dst, s, c, t, f32::to_bits(weight));
     sheet_pack::pack_components(dst, 86, palette);
     sheet_pack::pack_tiles(dst, p, t, tiles, colours, counts);
-    bits::put(dst, size, spare, 0);
+    bits_put::put(dst, size, spare, 0);
 }
