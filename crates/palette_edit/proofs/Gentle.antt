@@ -10,7 +10,8 @@ use Rattle.ieee.proofs.Within.{whole-exact, add-whole, mul-within}
 use Rattle.color.specs.declared.Oklab.{Oklab}
 use Rattle.color.specs.Color.{colourAt, Sized, Bounded}
 use Rattle.color.proofs.Sizes.{bounded-put}
-use Rattle.palette_edit.specs.Edits.{blend, nudgedAt, placeOf, colourCopied, subCopied}
+use Rattle.blend.specs.Blend.{blend}
+use Rattle.palette_edit.specs.Edits.{nudgedAt, placeOf, colourCopied, subCopied}
 use Rattle.palette_edit.proofs.Kept.{all-sub-copied}
 
 abbrev one : Float

@@ -5,7 +5,8 @@ use mathlib.Core.List.{List}
 use lib.Ieee.{Float}
 use Rattle.color.specs.declared.Oklab.{Oklab}
 use Rattle.color.specs.Color.{colourAt, putAt}
-use Rattle.palette_edit.specs.Edits.{nudged, nudgedAt, placeOf, colourCopied}
+use Rattle.blend.specs.Blend.{nudged}
+use Rattle.palette_edit.specs.Edits.{nudgedAt, placeOf, colourCopied}
 
 pub put-nudged : (pal after : List Float) (place : ℕ) (t : Oklab) (alpha : Float) (c x : Oklab) → c ≡ colourAt pal place → x ≡ nudged alpha c t → after ≡ putAt pal place x → after ≡ nudgedAt pal place t alpha
 put-nudged pal after place t alpha c x e f g = g ∙ ap (putAt pal place) (f ∙ ap (λ (y : Oklab). nudged alpha y t) e)

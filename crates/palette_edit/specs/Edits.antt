@@ -1,17 +1,11 @@
 -- A flat palette after one colour is nudged or copied, or a subpalette is copied. Definitions only. Assumes nothing.
 use Prim.Native.Nat.{ℕ, _+_, _*_}
 use mathlib.Core.List.{List}
-use lib.Ieee.{Float, binary32, add, sub, mul, ofBits}
+use lib.Ieee.{Float}
 use Rattle.lists.specs.Parts.{copied}
 use Rattle.color.specs.declared.Oklab.{Oklab}
 use Rattle.color.specs.Color.{colourAt, putAt}
-
--- (1 - alpha) of c and alpha of t
-abbrev pub blend : Float → Float → Float → Float
-blend alpha c t = add binary32 (mul binary32 (sub binary32 (ofBits binary32 0x3f800000) alpha) c) (mul binary32 alpha t)
-
-abbrev pub nudged : Float → Oklab → Oklab → Oklab
-nudged alpha c t = record { l = blend alpha (c .l) (t .l); a = blend alpha (c .a) (t .a); b = blend alpha (c .b) (t .b) }
+use Rattle.blend.specs.Blend.{nudged}
 
 -- the colour at a place moves towards t
 abbrev pub nudgedAt : List Float → ℕ → Oklab → Float → List Float

@@ -3,25 +3,8 @@
 ghost use mathlib.Core.Path.{_≡_};
 ghost use Prim.Native.Nat.{_+_, _*_, _<_};
 ghost use lib.ListN.{length};
-ghost use Rattle.palette_edit.specs.Edits.{blend, nudged, nudgedAt, colourCopied};
+ghost use Rattle.palette_edit.specs.Edits.{nudgedAt, colourCopied};
 use color::Oklab;
-
-// (1 - alpha) of c and alpha of t.
-fn blend(alpha: f32, c: f32, t: f32) -> f32
-    ensures { λ r. ⌜ r ≡ blend alpha c t ⌝ }
-{
-    (1.0 - alpha) * c + alpha * t
-}
-
-fn nudged(alpha: f32, c: Oklab, t: Oklab) -> Oklab
-    ensures { λ r. ⌜ r ≡ nudged alpha c t ⌝ }
-{
-    Oklab {
-        l: blend(alpha, c.l, t.l),
-        a: blend(alpha, c.a, t.a),
-        b: blend(alpha, c.b, t.b),
-    }
-}
 
 // The colour at a place of the flat palette moves towards the target.
 pub fn nudge(pal: &mut [f32], place: usize, target: Oklab, alpha: f32)
@@ -29,7 +12,7 @@ pub fn nudge(pal: &mut [f32], place: usize, target: Oklab, alpha: f32)
     ensures { λ r. ⌜ now (pal .exit) ≡ nudgedAt (now (pal .entry)) place target alpha ⌝ }
 {
     let c = color::colour(pal, place);
-    color::put(pal, place, nudged(alpha, c, target))
+    color::put(pal, place, blend::nudged(alpha, c, target))
 }
 
 // Colour `to` of subpalette i becomes its colour `from`.

@@ -1,8 +1,8 @@
--- `palette_edit::nudged` meets its contract, component by component. Assumes nothing.
+-- `blend::nudged` meets its contract, component by component. Assumes nothing.
 use Rattle.color.proofs.Puts.{colour-eq}
 use borrow.Author.Needs.{needs}
-use Rattle.palette_edit.proofs.nudged.Statement.{statement}
-use Rattle.palette_edit.proofs.nudged.Tie as tie
+use Rattle.blend.proofs.nudged.Statement.{statement}
+use Rattle.blend.proofs.nudged.Tie as tie
 
 blend-requires : tie.Need-blend-requires
 blend-requires c κs = search needs
