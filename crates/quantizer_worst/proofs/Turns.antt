@@ -19,7 +19,6 @@ use Rattle.palette_tile.proofs.Present.{winner-below}
 use Rattle.palette_tile.proofs.Hints.{length-hints, hint-kept, hint-written, hints-none, hints-more}
 use Rattle.quantizer.specs.Sums.{bump, zeros, sumsAt, greatest}
 use Rattle.quantizer.specs.Seeding.{distanceStep, distancesOf, worstOf}
-use Rattle.quantizer.proofs.Lists.{length-zeros}
 use Rattle.quantizer.specs.Goods.{AllGood}
 use Rattle.quantizer.proofs.Goods.{sums-no-nan}
 use Rattle.quantizer.proofs.Lengths.{length-distances}
@@ -79,12 +78,8 @@ module _ (J : Job) (pal : List Float) (n : ℕ) (S : Shown J pal n 1) (first : L
     pub going-length : length hints ≡ length first
     going-length = ap length (G .left) ∙ length-hints J pal n 1 first t
 
-    going-whole : length d ≡ 16
+    pub going-whole : length d ≡ 16
     going-whole = ap length (G .sums) ∙ length-distances J pal n t
-
-    -- the sums are as many as before the walk
-    pub going-kept : (before : List Float) → before ≡ zeros 16 → length d ≡ length before
-    going-kept before e = going-whole ∙ sym (ap length e ∙ length-zeros 16)
 
     pub going-turn : t < J .T → Turned J pal n hints t d
     going-turn l = record { paired = record { shown = S; tile = l; each = going-length ∙ L }; whole = going-whole }

@@ -4,8 +4,7 @@ ghost use mathlib.Core.Path.{_≡_};
 ghost use lib.ListN.{length};
 ghost use Rattle.job.specs.Job.{job};
 ghost use Rattle.palette_tile.specs.Tiles.{hintStep, hintsOf, Shown};
-ghost use Rattle.quantizer.specs.Sums.{zeros};
-ghost use Rattle.quantizer.specs.Seeding.{distanceStep, distancesOf, worstOf};
+ghost use Rattle.quantizer.specs.Seeding.{distanceStep, worstOf};
 ghost use Rattle.quantizer_worst.specs.Turns.{Turned};
 
 // Tile i's distance goes to the sum of the subpalette that fits it best, where it is not empty; its hint is written.
@@ -47,43 +46,6 @@ fn distance_step(
     distances[winner] = distances[winner] + best.dist;
 }
 
-// The summed distances of all tiles, by subpalette, from sums of 0.
-fn sum_distances(
-    s: usize,
-    c: usize,
-    t: usize,
-    weight: f32,
-    tiles: &[u32],
-    colours: &[f32],
-    counts: &[u32],
-    pal: &[f32],
-    subs: usize,
-    hints: &mut [u32],
-    distances: &mut [f32],
-)
-    requires { ⌜ Shown (job s c t weight (now tiles) (now colours) (now counts)) (now pal) subs 1 × ((length (now hints) ≡ t) × (now distances ≡ zeros 16)) ⌝ }
-    ensures { λ r. ⌜ (now (distances .exit) ≡ distancesOf (job s c t weight (now (tiles .entry)) (now (colours .entry)) (now (counts .entry))) (now (pal .entry)) subs t) × (now (hints .exit) ≡ hintsOf (job s c t weight (now (tiles .entry)) (now (colours .entry)) (now (counts .entry))) (now (pal .entry)) subs 1 (now (hints .entry)) t) ⌝ }
-{
-    let mut i = 0;
-    while i < t {
-        distance_step(
-            s,
-            c,
-            t,
-            weight,
-            tiles,
-            colours,
-            counts,
-            pal,
-            subs,
-            hints,
-            i,
-            distances,
-        );
-        i += 1;
-    }
-}
-
 // Of the `subs` subpalettes present, of one colour each, the last of greatest summed distance.
 pub fn worst(
     s: usize,
@@ -101,18 +63,23 @@ pub fn worst(
     ensures { λ r. ⌜ (r ≡ worstOf (job s c t weight (now (tiles .entry)) (now (colours .entry)) (now (counts .entry))) (now (pal .entry)) subs) × (now (hints .exit) ≡ hintsOf (job s c t weight (now (tiles .entry)) (now (colours .entry)) (now (counts .entry))) (now (pal .entry)) subs 1 (now (hints .entry)) t) ⌝ }
 {
     let mut distances = [0.0f32; 16];
-    sum_distances(
-        s,
-        c,
-        t,
-        weight,
-        tiles,
-        colours,
-        counts,
-        pal,
-        subs,
-        hints,
-        &mut distances,
-    );
+    let mut i = 0;
+    while i < t {
+        distance_step(
+            s,
+            c,
+            t,
+            weight,
+            tiles,
+            colours,
+            counts,
+            pal,
+            subs,
+            hints,
+            i,
+            &mut distances,
+        );
+        i += 1;
+    }
     extremes::argmax(&distances[0..subs])
 }

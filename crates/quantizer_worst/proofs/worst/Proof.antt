@@ -1,45 +1,98 @@
--- `quantizer_worst::worst` meets its contract: the distances are summed from zeros, and the greatest of those present is chosen. Assumes nothing.
+-- `quantizer_worst::worst` meets its contract. The loop's invariant: the sums and the hints are those after the first i tiles.
+-- The greatest of the sums present is chosen. Assumes nothing.
+use Prim.Native.Nat.{_-_}
+use mathlib.Core.Path.{refl, sym}
+use native.Mathlib.Omega.{arith}
 use borrow.Author.Needs.{needs}
-use Rattle.quantizer_worst.proofs.Turns.{sums-asked, worst-done}
+use Rattle.job.specs.Job.{job}
+use Rattle.quantizer_worst.proofs.Turns.{Going, going-start, going-length, going-whole, going-turn, going-more, going-end, sums-room, sums-asked, worst-done}
 use Rattle.quantizer_worst.proofs.worst.Statement.{statement}
 use Rattle.quantizer_worst.proofs.worst.Tie as tie
 
-slice-aggregate-sum-distances : tie.Need-slice-aggregate-sum-distances
-slice-aggregate-sum-distances c = search needs
+abbrev Inv-loop : tie.InvT-loop
+Inv-loop s c t weight tiles colours counts pal subs hints₀ distances₀ i₀ hints distances i = Going (job s c t weight tiles colours counts) pal subs hints₀ hints distances i
 
-sum-distances-requires : tie.Need-sum-distances-requires
-sum-distances-requires c κs = search needs
+abbrev μ-loop : tie.MeasureT-loop
+μ-loop s c t weight tiles colours counts pal subs hints₀ distances₀ i₀ hints distances i = t - i
 
-sub-argmax : tie.Need-sub-argmax
+loop-holds : tie.Need-loop-holds Inv-loop μ-loop
+loop-holds c =
+    let z = c .before .before .before .before .before in
+    going-start _ _ _ (z .pre .0) _ (z .pre .1) _ refl
+
+slice-aggregate-distance-step : tie.Need-slice-aggregate-distance-step Inv-loop μ-loop
+slice-aggregate-distance-step c =
+    let v = c .before .before .before in
+    let z = v .before .before .before .before .before .before in
+    sym (going-whole _ _ _ (z .pre .0) _ (z .pre .1) _ _ _ (v .loop .inv))
+
+distance-step-requires : tie.Need-distance-step-requires Inv-loop μ-loop
+distance-step-requires c κs =
+    let i = c .before .before in
+    let v = i .before in
+    let z = v .before .before .before .before .before .before in
+    going-turn _ _ _ (z .pre .0) _ (z .pre .1) _ _ _ (v .loop .inv) (i .loop-test .taken)
+
+add-i : tie.Need-add-i Inv-loop μ-loop
+add-i c = omega arith
+
+loop-less : tie.Need-loop-less Inv-loop μ-loop
+loop-less c = omega arith
+
+loop-again : tie.Need-loop-again Inv-loop μ-loop
+loop-again c =
+    let g = c .before .before .before in
+    let i = g .before .before .before in
+    let v = i .before in
+    let z = v .before .before .before .before .before .before in
+    going-more _ _ _ (z .pre .0) _ (z .pre .1) _ _ _ (v .loop .inv) (i .loop-test .taken) _ _ (g .distance-step .ensures .0) (g .distance-step .ensures .1)
+
+sub-argmax : tie.Need-sub-argmax Inv-loop μ-loop
 sub-argmax c = search needs
 
-part-argmax-start : tie.Need-part-argmax-start
+part-argmax-start : tie.Need-part-argmax-start Inv-loop μ-loop
 part-argmax-start c = search needs
 
-part-argmax-end : tie.Need-part-argmax-end
-part-argmax-end c = search needs
+part-argmax-end : tie.Need-part-argmax-end Inv-loop μ-loop
+part-argmax-end c =
+    let i = c .before in
+    let v = i .before in
+    let z = v .before .before .before .before .before .before in
+    sums-room _ _ _ (z .pre .0) _ (going-end _ _ _ (z .pre .0) _ (z .pre .1) _ _ _ (v .loop .inv) (i .loop-test .left) .0)
 
-argmax-requires : tie.Need-argmax-requires
+argmax-requires : tie.Need-argmax-requires Inv-loop μ-loop
 argmax-requires c κs =
-    let g = c .before .before .before .before .before in
-    let z = g .before .before .before .before .before .before .before .before in
-    sums-asked _ _ _ (z .pre .0) _ (g .sum-distances .ensures .0)
+    let i = c .before .before in
+    let v = i .before in
+    let z = v .before .before .before .before .before .before in
+    sums-asked _ _ _ (z .pre .0) _ (going-end _ _ _ (z .pre .0) _ (z .pre .1) _ _ _ (v .loop .inv) (i .loop-test .left) .0)
 
-same-length : tie.Need-same-length
-same-length c = search needs
+same-length : tie.Need-same-length Inv-loop μ-loop
+same-length c =
+    let v = c .before .before .before .before in
+    let z = v .before .before .before .before .before .before in
+    going-length _ _ _ (z .pre .0) _ (z .pre .1) _ _ _ (v .loop .inv)
 
-returns : tie.Need-returns
+returns : tie.Need-returns Inv-loop μ-loop
 returns c =
-    let g = c .before .before .before .before .before .before in
-    let z = g .before .before .before .before .before .before .before .before in
-    (worst-done _ _ _ (z .pre .0) _ (g .sum-distances .ensures .0) _ (c .argmax .ensures), g .sum-distances .ensures .1)
+    let i = c .before .before .before in
+    let v = i .before in
+    let z = v .before .before .before .before .before .before in
+    let done = going-end _ _ _ (z .pre .0) _ (z .pre .1) _ _ _ (v .loop .inv) (i .loop-test .left) in
+    (worst-done _ _ _ (z .pre .0) _ (done .0) _ (c .argmax .ensures), done .1)
 
 pub worst-spec : {M : Type 1} → statement M
 worst-spec =
     tie.close
     (tie.spec
-    slice-aggregate-sum-distances
-    sum-distances-requires
+    Inv-loop
+    μ-loop
+    loop-holds
+    slice-aggregate-distance-step
+    distance-step-requires
+    add-i
+    loop-less
+    loop-again
     sub-argmax
     part-argmax-start
     part-argmax-end
