@@ -2,12 +2,11 @@
 // without it, from the best two of each tile. They are what specs/Replacing.antt of quantizer says; the hints then name each tile's best.
 ghost use mathlib.Core.Path.{_≡_};
 ghost use Prim.Native.Nat.{_<_};
-ghost use lib.ListN.{length, set};
+ghost use lib.ListN.{length};
 ghost use Rattle.job.specs.Job.{job};
 ghost use Rattle.palette_tile.specs.Tiles.{Shown};
 ghost use Rattle.quantizer.specs.Sums.{zeros};
-ghost use Rattle.quantizer.specs.Replacing.{shares, shareWith, pairAt, sharesOf, pairHints};
-ghost use Rattle.quantizer_palette_sums.specs.Asked.{PairTurn};
+ghost use Rattle.quantizer.specs.Replacing.{shares, shareWith, sharesOf, pairHints};
 use stats::Two;
 
 // A tile's best two, to the sums of the best.
@@ -20,29 +19,8 @@ fn add_two(total: &mut [f32], removed: &mut [f32], r: Two)
     removed[i] = removed[i] + r.second;
 }
 
-// Tile i's part in the sums by subpalette. An empty tile goes through best_two too, so that its hint becomes 0.
-fn palette_step(
-    s: usize,
-    c: usize,
-    t: usize,
-    weight: f32,
-    tiles: &[u32],
-    colours: &[f32],
-    counts: &[u32],
-    pal: &[f32],
-    hints: &mut [u32],
-    i: usize,
-    total: &mut [f32],
-    removed: &mut [f32],
-)
-    requires { ⌜ PairTurn (job s c t weight (now tiles) (now colours) (now counts)) (now pal) (now hints) i (shares (now total) (now removed)) ⌝ }
-    ensures { λ r. ⌜ (shares (now (total .exit)) (now (removed .exit)) ≡ shareWith (pairAt (job s c t weight (now (tiles .entry)) (now (colours .entry)) (now (counts .entry))) (now (pal .entry)) i) (shares (now (total .entry)) (now (removed .entry)))) × (now (hints .exit) ≡ set (now (hints .entry)) i (pairAt (job s c t weight (now (tiles .entry)) (now (colours .entry)) (now (counts .entry))) (now (pal .entry)) i .index)) ⌝ }
-{
-    let r = palette_tile::tile_two(s, c, t, weight, tiles, colours, counts, pal, s, c, hints, i);
-    add_two(total, removed, r)
-}
-
-// What each subpalette has, and what would be added without it; the hints then name each tile's best.
+// What each subpalette has, and what would be added without it; the hints then name each tile's best. An empty tile goes through
+// best_two too, so that its hint becomes 0.
 pub fn palette_sums(
     s: usize,
     c: usize,
@@ -61,7 +39,7 @@ pub fn palette_sums(
 {
     let mut i = 0;
     while i < t {
-        palette_step(
+        let r = palette_tile::tile_two(
             s,
             c,
             t,
@@ -70,11 +48,12 @@ pub fn palette_sums(
             colours,
             counts,
             pal,
+            s,
+            c,
             hints,
             i,
-            total,
-            removed,
         );
+        add_two(total, removed, r);
         i += 1;
     }
 }

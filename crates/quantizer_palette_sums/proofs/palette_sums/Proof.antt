@@ -5,7 +5,7 @@ use native.Mathlib.Omega.{arith}
 use lib.ListN.{length}
 use Rattle.job.specs.Job.{job}
 use Rattle.quantizer.specs.Replacing.{shares}
-use Rattle.quantizer_palette_sums.proofs.Pairs.{Pairing, pairing-start, pairing-length, pairing-wide, pairing-turn, pairing-more, pairing-end}
+use Rattle.quantizer_palette_sums.proofs.Pairs.{Pairing, pairing-start, pairing-length, pairing-wide, pairing-paired, pairing-room, pairing-more, pairing-end}
 use Rattle.quantizer_palette_sums.proofs.palette_sums.Statement.{statement}
 use Rattle.quantizer_palette_sums.proofs.palette_sums.Tie as tie
 
@@ -18,8 +18,19 @@ abbrev μ-loop : tie.MeasureT-loop
 loop-holds : tie.Need-loop-holds Inv-loop μ-loop
 loop-holds c = pairing-start _ _ (c .before .before .before .before .before .before .before .pre .0) _ (c .before .before .before .before .before .before .before .pre .1 .0) _ _ (c .before .before .before .before .before .before .before .pre .1 .1 .0) (c .before .before .before .before .before .before .before .pre .1 .1 .1)
 
-palette-step-requires : tie.Need-palette-step-requires Inv-loop μ-loop
-palette-step-requires c κs = pairing-turn _ _ (c .before .before .before .before .before .before .before .before .before .before .before .before .pre .0) _ (c .before .before .before .before .before .before .before .before .before .before .before .before .pre .1 .0) _ _ _ (c .before .before .before .before .loop .inv) (c .before .before .before .loop-test .taken)
+tile-two-requires : tie.Need-tile-two-requires Inv-loop μ-loop
+tile-two-requires c κs =
+    let i = c .before in
+    let v = i .before in
+    let z = v .before .before .before .before .before .before .before .before in
+    pairing-paired _ _ (z .pre .0) _ (z .pre .1 .0) _ _ _ (v .loop .inv) (i .loop-test .taken)
+
+add-two-requires : tie.Need-add-two-requires Inv-loop μ-loop
+add-two-requires c κs =
+    let g = c .before .before .before .before in
+    let v = g .before .before .before in
+    let z = v .before .before .before .before .before .before .before .before in
+    pairing-room _ _ (z .pre .0) _ (z .pre .1 .0) _ _ _ (v .loop .inv) _ (g .tile-two .ensures .0)
 
 add-i : tie.Need-add-i Inv-loop μ-loop
 add-i c = omega arith
@@ -28,7 +39,13 @@ loop-less : tie.Need-loop-less Inv-loop μ-loop
 loop-less c = omega arith
 
 loop-again : tie.Need-loop-again Inv-loop μ-loop
-loop-again c = pairing-more _ _ (c .before .before .before .before .before .before .before .before .before .before .before .before .before .before .before .before .before .before .before .pre .0) _ (c .before .before .before .before .before .before .before .before .before .before .before .before .before .before .before .before .before .before .before .pre .1 .0) _ _ _ (c .before .before .before .before .before .before .before .before .before .before .before .loop .inv) (c .before .before .before .before .before .before .before .before .before .before .loop-test .taken) _ _ (c .before .before .before .before .before .before .palette-step .ensures .0) (c .before .before .before .before .before .before .palette-step .ensures .1)
+loop-again c =
+    let h = c .before .before .before .before in
+    let g = h .before .before .before .before .before in
+    let i = g .before .before in
+    let v = i .before in
+    let z = v .before .before .before .before .before .before .before .before in
+    pairing-more _ _ (z .pre .0) _ (z .pre .1 .0) _ _ _ (v .loop .inv) _ (g .tile-two .ensures .0) (i .loop-test .taken) _ _ (h .add-two .ensures) (g .tile-two .ensures .1)
 
 same-length : tie.Need-same-length Inv-loop μ-loop
 same-length c = pairing-length _ _ (c .before .before .before .before .before .before .before .before .before .pre .0) _ (c .before .before .before .before .before .before .before .before .before .pre .1 .0) _ _ _ (c .before .loop .inv)
@@ -49,7 +66,8 @@ palette-sums-spec =
     Inv-loop
     μ-loop
     loop-holds
-    palette-step-requires
+    tile-two-requires
+    add-two-requires
     add-i
     loop-less
     loop-again
