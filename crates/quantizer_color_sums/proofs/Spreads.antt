@@ -1,14 +1,12 @@
 -- Sums by colour: a tile's part in them, in the subpalette that it goes to, and the walk over all tiles. Assumes nothing.
 use Prim.Native.Nat.{ℕ, _+_, _*_, _≤_, _<_}
 use mathlib.Core.Path.{_≡_, sym, ap, subst⁻¹, _∙_}
-use mathlib.Core.Bool.{Bool, cond}
 use mathlib.Core.List.{List}
 use native.Mathlib.Nat.{le-antisymm}
 use native.Mathlib.Numerals.{add-one}
 use native.Mathlib.Omega.{arith}
-use lib.ListN.{getD, length}
+use lib.ListN.{length}
 use lib.Ieee.{Float}
-use borrow.Author.Tests.{lt-ltb, le-ltb}
 use Rattle.job.specs.Job.{Job, tileOf, countsOf, Placed}
 use Rattle.job.proofs.Tiles.{colours-placed, counts-placed}
 use Rattle.palette.specs.Palette.{Tile, tileWith, subOf, Counted}
@@ -20,15 +18,8 @@ use Rattle.quantizer.specs.Lengths.{Wide}
 use Rattle.quantizer.proofs.Lengths.{spread-wide}
 use Rattle.quantizer.proofs.Indexes.{owner-below, row-256}
 use Rattle.quantizer_matches.specs.Matches.{Matched}
-use Rattle.quantizer_color_sums.specs.Asked.{ownerIn, Owned, OwnerTurn}
-
--- ---- the subpalette that a tile goes to
-module _ (s : ℕ) (hints : List ℕ) (t : ℕ) where
-  pub owner-asked : 1 < s → getD hints t 0 ≡ ownerIn s hints t
-  owner-asked l = sym (ap (λ (b : Bool). cond b (getD hints t 0) 0) (lt-ltb 1 s l))
-
-  pub owner-alone : s ≤ 1 → 0 ≡ ownerIn s hints t
-  owner-alone l = sym (ap (λ (b : Bool). cond b (getD hints t 0) 0) (le-ltb 1 s l))
+use Rattle.quantizer_owner.specs.Owner.{ownerIn}
+use Rattle.quantizer_color_sums.specs.Asked.{Owned, OwnerTurn}
 
 -- ---- a tile
 module _ (J : Job) (pal : List Float) (hints : List ℕ) (t : ℕ) (A : Shares) (K : OwnerTurn J pal hints t A) where

@@ -1,19 +1,14 @@
 -- What the sums by colour ask: hints that name the subpalette that each tile goes to. Assumes nothing.
 use Prim.Native.Nat.{ℕ, _<_}
 use mathlib.Core.Path.{_≡_}
-use mathlib.Core.Bool.{cond}
 use mathlib.Core.List.{List}
-use lib.ListN.{getD, length}
-use lib.Dec.{ltb}
+use lib.ListN.{length}
 use lib.Ieee.{Float}
 use Rattle.job.specs.Job.{Job}
 use Rattle.palette_tile.specs.Tiles.{Shown}
 use Rattle.quantizer.specs.Replacing.{Shares, ownerOf}
 use Rattle.quantizer.specs.Lengths.{Wide}
-
--- the subpalette that tile t goes to, as the hints left by the best two have it; at one subpalette they name none
-abbrev pub ownerIn : ℕ → List ℕ → ℕ → ℕ
-ownerIn s hints t = cond (ltb 1 s) (getD hints t 0) 0
+use Rattle.quantizer_owner.specs.Owner.{ownerIn}
 
 pub record Owned (J : Job) (pal : List Float) (hints : List ℕ) : Type 0 where
   pub shown : Shown J pal (J .S) (J .C)

@@ -1,23 +1,10 @@
 // The sums by colour that replacing the weakest is decided by, over all tiles of a job: what each has, and what would be added without it, from the two
 // nearest of each tile colour in the subpalette that its tile goes to. They are what specs/Replacing.antt of quantizer says.
 ghost use mathlib.Core.Path.{_≡_};
-ghost use Prim.Native.Nat.{_<_};
-ghost use lib.ListN.{length};
 ghost use Rattle.job.specs.Job.{job};
 ghost use Rattle.quantizer.specs.Sums.{zeros};
 ghost use Rattle.quantizer.specs.Replacing.{shares, ownerOf, spreadStep, spreadOf};
-ghost use Rattle.quantizer_color_sums.specs.Asked.{ownerIn, Owned, OwnerTurn};
-
-// The subpalette that tile i goes to: its hint, once best_two has set it. At one subpalette none was asked for.
-fn nearest_palette_of(s: usize, hints: &[u32], i: usize) -> usize
-    requires { ⌜ i < length (now hints) ⌝ }
-    ensures { λ r. ⌜ r ≡ ownerIn s (now (hints .entry)) i ⌝ }
-{
-    if s > 1 {
-        return hints[i] as usize;
-    }
-    0
-}
+ghost use Rattle.quantizer_color_sums.specs.Asked.{Owned, OwnerTurn};
 
 // Tile i's part in the sums by colour: colour j of subpalette k is at the place k * c + j.
 fn color_step(
@@ -37,7 +24,7 @@ fn color_step(
     requires { ⌜ OwnerTurn (job s c t weight (now tiles) (now colours) (now counts)) (now pal) (now hints) i (shares (now total) (now second)) ⌝ }
     ensures { λ r. ⌜ shares (now (total .exit)) (now (second .exit)) ≡ spreadStep (job s c t weight (now (tiles .entry)) (now (colours .entry)) (now (counts .entry))) (now (pal .entry)) (ownerOf (job s c t weight (now (tiles .entry)) (now (colours .entry)) (now (counts .entry))) (now (pal .entry)) i) i (shares (now (total .entry)) (now (second .entry))) ⌝ }
 {
-    let owner = nearest_palette_of(s, hints, i);
+    let owner = quantizer_owner::nearest_palette_of(s, hints, i);
     let sub = palette::part(pal, c, c, owner);
     let tile = job::tile_part(tiles, colours, i);
     let part = job::counts_part(tiles, counts, i);

@@ -22,7 +22,8 @@ use Rattle.quantizer.proofs.NoNans.{shares-good}
 use Rattle.quantizer.proofs.Owners.{pair-hint}
 use Rattle.quantizer_swap.specs.Choosing.{Choosing}
 use Rattle.quantizer_swap.proofs.Parts.{part-choosing, part-below, part-swap}
-use Rattle.quantizer_color_sums.specs.Asked.{ownerIn, Owned}
+use Rattle.quantizer_owner.specs.Owner.{ownerIn}
+use Rattle.quantizer_color_sums.specs.Asked.{Owned}
 use Rattle.quantizer_recolor.proofs.Lengths.{length-colours-replaced}
 use Rattle.quantizer_replace.specs.Weakest.{noSwap, weakestOf}
 

@@ -1,9 +1,9 @@
--- `quantizer_color_sums::nearest_palette_of` meets its contract, return by return. Assumes nothing.
+-- `quantizer_owner::nearest_palette_of` meets its contract, return by return. Assumes nothing.
 use native.Mathlib.Omega.{arith}
-use Rattle.quantizer_color_sums.proofs.Spreads.{owner-asked, owner-alone}
+use Rattle.quantizer_owner.proofs.Owners.{owner-asked, owner-alone}
 use borrow.Author.Needs.{needs}
-use Rattle.quantizer_color_sums.proofs.nearest_palette_of.Statement.{statement}
-use Rattle.quantizer_color_sums.proofs.nearest_palette_of.Tie as tie
+use Rattle.quantizer_owner.proofs.nearest_palette_of.Statement.{statement}
+use Rattle.quantizer_owner.proofs.nearest_palette_of.Tie as tie
 
 mul-result : tie.Need-mul-result
 mul-result c = search needs
