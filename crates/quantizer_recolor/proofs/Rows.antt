@@ -7,8 +7,8 @@ use lib.ListN.{length, take, drop}
 use lib.Ieee.{Float}
 use Rattle.quantizer.specs.declared.Swap.{Swap}
 use Rattle.quantizer.specs.Replacing.{Shares, swapOf, swapIn, colourSwapped}
-use Rattle.quantizer_swap.specs.Choosing.{Choosing}
-use Rattle.quantizer_swap.proofs.Parts.{part-choosing, part-below, part-swap}
+use Rattle.quantizer_choice.specs.Choosing.{Choosing}
+use Rattle.quantizer_choice.proofs.Parts.{part-choosing, part-below, part-swap}
 use Rattle.quantizer_recolor.specs.Row.{Row}
 
 module _ (pal : List Float) (c i : ℕ) (A : Shares) (R : Row pal c i A) where

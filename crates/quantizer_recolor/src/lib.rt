@@ -13,7 +13,7 @@ fn replace_color(pal: &mut [f32], c: usize, i: usize, total: &[f32], second: &[f
     ensures { λ r. ⌜ now (pal .exit) ≡ colourSwapped (now (pal .entry)) c i (swapIn (shares (now (total .entry)) (now (second .entry))) (i * c) c) ⌝ }
 {
     let at = i * c;
-    let swap = quantizer_swap::choose(&total[at..at + c], &second[at..at + c]);
+    let swap = quantizer_choice::choose(&total[at..at + c], &second[at..at + c]);
     quantizer_swap::swap_color(pal, c, i, swap)
 }
 

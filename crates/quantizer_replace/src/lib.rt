@@ -45,7 +45,7 @@ fn weakest_palette(
         &mut total_palette_mse,
         &mut removed_palette_mse,
     );
-    quantizer_swap::choose(&total_palette_mse[0..s], &removed_palette_mse[0..s])
+    quantizer_choice::choose(&total_palette_mse[0..s], &removed_palette_mse[0..s])
 }
 
 // A colour in each subpalette, then a subpalette.

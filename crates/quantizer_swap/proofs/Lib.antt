@@ -1,3 +1,1 @@
 pub mod Swaps
-pub mod Parts
-pub mod Choosing

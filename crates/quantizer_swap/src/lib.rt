@@ -1,34 +1,9 @@
-// What gives way to what: the choice among sums, and the palette after it. Only present colours move.
+// The palette after the choice of what gives way to what. Only present colours move. Assumes nothing.
 ghost use mathlib.Core.Path.{_≡_};
 ghost use Prim.Native.Nat.{_+_, _*_, _≤_, _<_};
 ghost use lib.ListN.{length};
-ghost use Rattle.quantizer.specs.Replacing.{swapOf, colourSwapped, subSwapped};
-ghost use Rattle.quantizer_swap.specs.Choosing.{Choosing};
+ghost use Rattle.quantizer.specs.Replacing.{colourSwapped, subSwapped};
 use quantizer::Swap;
-
-// Max allowed share of what the best has, for the place that gives way: of a colour, and of a subpalette.
-const MIN_FACTOR: f32 = 0.5;
-
-// The place that has most, and the one without which least is lost: it gives way where that is less than half of what the first has.
-pub fn choose(had: &[f32], lost: &[f32]) -> Swap
-    requires { ⌜ Choosing (now had) (now lost) ⌝ }
-    ensures { λ r. ⌜ r ≡ swapOf (now (had .entry)) (now (lost .entry)) ⌝ }
-{
-    let from = extremes::argmax(had);
-    let to = extremes::argmin(lost);
-    if to == from {
-        return Swap {
-            from,
-            to,
-            gives: false,
-        };
-    }
-    Swap {
-        from,
-        to,
-        gives: lost[to] < MIN_FACTOR * had[from],
-    }
-}
 
 // In subpalette i, colour `to` becomes colour `from`, where it gives way.
 pub fn swap_color(pal: &mut [f32], c: usize, i: usize, s: Swap)

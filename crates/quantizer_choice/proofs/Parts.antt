@@ -1,5 +1,5 @@
 -- The choice of a swap among `size` sums of each kind from `from` on, handed on as a part of m numbers. Assumes nothing.
-use Prim.Native.Nat.{ℕ, _+_, _-_, _≤_, _<_}
+use Prim.Native.Nat.{ℕ, _+_, _≤_, _<_}
 use mathlib.Core.Path.{_≡_, sym, ap, subst⁻¹, _∙_}
 use native.Mathlib.Omega.{arith}
 use lib.ListN.{length, take, drop}
@@ -9,7 +9,7 @@ use Rattle.quantizer.proofs.Lists.{length-sums}
 use Rattle.quantizer.specs.Goods.{AllGood}
 use Rattle.quantizer.proofs.Goods.{sums-no-nan}
 use Rattle.quantizer.proofs.Indexes.{from-below, to-below}
-use Rattle.quantizer_swap.specs.Choosing.{Choosing}
+use Rattle.quantizer_choice.specs.Choosing.{Choosing}
 
 module _ (A : Shares) (from size : ℕ) (had : from + size ≤ length (A .had)) (lost : from + size ≤ length (A .lost)) (some : 1 ≤ size) where
   pub part-choosing : (m : ℕ) → m ≡ size → AllGood (A .had) → AllGood (A .lost) → Choosing (take m (drop from (A .had))) (take m (drop from (A .lost)))

@@ -1,9 +1,9 @@
--- `quantizer_swap::choose` meets its contract, return by return: laws of proofs/Swaps.antt. Assumes nothing.
+-- `quantizer_choice::choose` meets its contract, return by return: laws of proofs/Swaps.antt. Assumes nothing.
 use native.Mathlib.Omega.{arith}
-use Rattle.quantizer_swap.proofs.Swaps.{same-place, two-places, places-in}
+use Rattle.quantizer_choice.proofs.Choices.{same-place, two-places, places-in}
 use borrow.Author.Needs.{needs}
-use Rattle.quantizer_swap.proofs.choose.Statement.{statement}
-use Rattle.quantizer_swap.proofs.choose.Tie as tie
+use Rattle.quantizer_choice.proofs.choose.Statement.{statement}
+use Rattle.quantizer_choice.proofs.choose.Tie as tie
 
 argmax-requires : tie.Need-argmax-requires
 argmax-requires c κs = search needs

@@ -1,0 +1,2 @@
+mod Choices
+pub mod Parts

@@ -1,2 +1,0 @@
--- Laws of what specs/Choosing defines. Assumes nothing.
-use Rattle.quantizer_swap.proofs.Choosing.{}
