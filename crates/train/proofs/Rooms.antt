@@ -1,11 +1,11 @@
 -- The local memory that a run is lent: its lengths are the run's, and its hints are 0. Assumes nothing.
-use Prim.Native.Nat.{ℕ, zero, suc, _*_, _≤_}
-use mathlib.Core.Path.{_≡_, refl, sym, ap, _∙_}
+use Prim.Native.Nat.{ℕ, _*_, _≤_}
+use mathlib.Core.Path.{_≡_, ap, _∙_}
 use native.Mathlib.Omega.{arith}
 use mathlib.Core.Bool.{true}
 use mathlib.Core.List.{List}
-use lib.ListN.{length, getD, take, replicate, length-replicate}
-use lib.Seq.{length-take-le, getD-take, ext-getD}
+use lib.ListN.{length, getD, take}
+use lib.Seq.{length-take-le}
 use lib.Ieee.{Float}
 use Rattle.job.specs.Job.{tileSize}
 use Rattle.job.specs.Gives.{Sampled}
@@ -13,17 +13,8 @@ use Rattle.quantizer.specs.Course.{Course}
 use Rattle.stages.specs.Calls.{memory}
 use Rattle.calls.proofs.Accepted.{job-passed}
 use Rattle.training.specs.Training.{trained, Trainable}
+use Rattle.train_parts.proofs.Hints.{no-hint}
 use Rattle.train.specs.Trained.{trainedPalette, Drawable}
-
-pub zero-at : (n k : ℕ) → _≡_ {A = ℕ} (getD (replicate n 0) k 0) 0
-zero-at zero k = refl
-zero-at (suc n) zero = refl
-zero-at (suc n) (suc k) = zero-at n k
-
-pub no-hint : (hints : List ℕ) (t : ℕ) → t ≤ length hints → ((k : ℕ) → getD hints k 0 ≡ 0) → take t hints ≡ replicate t 0
-no-hint hints t l z =
-    ext-getD 0 (take t hints) (replicate t 0) (length-take-le t hints l ∙ sym (length-replicate t 0))
-    (λ i h. getD-take t hints i 0 (omega (arith, length-take-le t hints l)) ∙ z i ∙ sym (zero-at t i))
 
 module _ (K : Course) (p : List Float) (D : Drawable K p) where
   checked : Sampled tileSize (K .job) (K .n) (K .samples) true

@@ -9,7 +9,7 @@ use lib.ListN.{length, take, replicate, length-replicate}
 use lib.Ieee.{Float}
 use borrow.Author.Tests.{eq-eqb, ne-eqb}
 use Rattle.format.specs.Format.{encode}
-use Rattle.job.specs.Job.{Job, tileSize}
+use Rattle.job.specs.Job.{Job, tileSize, mostSamples}
 use Rattle.quantizer.specs.Course.{Course, course}
 use Rattle.job.specs.Rules.{Passed}
 use Rattle.stages.specs.Calls.{Memory, memory, jobRules}
@@ -24,38 +24,9 @@ use Rattle.train_refusal.specs.Refusal.{refusalOf}
 use Rattle.train_refusal.proofs.Accepted.{not-refused}
 use Rattle.train_samples.specs.Samples.{samplesTo, unitsTo}
 use Rattle.train_samples.proofs.Numbers.{length-samples}
-use Rattle.train.specs.Trained.{courseOf, trainedPalette, trainedFile, jobText, Drawable, Sheeted}
+use Rattle.train.specs.Trained.{courseOf, trainedPalette, trainedFile, jobText, Drawable}
 use Rattle.train.proofs.Rules.{palette-long, repainted, run-passed}
-use Rattle.train.proofs.Files.{still-writable}
-
--- ---- a job with all its samples
-module _ (J : Job) (n : ℕ) (samples : List ℕ) (p : List Float) (room : ℕ) (S : Sheeted J n samples p room) where
-  number : n ≡ unitsTo (J .tiles) (J .counts) (J .T)
-  number = ap (λ (K : Course). K .n) (S .is) ∙ (unfold courseOf in refl)
-
-  pub drawable : Drawable (course J n samples) p
-  drawable = record {
-    passed = subst⁻¹ (λ (K : Course). Passed (jobRules tileSize K true)) (S .is) (unfold courseOf in run-passed J p (S .writable .passed) (omega (arith, number, S .some)) (omega (arith, number, S .few)));
-    long = palette-long J p (S .writable .passed);
-  }
-
-  any-memory : Memory
-  any-memory = memory (replicate n 0) (replicate (J .T) 0) p p (replicate 6 0)
-
-  its-room : Roomy (course J n samples) any-memory
-  unfolding any-memory
-  its-room = record { order = length-replicate n 0; hints = length-replicate (J .T) 0; palette = drawable .long; least = drawable .long; words = refl }
-
-  module _ (x : List Float) (e : x ≡ trainedPalette (course J n samples)) where
-    pub trained-writable : Writable J x
-    unfolding trainedPalette any-memory
-    trained-writable =
-        let f = trained-fits (course J n samples) (drawable .passed) any-memory its-room in
-        subst⁻¹ (Writable J) e (still-writable J p (trainedPalette (course J n samples)) (S .writable) (repainted J p (S .writable .passed) (trainedPalette (course J n samples)) (f .0) (f .1)))
-
-    pub file-is : (out after : List ℕ) (r : ℕ) → Stored out after 0 r (encode (sheet edition1) (sheetOf J x)) → Stored out after 0 r (trainedFile J)
-    unfolding trainedFile
-    file-is out after r s = subst (λ (y : List Float). Stored out after 0 r (encode (sheet edition1) (sheetOf J y))) (e ∙ ap trainedPalette (S .is)) s
+use Rattle.sheet_parts.proofs.Files.{still-writable}
 
 -- ---- the samples stored
 module _ (J : Job) (p : List Float) (W : Writable J p) (samples after : List ℕ) (m : ℕ) (s : Stored samples after 0 m (samplesTo (J .tiles) (J .counts) (J .T))) where
@@ -71,9 +42,6 @@ module _ (J : Job) (p : List Float) (W : Writable J p) (samples after : List ℕ
       halved : (k : ℕ) → k ≡ 2 * unitsTo (J .tiles) (J .counts) (J .T) → k / 2 ≡ unitsTo (J .tiles) (J .counts) (J .T)
       halved k e = omega arith
 
-  pub taken : (k : ℕ) → k ≡ refusalOf (m / 2) → k ≡ 0 → m ≤ 32768
-  taken k e z = omega (arith, half, twice, not-refused (m / 2) (sym e ∙ z) .1)
-
   module _ (out written : List ℕ) (r : ℕ) where
     by-text : (x : List ℕ) → x ≡ jobText J → Stored out written 0 r x → Stored out written 0 r (jobText J)
     by-text x e t = subst (λ (y : List ℕ). Stored out written 0 r y) e t
@@ -83,22 +51,52 @@ module _ (J : Job) (p : List Float) (W : Writable J p) (samples after : List ℕ
         by-text (refusedLine (refusalOf n)) (unfold jobText courseOf in sym (ap (λ (b : Bool). cond b (trainedFile J) (refusedLine (refusalOf n))) (ne-eqb (refusalOf n) 0 (λ (q : refusalOf n ≡ 0). z (e ∙ ap refusalOf half ∙ q)))))
         (subst (λ (i : ℕ). Stored out written 0 r (refusedLine i)) (e ∙ ap refusalOf half) t)
 
-    pub some-text : (k : ℕ) → k ≡ refusalOf (m / 2) → k ≡ 0 → Stored out written 0 r (trainedFile J) → Stored out written 0 r (jobText J)
-    some-text k e z = by-text (trainedFile J) (unfold jobText courseOf in sym (ap (λ (b : Bool). cond b (trainedFile J) (refusedLine (refusalOf n))) (eq-eqb (refusalOf n) 0 (sym (e ∙ ap refusalOf half) ∙ z))))
+  -- ---- as many as a run takes
+  module _ (k : ℕ) (e : k ≡ refusalOf (m / 2)) (z : k ≡ 0) where
+    some : 1 ≤ n
+    some = omega (arith, half, not-refused (m / 2) (sym e ∙ z) .0)
 
-  pub sheeted : (room k : ℕ) → 65536 ≤ room → 131072 ≤ length samples → k ≡ refusalOf (m / 2) → k ≡ 0 → Sheeted J (m / 2) (take m after) p room
-  sheeted room k big long e z =
-      let drawn = not-refused (m / 2) (sym e ∙ z) in
-      record {
-        writable = W;
-        is = unfold courseOf in ap₂ {C = Course} (λ n x. course J n x) half front;
-        some = drawn .0;
-        few = drawn .1;
-        roomy = big;
+    few : n ≤ mostSamples
+    few = omega (arith, half, not-refused (m / 2) (sym e ∙ z) .1)
+
+    pub taken : m ≤ 32768
+    taken = omega (arith, twice, few)
+
+    module _ (long : 131072 ≤ length samples) where
+      abbrev K : Course
+      K = course J (m / 2) (take m after)
+
+      is : K ≡ courseOf J
+      is = unfold courseOf in ap₂ {C = Course} (λ n x. course J n x) half front
+        where
+          same : m ≡ length (samplesTo (J .tiles) (J .counts) (J .T))
+          same = omega (arith, s .place)
+
+          front : take m after ≡ samplesTo (J .tiles) (J .counts) (J .T)
+          front = ap₂ (λ (k : ℕ) (v : List ℕ). take k v) same (s .text) ∙ sets-front (samplesTo (J .tiles) (J .counts) (J .T)) samples (omega (arith, same, taken))
+
+      pub drawable : Drawable (course J (m / 2) (take m after)) p
+      drawable = record {
+        passed = subst⁻¹ (λ (K : Course). Passed (jobRules tileSize K true)) is (unfold courseOf in run-passed J p (W .passed) some few);
+        long = palette-long J p (W .passed);
       }
-    where
-      same : m ≡ length (samplesTo (J .tiles) (J .counts) (J .T))
-      same = omega (arith, s .place)
 
-      front : take m after ≡ samplesTo (J .tiles) (J .counts) (J .T)
-      front = ap₂ (λ (k : ℕ) (v : List ℕ). take k v) same (s .text) ∙ sets-front (samplesTo (J .tiles) (J .counts) (J .T)) samples (omega (arith, same, taken k e z))
+      any-memory : Memory
+      any-memory = memory (replicate (m / 2) 0) (replicate (J .T) 0) p p (replicate 6 0)
+
+      its-room : Roomy K any-memory
+      unfolding any-memory
+      its-room = record { order = length-replicate (m / 2) 0; hints = length-replicate (J .T) 0; palette = drawable .long; least = drawable .long; words = refl }
+
+      -- the palette that they train can be written, and its sheet is what is written for the job
+      module _ (x : List Float) (t : x ≡ trainedPalette (course J (m / 2) (take m after))) where
+        pub trained-writable : Writable J x
+        unfolding trainedPalette any-memory
+        trained-writable =
+            let f = trained-fits K (drawable .passed) any-memory its-room in
+            subst⁻¹ (Writable J) t (still-writable J p (trainedPalette K) W (repainted J p (W .passed) (trainedPalette K) (f .0) (f .1)))
+
+        pub trained-text : (out written : List ℕ) (r : ℕ) → Stored out written 0 r (encode (sheet edition1) (sheetOf J x)) → Stored out written 0 r (jobText J)
+        trained-text out written r f =
+            by-text out written r (trainedFile J) (unfold jobText courseOf in sym (ap (λ (b : Bool). cond b (trainedFile J) (refusedLine (refusalOf n))) (eq-eqb (refusalOf n) 0 (sym (e ∙ ap refusalOf half) ∙ z))))
+            (unfold trainedFile in subst (λ (y : List Float). Stored out written 0 r (encode (sheet edition1) (sheetOf J y))) (t ∙ ap trainedPalette is) f)

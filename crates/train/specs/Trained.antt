@@ -1,19 +1,18 @@
 -- What `train` writes for a job that a sheet holds. Definitions only. Assumes nothing.
-use Prim.Native.Nat.{ℕ, _*_, _≤_}
+use Prim.Native.Nat.{ℕ, _*_}
 use mathlib.Core.Path.{_≡_}
 use mathlib.Core.Bool.{cond, true}
 use mathlib.Core.List.{List}
 use lib.Dec.{eqb}
 use lib.ListN.{length, replicate}
 use lib.Ieee.{Float}
-use Rattle.job.specs.Job.{Job, tileSize, mostSamples}
+use Rattle.job.specs.Job.{Job, tileSize}
 use Rattle.job.specs.Rules.{Passed}
 use Rattle.quantizer.specs.Course.{Course, course}
 use Rattle.stages.specs.Calls.{jobRules}
 use Rattle.format.specs.Format.{encode}
 use Rattle.sheet_format.specs.Sheet.{edition1, sheet}
 use Rattle.sheet_pack.specs.Packed.{sheetOf}
-use Rattle.sheet_parts.specs.Begins.{Writable}
 use Rattle.fit_lines.specs.Lines.{refusedLine}
 use Rattle.training.specs.Training.{trained}
 use Rattle.train_refusal.specs.Refusal.{refusalOf}
@@ -40,11 +39,3 @@ jobText J = cond (eqb (refusalOf (courseOf J .n)) 0) (trainedFile J) (refusedLin
 pub record Drawable (K : Course) (palette : List Float) : Type 0 where
   pub passed : Passed (jobRules tileSize K true)
   pub long : length palette ≡ 3 * (K .job .S * K .job .C)
-
--- a job that can be written, with all its samples
-pub record Sheeted (J : Job) (n : ℕ) (samples : List ℕ) (palette : List Float) (room : ℕ) : Type 0 where
-  pub writable : Writable J palette
-  pub is : course J n samples ≡ courseOf J
-  pub some : 1 ≤ n
-  pub few : n ≤ mostSamples
-  pub roomy : 65536 ≤ room

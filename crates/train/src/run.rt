@@ -2,11 +2,11 @@
 // -2..2. Assumes nothing.
 ghost use mathlib.Core.Path.{_≡_};
 ghost use Prim.Native.Nat.{_≤_};
-ghost use lib.ListN.{length, take};
+ghost use lib.ListN.{length};
 ghost use Rattle.job.specs.Job.{job};
 ghost use Rattle.quantizer.specs.Course.{course};
 ghost use Rattle.stages.specs.Calls.{memory};
-ghost use Rattle.training.specs.Training.{cutOne, cut, trained, turnCall, Trainable};
+ghost use Rattle.training.specs.Training.{trained, turnCall, Trainable};
 
 const SEED: u64 = 0;
 
@@ -14,32 +14,6 @@ const SEED: u64 = 0;
 const ALL: u64 = 0xffff_ffff_ffff_ffff;
 
 const STOPS: u64 = 3;
-
-fn cut_one(x: f32) -> f32
-    ensures { λ r. ⌜ r ≡ cutOne x ⌝ }
-{
-    if x > job::MOST_COMPONENT {
-        return job::MOST_COMPONENT;
-    }
-    if x < -job::MOST_COMPONENT {
-        return -job::MOST_COMPONENT;
-    }
-    x
-}
-
-// Each component, cut to -2..2. What stands behind them is not said.
-fn cut(from: &[f32]) -> [f32; 768]
-    requires { ⌜ length (now from) ≤ 768 ⌝ }
-    ensures { λ r. ⌜ (768 ≡ length r) × (take (length (now (from .entry))) r ≡ cut (now (from .entry))) ⌝ }
-{
-    let mut to = sheet_parts::palette_room();
-    let mut i = 0;
-    while i < from.len() {
-        to[i] = cut_one(from[i]);
-        i += 1;
-    }
-    to
-}
 
 // A turn: all draws up to the next stop, then the working colours are cut and handed in. At a stop the advance is refused and changes
 // nothing.
@@ -80,7 +54,7 @@ fn turn(
         ALL,
     );
     let size = palette.len();
-    let reduced = cut(palette);
+    let reduced = train_parts::cut(palette);
     run_hand_in::hand_in(
         s,
         c,

@@ -3,7 +3,7 @@ use native.Mathlib.Omega.{arith}
 use Rattle.sheet_parts.proofs.Parts.{front-long}
 use Rattle.fit_tiles.proofs.Lengths.{refused-most}
 use Rattle.train.proofs.Rules.{countable}
-use Rattle.train.proofs.Texts.{taken, refused-text, some-text, sheeted}
+use Rattle.train.proofs.Texts.{refused-text, taken, drawable, trained-writable, trained-text}
 use borrow.Author.Needs.{needs}
 use Rattle.train.proofs.trained.put_job.Statement.{statement}
 use Rattle.train.proofs.trained.put_job.Tie as tie
@@ -32,11 +32,14 @@ returns c = (refused-text _ _ (c .before .before .before .before .before .before
 array-share-prefix-samples : tie.Need-array-share-prefix-samples
 array-share-prefix-samples c = omega (arith, taken _ _ (c .before .before .before .before .before .before .before .before .before .before .before .pre .0) _ _ _ (c .before .before .before .put-samples .ensures) _ (c .before .refusal .ensures) (c .if1 .left), c .before .before .before .put-samples .kept .1 .1 .1 .0, c .before .before .before .before .before .samples-room .ensures)
 
-slice-aggregate-put-trained : tie.Need-slice-aggregate-put-trained
-slice-aggregate-put-trained c = front-long (c .before .before .before .before .put-samples .result) (c .before .before .before .before .put-samples .last .1 .1 .1 .0) (omega (arith, taken _ _ (c .before .before .before .before .before .before .before .before .before .before .before .before .pre .0) _ _ _ (c .before .before .before .before .put-samples .ensures) _ (c .before .before .refusal .ensures) (c .before .if1 .left), c .before .before .before .before .put-samples .kept .1 .1 .1 .0, c .before .before .before .before .before .before .samples-room .ensures))
+slice-aggregate-train-palette : tie.Need-slice-aggregate-train-palette
+slice-aggregate-train-palette c = front-long (c .before .before .before .before .put-samples .result) (c .before .before .before .before .put-samples .last .1 .1 .1 .0) (omega (arith, taken _ _ (c .before .before .before .before .before .before .before .before .before .before .before .before .pre .0) _ _ _ (c .before .before .before .before .put-samples .ensures) _ (c .before .before .refusal .ensures) (c .before .if1 .left), c .before .before .before .before .put-samples .kept .1 .1 .1 .0, c .before .before .before .before .before .before .samples-room .ensures))
 
-put-trained-requires : tie.Need-put-trained-requires
-put-trained-requires c κs = sheeted _ _ (c .before .before .before .before .before .before .before .before .before .before .before .before .before .before .pre .0) _ _ _ (c .before .before .before .before .before .before .put-samples .ensures) _ _ (c .before .before .before .before .before .before .before .before .before .before .before .before .before .before .pre .1) (omega (arith, c .before .before .before .before .before .before .before .before .samples-room .ensures)) (c .before .before .before .before .refusal .ensures) (c .before .before .before .if1 .left)
+train-palette-requires : tie.Need-train-palette-requires
+train-palette-requires c κs = drawable _ _ (c .before .before .before .before .before .before .before .before .before .before .before .before .before .pre .0) _ _ _ (c .before .before .before .before .before .put-samples .ensures) _ (c .before .before .before .refusal .ensures) (c .before .before .if1 .left) (omega (arith, c .before .before .before .before .before .before .before .samples-room .ensures))
+
+put-sheet-requires : tie.Need-put-sheet-requires
+put-sheet-requires c κs = (trained-writable _ _ (c .before .before .before .before .before .before .before .before .before .before .before .before .before .before .before .before .before .before .pre .0) _ _ _ (c .before .before .before .before .before .before .before .before .before .before .put-samples .ensures) _ (c .before .before .before .before .before .before .before .before .refusal .ensures) (c .before .before .before .before .before .before .before .if1 .left) (omega (arith, c .before .before .before .before .before .before .before .before .before .before .before .before .samples-room .ensures)) _ (c .before .before .before .before .train-palette .ensures), c .before .before .before .before .before .before .before .before .before .before .before .before .before .before .before .before .before .before .pre .1)
 
 same-length-2 : tie.Need-same-length-2
 same-length-2 c = search needs
@@ -45,7 +48,7 @@ same-length-3 : tie.Need-same-length-3
 same-length-3 c = search needs
 
 returns-2 : tie.Need-returns-2
-returns-2 c = (some-text _ _ (c .before .before .before .before .before .before .before .before .before .before .before .before .before .before .before .before .before .before .before .pre .0) _ _ _ (c .before .before .before .before .before .before .before .before .before .before .before .put-samples .ensures) _ _ _ _ (c .before .before .before .before .before .before .before .before .before .refusal .ensures) (c .before .before .before .before .before .before .before .before .if1 .left) (c .before .before .before .before .put-trained .ensures .0), c .before .before .before .before .put-trained .ensures .1)
+returns-2 c = (trained-text _ _ (c .before .before .before .before .before .before .before .before .before .before .before .before .before .before .before .before .before .before .before .before .before .pre .0) _ _ _ (c .before .before .before .before .before .before .before .before .before .before .before .before .before .put-samples .ensures) _ (c .before .before .before .before .before .before .before .before .before .before .before .refusal .ensures) (c .before .before .before .before .before .before .before .before .before .before .if1 .left) (omega (arith, c .before .before .before .before .before .before .before .before .before .before .before .before .before .before .before .samples-room .ensures)) _ (c .before .before .before .before .before .before .before .train-palette .ensures) _ _ _ (c .before .before .put-sheet .ensures .0), c .before .before .put-sheet .ensures .1)
 
 pub put-job-spec : {M : Type 1} → statement M
 put-job-spec =
@@ -59,8 +62,9 @@ put-job-spec =
     same-length
     returns
     array-share-prefix-samples
-    slice-aggregate-put-trained
-    put-trained-requires
+    slice-aggregate-train-palette
+    train-palette-requires
+    put-sheet-requires
     same-length-2
     same-length-3
     returns-2)

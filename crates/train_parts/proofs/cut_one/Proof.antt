@@ -1,7 +1,7 @@
 -- `cut_one` meets its contract: each comparison is decided by its branch. Assumes nothing.
 use Rattle.training.specs.Training.{cutOne}
-use Rattle.train.proofs.run.cut_one.Statement.{statement}
-use Rattle.train.proofs.run.cut_one.Tie as tie
+use Rattle.train_parts.proofs.cut_one.Statement.{statement}
+use Rattle.train_parts.proofs.cut_one.Tie as tie
 
 returns : tie.Need-returns
 unfolding cutOne

@@ -1,8 +1,8 @@
 -- `put_sheet` meets its contract: the writer refuses none that can be written. Assumes nothing.
-use Rattle.train.proofs.Files.{never, file-stored, file-short}
+use Rattle.sheet_parts.proofs.Files.{never, file-stored, file-short}
 use borrow.Author.Needs.{needs}
-use Rattle.train.proofs.trained.put_sheet.Statement.{statement}
-use Rattle.train.proofs.trained.put_sheet.Tie as tie
+use Rattle.sheet_parts.proofs.put_sheet.Statement.{statement}
+use Rattle.sheet_parts.proofs.put_sheet.Tie as tie
 
 write-requires : tie.Need-write-requires
 write-requires c κs = search needs

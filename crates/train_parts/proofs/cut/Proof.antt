@@ -2,11 +2,11 @@
 use Prim.Native.Nat.{_≤_, _-_}
 use native.Mathlib.Omega.{arith}
 use lib.ListN.{length, length-set}
-use Rattle.train.proofs.Cuts.{Cut, none-cut, cut-more, all-cut}
+use Rattle.train_parts.proofs.Cuts.{Cut, none-cut, cut-more, all-cut}
 use mathlib.Core.Path.{_≡_, sym}
 use borrow.Author.Needs.{needs}
-use Rattle.train.proofs.run.cut.Statement.{statement}
-use Rattle.train.proofs.run.cut.Tie as tie
+use Rattle.train_parts.proofs.cut.Statement.{statement}
+use Rattle.train_parts.proofs.cut.Tie as tie
 
 abbrev Inv-loop : tie.InvT-loop
 Inv-loop from to₀ i₀ to i = (i ≤ length from) × (length to ≡ 768) × Cut from to₀ i to
