@@ -23,6 +23,7 @@ module _ (K : Course) where
 
   pub turn-joined : (d r q : ℕ) (m₀ m₁ m₂ : Memory) (reduced : List Float) → outcome r d m₁ ≡ advanceCall tileSize K m₀ all → reduced ≡ cut (m₁ .palette)
       → outcome q 0 m₂ ≡ handInCall tileSize K m₁ reduced → m₂ ≡ turnCall K m₀
+  unfolding turnCall
   turn-joined d r q m₀ m₁ m₂ reduced e c f =
       left-by _ q 0 m₂ f ∙ ap (λ (x : List Float). handInCall tileSize K m₁ x .after) c ∙ ap (stopCall K) (left-by _ r d m₁ e)
 

@@ -83,7 +83,7 @@ module _ (K : Course) (P : Passed (jobRules tileSize K true)) where
 
   -- a turn that comes to a stop
   turned : {m : Memory} {s : State} → Holds m s → stops (goOn K s .stage) ≡ true → Holds (turnCall K m) (turn K s)
-  unfolding turn
+  unfolding turn turnCall
   turned H d = handed (gone H) d
 
   -- ---- the stops, one after the other

@@ -48,7 +48,7 @@ module _ (K : Course) where
   abbrev pub stopCall : Memory → Memory
   stopCall m = handInCall tileSize K m (cut (m .palette)) .after
 
-  abbrev pub turnCall : Memory → Memory
+  unfoldable pub turnCall : Memory → Memory
   turnCall m = stopCall (goCall m)
 
   -- so many turns
