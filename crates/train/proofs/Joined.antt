@@ -10,10 +10,11 @@ use mir.Val.{Fits}
 use lib.ListN.{length}
 use lib.Ieee.{Float}
 use Rattle.job.specs.Job.{tileSize}
+use Rattle.job.specs.Rules.{Passed}
 use Rattle.quantizer.specs.Course.{Course}
-use Rattle.stages.specs.Calls.{Memory, Outcome, outcome, startCall, advanceCall, handInCall}
-use Rattle.calls.proofs.Accepted.{job-passed}
-use Rattle.training.specs.Training.{cut, all, trained, stopCall, turnCall, turnCalls, Trainable}
+use Rattle.stages.specs.Calls.{Memory, Outcome, outcome, jobRules, startCall, advanceCall, handInCall}
+use Rattle.calls.specs.Accepted.{Roomy}
+use Rattle.training.specs.Training.{cut, all, trained, stopCall, turnCall, turnCalls}
 use Rattle.training.proofs.ByCalls.{calls-train}
 
 module _ (K : Course) where
@@ -41,10 +42,6 @@ module _ (K : Course) where
   unfolding turnCalls
   none-turned m = record { few = omega arith; is = refl; order = refl; hints = refl; palette = refl; least = refl; words = refl }
 
-  -- the palette fits the room for cut colours
-  pub still-short : (m m₀ m₁ : Memory) (i : ℕ) → Trainable K m → length (m₀ .palette) ≡ length (m .palette) → Turned i m₀ m₁ → length (m₁ .palette) ≤ 768
-  still-short m m₀ m₁ i T same t = omega (arith, t .palette, same, T .roomy .palette, job-passed tileSize K true (T .passed) .ready .sizes .cells)
-
   module _ (i : ℕ) (m₀ m₁ : Memory) (T : Turned i m₀ m₁) (l : i < 3) where
     pub one-more : (m₂ : Memory) → m₂ ≡ turnCall K m₁ → length (m₂ .order) ≡ length (m₁ .order) → length (m₂ .hints) ≡ length (m₁ .hints)
         → length (m₂ .palette) ≡ length (m₁ .palette) → length (m₂ .least) ≡ length (m₁ .least) → length (m₂ .words) ≡ length (m₁ .words)
@@ -67,9 +64,12 @@ module _ (K : Course) where
     pub nearer : 3 - (i + 1) < 3 - i
     nearer = omega arith
 
+  pub all-turned : (i : ℕ) (m₀ m₁ : Memory) → 3 ≤ i → Turned i m₀ m₁ → m₁ ≡ turnCalls K 3 m₀
+  all-turned i m₀ m₁ g t =
+      let three : i ≡ 3 = omega (arith, t .few) in
+      t .is ∙ ap (λ (k : ℕ). turnCalls K k m₀) three
+
   -- the whole run
-  pub all-turned : (i a : ℕ) (m₀ m₁ m₂ : Memory) → Trainable K m₀ → 3 ≤ i → outcome a 0 m₁ ≡ startCall tileSize K m₀ 0 → Turned i m₁ m₂
+  pub run-joined : (a : ℕ) (m₀ m₁ m₂ : Memory) → Passed (jobRules tileSize K true) → Roomy K m₀ → outcome a 0 m₁ ≡ startCall tileSize K m₀ 0 → m₂ ≡ turnCalls K 3 m₁
       → m₂ .palette ≡ trained K (m₀ .hints) .palette
-  all-turned i a m₀ m₁ m₂ T g e f =
-      let three : i ≡ 3 = omega (arith, f .few) in
-      ap (λ (m : Memory). m .palette) (f .is ∙ ap (λ (k : ℕ). turnCalls K k m₁) three ∙ ap (turnCalls K 3) (left-by _ a 0 m₁ e)) ∙ calls-train K (T .passed) m₀ (T .roomy)
+  run-joined a m₀ m₁ m₂ P R e f = ap (λ (m : Memory). m .palette) (f ∙ ap (turnCalls K 3) (left-by _ a 0 m₁ e)) ∙ calls-train K P m₀ R

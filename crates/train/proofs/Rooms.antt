@@ -11,8 +11,9 @@ use Rattle.job.specs.Job.{tileSize}
 use Rattle.job.specs.Gives.{Sampled}
 use Rattle.quantizer.specs.Course.{Course}
 use Rattle.stages.specs.Calls.{memory}
+use Rattle.calls.specs.Accepted.{Roomy}
 use Rattle.calls.proofs.Accepted.{job-passed}
-use Rattle.training.specs.Training.{trained, Trainable}
+use Rattle.training.specs.Training.{trained}
 use Rattle.train_parts.proofs.Hints.{no-hint}
 use Rattle.train.specs.Trained.{trainedPalette, Drawable}
 
@@ -29,18 +30,15 @@ module _ (K : Course) (p : List Float) (D : Drawable K p) where
   pub few-numbers : 3 * (K .job .S * K .job .C) ≤ 768
   few-numbers = omega (arith, checked .ready .sizes .cells)
 
-  pub trainable : (order hints : List ℕ) (least : List Float) (words : List ℕ) → K .n ≤ length order → K .job .T ≤ length hints
+  pub roomy : (order hints : List ℕ) (least : List Float) (words : List ℕ) → K .n ≤ length order → K .job .T ≤ length hints
       → 3 * (K .job .S * K .job .C) ≤ length least → length words ≡ 6
-      → Trainable K (memory (take (K .n) order) (take (K .job .T) hints) p (take (3 * (K .job .S * K .job .C)) least) words)
-  trainable order hints least words lo lh ll lw = record {
-    passed = D .passed;
-    roomy = record {
-      order = length-take-le (K .n) order lo;
-      hints = length-take-le (K .job .T) hints lh;
-      palette = D .long;
-      least = length-take-le (3 * (K .job .S * K .job .C)) least ll;
-      words = lw;
-    };
+      → Roomy K (memory (take (K .n) order) (take (K .job .T) hints) p (take (3 * (K .job .S * K .job .C)) least) words)
+  roomy order hints least words lo lh ll lw = record {
+    order = length-take-le (K .n) order lo;
+    hints = length-take-le (K .job .T) hints lh;
+    palette = D .long;
+    least = length-take-le (3 * (K .job .S * K .job .C)) least ll;
+    words = lw;
   }
 
   pub from-no-hints : (hints : List ℕ) (x : List Float) → K .job .T ≤ length hints → ((k : ℕ) → getD hints k 0 ≡ 0) → x ≡ trained K (take (K .job .T) hints) .palette → x ≡ trainedPalette K

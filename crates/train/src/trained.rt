@@ -1,52 +1,11 @@
-// A job that a sheet holds, trained and written again: its samples, the run in local memory, the sheet with the trained palette.
-// Assumes nothing.
+// A job that a sheet holds, trained and written again: its samples, the run, the sheet with the trained palette. Assumes nothing.
 ghost use mathlib.Core.Path.{_≡_};
 ghost use Prim.Native.Nat.{_≤_};
 ghost use lib.ListN.{length};
 ghost use Rattle.job.specs.Job.{job};
-ghost use Rattle.quantizer.specs.Course.{course};
 ghost use Rattle.sheet_parts.specs.Begins.{Writable};
 ghost use Rattle.fit_lines.specs.Lines.{Stored};
-ghost use Rattle.train.specs.Trained.{trainedPalette, jobText, Drawable};
-
-// The palette becomes the trained one. The rest of the run's memory is local.
-fn train_palette(
-    s: usize,
-    c: usize,
-    t: usize,
-    n: usize,
-    weight: f32,
-    tiles: &[u32],
-    colours: &[f32],
-    counts: &[u32],
-    samples: &[u32],
-    palette: &mut [f32],
-)
-    requires { ⌜ Drawable (course (job s c t weight (now tiles) (now colours) (now counts)) n (now samples)) (now palette) ⌝ }
-    ensures { λ _. ⌜ now (palette .exit) ≡ trainedPalette (course (job s c t weight (now (tiles .entry)) (now (colours .entry)) (now (counts .entry))) n (now (samples .entry))) ⌝ }
-{
-    let mut order = train_parts::order_room();
-    let mut hints = train_parts::no_hints();
-    let mut least = sheet_parts::palette_room();
-    let mut words = [0u64; 6];
-    let size = 3 * (s * c);
-    crate::run::train(
-        s,
-        c,
-        t,
-        n,
-        weight,
-        tiles,
-        colours,
-        counts,
-        samples,
-        &mut order[..n],
-        &mut hints[..t],
-        palette,
-        &mut least[..size],
-        &mut words,
-    );
-}
+ghost use Rattle.train.specs.Trained.{jobText};
 
 // What is written for a job: its sheet trained, or a refusal's line. The palette is lent to the run.
 pub fn put_job(
@@ -70,7 +29,7 @@ pub fn put_job(
     if number != 0 {
         return fit_lines::put_refused(out, 0, number);
     }
-    train_palette(
+    crate::run::train_palette(
         s,
         c,
         t,

@@ -1,16 +1,14 @@
 -- How `train` trains: a run from seed 0 that makes all its draws, and at each of its three stops is handed its own colours, cut to -2..2.
 -- Definitions only. Assumes nothing.
 use Prim.Native.Nat.{ℕ, zero, suc}
-use mathlib.Core.Bool.{cond, true}
+use mathlib.Core.Bool.{cond}
 use mathlib.Core.List.{List, map}
 use lib.Ieee.{Float, lt, neg}
 use Rattle.job.specs.Job.{two, tileSize}
-use Rattle.job.specs.Rules.{Passed}
 use Rattle.quantizer.specs.Course.{Course}
 use Rattle.stages.specs.State.{State}
 use Rattle.stages.specs.Stages.{start, advance, handIn}
-use Rattle.stages.specs.Calls.{Memory, jobRules, startCall, advanceCall, handInCall}
-use Rattle.calls.specs.Accepted.{Roomy}
+use Rattle.stages.specs.Calls.{Memory, startCall, advanceCall, handInCall}
 
 -- ---- colours cut to -2..2
 unfoldable pub cutOne : Float → Float
@@ -59,8 +57,3 @@ module _ (K : Course) where
   -- a start and three turns
   abbrev pub trainCalls : Memory → Memory
   trainCalls m = turnCalls 3 (startCall tileSize K m 0 .after)
-
--- ---- what is asked: a job with samples that every call accepts, and memory of its lengths
-pub record Trainable (K : Course) (m : Memory) : Type 0 where
-  pub passed : Passed (jobRules tileSize K true)
-  pub roomy : Roomy K m
