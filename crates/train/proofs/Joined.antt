@@ -22,7 +22,7 @@ module _ (K : Course) where
   left-by : (o : Outcome) (r d : ℕ) (m : Memory) → outcome r d m ≡ o → m ≡ o .after
   left-by o r d m e = ap (λ (x : Outcome). x .after) e
 
-  pub turn-joined : (d r q : ℕ) (m₀ m₁ m₂ : Memory) (reduced : List Float) → outcome r d m₁ ≡ advanceCall tileSize K m₀ all → reduced ≡ cut (m₁ .palette)
+  turn-joined : (d r q : ℕ) (m₀ m₁ m₂ : Memory) (reduced : List Float) → outcome r d m₁ ≡ advanceCall tileSize K m₀ all → reduced ≡ cut (m₁ .palette)
       → outcome q 0 m₂ ≡ handInCall tileSize K m₁ reduced → m₂ ≡ turnCall K m₀
   unfolding turnCall
   turn-joined d r q m₀ m₁ m₂ reduced e c f =
@@ -43,19 +43,23 @@ module _ (K : Course) where
   none-turned m = record { few = omega arith; is = refl; order = refl; hints = refl; palette = refl; least = refl; words = refl }
 
   module _ (i : ℕ) (m₀ m₁ : Memory) (T : Turned i m₀ m₁) (l : i < 3) where
-    pub one-more : (m₂ : Memory) → m₂ ≡ turnCall K m₁ → length (m₂ .order) ≡ length (m₁ .order) → length (m₂ .hints) ≡ length (m₁ .hints)
-        → length (m₂ .palette) ≡ length (m₁ .palette) → length (m₂ .least) ≡ length (m₁ .least) → length (m₂ .words) ≡ length (m₁ .words)
-        → Turned (i + 1) m₀ m₂
-    one-more m₂ e o h p b w =
-        record {
-          few = omega arith;
-          is = e ∙ ap (turnCall K) (T .is) ∙ (unfold turnCalls in ap (λ (k : ℕ). turnCalls K k m₀) (sym (add-one i)));
-          order = o ∙ T .order;
-          hints = h ∙ T .hints;
-          palette = p ∙ T .palette;
-          least = b ∙ T .least;
-          words = w ∙ T .words;
-        }
+    pub one-more : (d r q : ℕ) (m₂ m₃ : Memory) (reduced : List Float) → outcome r d m₂ ≡ advanceCall tileSize K m₁ all → reduced ≡ cut (m₂ .palette)
+        → outcome q 0 m₃ ≡ handInCall tileSize K m₂ reduced
+        → length (m₃ .order) ≡ length (m₁ .order)
+        → length (m₂ .hints) ≡ length (m₁ .hints) → length (m₃ .hints) ≡ length (m₂ .hints)
+        → length (m₂ .palette) ≡ length (m₁ .palette) → length (m₃ .palette) ≡ length (m₂ .palette)
+        → length (m₃ .least) ≡ length (m₁ .least)
+        → length (m₂ .words) ≡ length (m₁ .words) → length (m₃ .words) ≡ length (m₂ .words)
+        → Turned (i + 1) m₀ m₃
+    one-more d r q m₂ m₃ reduced e c f o h₂ h₃ p₂ p₃ b w₂ w₃ = record {
+      few = omega arith;
+      is = turn-joined d r q m₁ m₂ m₃ reduced e c f ∙ ap (turnCall K) (T .is) ∙ (unfold turnCalls in ap (λ (k : ℕ). turnCalls K k m₀) (sym (add-one i)));
+      order = o ∙ T .order;
+      hints = h₃ ∙ h₂ ∙ T .hints;
+      palette = p₃ ∙ p₂ ∙ T .palette;
+      least = b ∙ T .least;
+      words = w₃ ∙ w₂ ∙ T .words;
+    }
 
     -- its number fits, and is nearer to three
     pub next-fits : Fits w64 (i + 1)
