@@ -9,7 +9,7 @@ use Rattle.train.proofs.trained.put_job.Statement.{statement}
 use Rattle.train.proofs.trained.put_job.Tie as tie
 
 samples-room-requires : tie.Need-samples-room-requires
-samples-room-requires c κs = search needs
+samples-room-requires c κs = tt
 
 slice-aggregate-put-samples : tie.Need-slice-aggregate-put-samples
 slice-aggregate-put-samples c = search needs
@@ -18,13 +18,13 @@ put-samples-requires : tie.Need-put-samples-requires
 put-samples-requires c κs = (countable _ _ (c .before .before .before .before .before .before .before .pre .0 .passed), omega (arith, c .before .samples-room .ensures))
 
 refusal-requires : tie.Need-refusal-requires
-refusal-requires c κs = search needs
+refusal-requires c κs = tt
 
 put-refused-requires : tie.Need-put-refused-requires
 put-refused-requires c κs = search needs
 
 same-length : tie.Need-same-length
-same-length c = search needs
+same-length c = c .before .before .put-refused .kept .0
 
 returns : tie.Need-returns
 returns c = (refused-text _ _ (c .before .before .before .before .before .before .before .before .before .before .before .before .before .before .before .pre .0) _ _ _ (c .before .before .before .before .before .before .before .put-samples .ensures) _ _ _ _ (c .before .before .before .before .before .refusal .ensures) (c .before .before .before .before .if1 .taken) (c .before .before .put-refused .ensures), omega (arith, c .before .before .put-refused .ensures .place, refused-most (c .before .before .before .before .before .refusal .result)))
@@ -42,10 +42,10 @@ put-sheet-requires : tie.Need-put-sheet-requires
 put-sheet-requires c κs = (trained-writable _ _ (c .before .before .before .before .before .before .before .before .before .before .before .before .before .before .before .before .before .before .pre .0) _ _ _ (c .before .before .before .before .before .before .before .before .before .before .put-samples .ensures) _ (c .before .before .before .before .before .before .before .before .refusal .ensures) (c .before .before .before .before .before .before .before .if1 .left) (omega (arith, c .before .before .before .before .before .before .before .before .before .before .before .before .samples-room .ensures)) _ (c .before .before .before .before .train-palette .ensures), c .before .before .before .before .before .before .before .before .before .before .before .before .before .before .before .before .before .before .pre .1)
 
 same-length-2 : tie.Need-same-length-2
-same-length-2 c = search needs
+same-length-2 c = c .before .before .before .before .before .before .before .train-palette .kept .1 .1 .1 .1 .1 .1 .1 .1 .1 .0
 
 same-length-3 : tie.Need-same-length-3
-same-length-3 c = search needs
+same-length-3 c = c .before .before .put-sheet .kept .1 .1 .1 .1 .1 .1 .1 .1 .0
 
 returns-2 : tie.Need-returns-2
 returns-2 c = (trained-text _ _ (c .before .before .before .before .before .before .before .before .before .before .before .before .before .before .before .before .before .before .before .before .before .pre .0) _ _ _ (c .before .before .before .before .before .before .before .before .before .before .before .before .before .put-samples .ensures) _ (c .before .before .before .before .before .before .before .before .before .before .before .refusal .ensures) (c .before .before .before .before .before .before .before .before .before .before .if1 .left) (omega (arith, c .before .before .before .before .before .before .before .before .before .before .before .before .before .before .before .samples-room .ensures)) _ (c .before .before .before .before .before .before .before .train-palette .ensures) _ _ _ (c .before .before .put-sheet .ensures .0), c .before .before .put-sheet .ensures .1)
