@@ -1,12 +1,15 @@
--- What keeping and judging leave, from what the functions that they call ensure. Assumes nothing.
-use Prim.Native.Nat.{ℕ, _%_, _^_, _<_}
+-- What looking and the stop leave, from what the functions that they call ensure. Assumes nothing.
+use Prim.Native.Nat.{ℕ, _*_, _%_, _^_, _<_}
 use mathlib.Core.Path.{_≡_}
-use mathlib.Core.Bool.{true, false, not}
+use mathlib.Core.Logic.{_≢_}
+use mathlib.Core.Bool.{Bool, true, false, not}
 use mathlib.Core.List.{List, []}
 use native.Mathlib.Omega.{arith}
+use lib.ListN.{length}
 use lib.Dec.{T, ltb, ltb→lt, not-T}
 use lib.Ieee.{Float, binary32, lt, ofBits, toBits, isNan, nanBits}
 use lib.Ieee.Bits.{nanBits-above}
+use borrow.Author.Tests.{eq-eqb, ne-eqb}
 use Rattle.ieee.proofs.Bounds.{within-real}
 use Rattle.mse.proofs.Fine.{mse-error}
 use Rattle.mse.specs.Mse.{mseOf}
@@ -14,22 +17,34 @@ use Rattle.calls.proofs.Limits.{error-bits}
 use Rattle.job.specs.Job.{Job}
 use Rattle.palette_tile.specs.Tiles.{Shown, hintsOf}
 use Rattle.quantizer.specs.Course.{Course}
+use Rattle.quantizer.specs.Sums.{zeros}
 use Rattle.stages.specs.declared.Record.{Record}
 use Rattle.stages.specs.State.{stateWith}
-use Rattle.stages.specs.Stages.{noticed, errorOf, keep, judged}
+use Rattle.stages.specs.Stages.{noticed, errorOf, keep, enterReducing}
+use Rattle.run_keeping.specs.Keeping.{keeps, seen}
 
-module _ (K : Course) (h : List ℕ) (p l : List Float) (r : Record) (e : Float) (ee : e ≡ mseOf (K .job) p (K .job .S) (K .job .C)) (h2 : List ℕ) (eh : h2 ≡ hintsOf (K .job) p (K .job .S) (K .job .C) h (K .job .T)) where
-  pub keep-by : (l2 : List Float) → l2 ≡ p → stateWith [] h2 p l2 (record { generator = r .generator; stage = r .stage; rounds = r .rounds; left = r .left; made = r .made; error = toBits binary32 e }) ≡ keep K (stateWith [] h p l r)
-  unfolding keep noticed errorOf
-  keep-by l2 el = rw (← ee, eh, el)
+module _ (K : Course) (h : List ℕ) (p l : List Float) (r : Record) (round : ℕ) (e : Float) (ee : e ≡ mseOf (K .job) p (K .job .S) (K .job .C)) (h2 : List ℕ) (eh : h2 ≡ hintsOf (K .job) p (K .job .S) (K .job .C) h (K .job .T)) (t : Bool) (kept : t ≡ keeps round e (r .error)) where
+  pub kept-by : t ≡ true → (l2 : List Float) → l2 ≡ p → stateWith [] h2 p l2 (record { generator = r .generator; stage = r .stage; rounds = r .rounds; left = r .left; made = r .made; error = toBits binary32 e }) ≡ seen K round (stateWith [] h p l r)
+  unfolding seen keep noticed errorOf
+  kept-by y l2 el = rw (← ee, ← kept, y, eh, el)
 
-  pub judged-by : lt e (ofBits binary32 (r .error)) ≡ true → (l2 : List Float) → l2 ≡ p → stateWith [] h2 p l2 (record { generator = r .generator; stage = r .stage; rounds = r .rounds; left = r .left; made = r .made; error = toBits binary32 e }) ≡ judged K (stateWith [] h p l r)
-  unfolding judged keep noticed errorOf
-  judged-by t l2 el = rw (← ee, t, eh, el)
+  pub passed-by : t ≡ false → stateWith [] h2 p l r ≡ seen K round (stateWith [] h p l r)
+  unfolding seen keep noticed errorOf
+  passed-by y = rw (← ee, ← kept, y, eh)
 
-  pub passed-by : lt e (ofBits binary32 (r .error)) ≡ false → stateWith [] h2 p l r ≡ judged K (stateWith [] h p l r)
-  unfolding judged keep noticed errorOf
-  passed-by t = rw (← ee, t, eh)
+pub reduced-by : (K : Course) (p l : List Float) (r : Record) → length l ≡ 3 * (K .job .S * K .job .C) → (p2 l2 : List Float) → p2 ≡ l → l2 ≡ zeros (length l)
+    → stateWith [] [] p2 l2 (record { generator = r .generator; stage = 3; rounds = 0; left = 0; made = r .made; error = 0 }) ≡ enterReducing K (stateWith [] [] p l r)
+unfolding enterReducing
+reduced-by K p l r e p2 l2 ep el = rw (ep, el, e)
+
+-- ---- the test
+pub kept-first : (round : ℕ) (e : Float) (error : ℕ) → round ≡ 0 → true ≡ keeps round e error
+unfolding keeps
+kept-first round e error z = rw (eq-eqb round 0 z)
+
+pub kept-later : (round : ℕ) (e : Float) (error : ℕ) → round ≢ 0 → lt e (ofBits binary32 error) ≡ keeps round e error
+unfolding keeps
+kept-later round e error z = rw (ne-eqb round 0 z)
 
 -- ---- an error is a number, and so is what bits below infinity's give
 pub error-real : (J : Job) (pal : List Float) (n have : ℕ) → Shown J pal n have → (e : Float) → e ≡ mseOf J pal n have → T (not (isNan e))

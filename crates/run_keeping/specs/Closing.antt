@@ -1,6 +1,7 @@
 -- What the closing and the opening of a round ask of the lent memory. Definitions only. Assumes nothing.
-use Prim.Native.Nat.{ℕ, _*_, _≤_, _<_}
+use Prim.Native.Nat.{ℕ, _*_, _<_}
 use mathlib.Core.Path.{_≡_}
+use mathlib.Core.Logic.{_≢_}
 use mathlib.Core.List.{List}
 use lib.Ieee.{Float}
 use lib.ListN.{length}
@@ -18,11 +19,10 @@ pub record Lent (J : Job) (hints : List ℕ) (palette least : List Float) : Type
   pub whole : Whole J hints palette
   pub room : length least ≡ 3 * (J .S * J .C)
 
--- and a record with an error, and few rounds finished
-pub record Judging (J : Job) (hints : List ℕ) (palette least : List Float) (r : Record) : Type 0 where
+-- and, past the first round, a record with an error
+pub record Judging (J : Job) (hints : List ℕ) (palette least : List Float) (round : ℕ) (r : Record) : Type 0 where
   pub lent : Lent J hints palette least
-  pub error : r .error < 0x7f800000
-  pub few : r .rounds ≤ 16
+  pub error : round ≢ 0 → r .error < 0x7f800000
 
 -- both palettes have the job's size
 pub record Ending (s c : ℕ) (palette least : List Float) : Type 0 where

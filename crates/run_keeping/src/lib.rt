@@ -1,58 +1,31 @@
-// The second palette keeps the first one of least error: kept at once, or where its error is below the one kept.
-// The order of the samples is not touched, so it is left out.
+// The second palette keeps the first one of least error: the first of its stage at once, a later one where its error is below the one kept.
+// The stop for reduction gives it back. The order of the samples is not touched, so it is left out.
 use stages::Record;
 ghost use mathlib.Core.Path.{_≡_};
+ghost use mathlib.Core.Logic.{_≢_};
 ghost use mathlib.Core.List.{[]};
+ghost use Prim.Native.Nat.{_<_};
 ghost use Rattle.job.specs.Job.{job};
 ghost use Rattle.quantizer.specs.Course.{course};
 ghost use Rattle.stages.specs.State.{stateWith};
-ghost use Rattle.stages.specs.Stages.{keep, judged};
-ghost use Rattle.run_keeping.specs.Closing.{Lent, Judging};
+ghost use Rattle.stages.specs.Stages.{enterReducing};
+ghost use Rattle.run_record.specs.Sized.{sized};
+ghost use Rattle.run_keeping.specs.Keeping.{keeps, seen};
+ghost use Rattle.run_keeping.specs.Closing.{Judging, Ending};
 
-// The palette is kept, with its error's bits.
-pub fn keep(
-    s: usize,
-    c: usize,
-    t: usize,
-    n: usize,
-    weight: f32,
-    tiles: &[u32],
-    colours: &[f32],
-    counts: &[u32],
-    hints: &mut [u32],
-    palette: &[f32],
-    least: &mut [f32],
-    r: Record,
-) -> Record
-    requires { ⌜ Lent (job s c t weight (now tiles) (now colours) (now counts)) (now hints) (now palette) (now least) ⌝ }
-    ensures { λ x. ⌜ stateWith [] (now (hints .exit)) (now (palette .entry)) (now (least .exit)) x ≡ keep (course (job s c t weight (now (tiles .entry)) (now (colours .entry)) (now (counts .entry))) n []) (stateWith [] (now (hints .entry)) (now (palette .entry)) (now (least .entry)) r) ⌝ }
+// Whether a palette of error `e` is kept in a round, where the one kept has an error of these bits: the first of equal errors stays.
+fn is_kept(round: u64, e: f32, error: u64) -> bool
+    requires { ⌜ (round ≢ 0 → error < 0x7f800000) ⌝ }
+    ensures { λ x. ⌜ x ≡ keeps round e error ⌝ }
 {
-    let e = mse_sum::mse(
-        s,
-        c,
-        t,
-        weight,
-        tiles,
-        colours,
-        counts,
-        palette,
-        s,
-        c,
-        hints,
-    );
-    run_memory::copy(palette, least);
-    Record {
-        generator: r.generator,
-        stage: r.stage,
-        rounds: r.rounds,
-        left: r.left,
-        made: r.made,
-        error: f32::to_bits(e) as u64,
+    if round == 0 {
+        return true;
     }
+    e < f32::from_bits(error as u32)
 }
 
-// The palette is kept where its error is below the one kept: the first of equal errors stays.
-pub fn judge(
+// The palette is seen at the start of a round of replacing: it is kept, with its error's bits, or passed by.
+pub fn look(
     s: usize,
     c: usize,
     t: usize,
@@ -64,10 +37,11 @@ pub fn judge(
     hints: &mut [u32],
     palette: &[f32],
     least: &mut [f32],
+    round: u64,
     r: Record,
 ) -> Record
-    requires { ⌜ Judging (job s c t weight (now tiles) (now colours) (now counts)) (now hints) (now palette) (now least) r ⌝ }
-    ensures { λ x. ⌜ stateWith [] (now (hints .exit)) (now (palette .entry)) (now (least .exit)) x ≡ judged (course (job s c t weight (now (tiles .entry)) (now (colours .entry)) (now (counts .entry))) n []) (stateWith [] (now (hints .entry)) (now (palette .entry)) (now (least .entry)) r) ⌝ }
+    requires { ⌜ Judging (job s c t weight (now tiles) (now colours) (now counts)) (now hints) (now palette) (now least) round r ⌝ }
+    ensures { λ x. ⌜ stateWith [] (now (hints .exit)) (now (palette .entry)) (now (least .exit)) x ≡ seen (course (job s c t weight (now (tiles .entry)) (now (colours .entry)) (now (counts .entry))) n []) round (stateWith [] (now (hints .entry)) (now (palette .entry)) (now (least .entry)) r) ⌝ }
 {
     let e = mse_sum::mse(
         s,
@@ -82,8 +56,7 @@ pub fn judge(
         c,
         hints,
     );
-    let before = f32::from_bits(r.error as u32);
-    if e < before {
+    if is_kept(round, e, r.error) {
         run_memory::copy(palette, least);
         return Record {
             generator: r.generator,
@@ -95,4 +68,28 @@ pub fn judge(
         };
     }
     r
+}
+
+// The stop for reduction: the palette kept is the palette, and the second one is zeroed.
+pub fn enter_reducing(
+    s: usize,
+    c: usize,
+    n: usize,
+    palette: &mut [f32],
+    least: &mut [f32],
+    r: Record,
+) -> Record
+    requires { ⌜ Ending s c (now palette) (now least) ⌝ }
+    ensures { λ x. ⌜ stateWith [] [] (now (palette .exit)) (now (least .exit)) x ≡ enterReducing (sized s c n) (stateWith [] [] (now (palette .entry)) (now (least .entry)) r) ⌝ }
+{
+    run_memory::copy(least, palette);
+    run_memory::zero(least);
+    Record {
+        generator: r.generator,
+        stage: 3,
+        rounds: 0,
+        left: 0,
+        made: r.made,
+        error: 0,
+    }
 }

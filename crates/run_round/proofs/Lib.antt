@@ -1,5 +1,4 @@
-mod ReplacingRounds
-mod GrowingRounds
 mod SeedingRounds
-pub mod Closes
+mod Finishes
+mod Closes
 pub mod Orders

@@ -9,11 +9,11 @@ use Rattle.quantizer.specs.Course.{Course, course}
 use Rattle.quantizer.specs.Seeding.{duplicated, worstOf}
 use Rattle.stages.specs.declared.Record.{Record}
 use Rattle.run_record.specs.Sized.{sized}
-use Rattle.stages.specs.State.{State, stateWith}
+use Rattle.stages.specs.State.{State, stateWith, at}
 use Rattle.stages.specs.Stages.{noticed, openSeeding, openGrowing, openReplacing, errorOf, keep, judged, enterReplacing, enterGrowing, enterReducing, closeSeeding, closeGrowing, closeReplacing}
 
 -- the state with another order
-abbrev ordered : List ℕ → State → State
+abbrev pub ordered : List ℕ → State → State
 ordered o s =
     record { order = o; hints = s .hints; palette = s .palette; least = s .least; generator = s .generator; stage = s .stage; rounds = s .rounds; left = s .left; made = s .made; error = s .error }
 
@@ -64,22 +64,28 @@ module _ (K : Course) (s : State) where
   unfolding enterGrowing openGrowing enterReplacing openReplacing keep noticed errorOf
   entry-same = refl
 
-module _ (K : Course) (o h : List ℕ) (p l : List Float) (r : Record) (h2 : List ℕ) (p2 l2 : List Float) (r2 : Record) where
-  pub seeding-any : stateWith [] h2 p2 l2 r2 ≡ closeSeeding (course (K .job) (K .n) []) (stateWith [] h p l r) → stateWith o h2 p2 l2 r2 ≡ closeSeeding K (stateWith o h p l r)
-  seeding-any e = ap (ordered o) (e ∙ seeding-same K (stateWith [] h p l r)) ∙ seeding-ordered K o (stateWith [] h p l r)
+module _ (K : Course) (s x : State) (same : x .order ≡ s .order) where
+  back : ordered (s .order) (ordered [] x) ≡ x
+  back = ap (λ (o : List ℕ). ordered o x) (sym same)
 
-  pub growing-any : stateWith [] h2 p2 l2 r2 ≡ closeGrowing (course (K .job) (K .n) []) (stateWith [] h p l r) → stateWith o h2 p2 l2 r2 ≡ closeGrowing K (stateWith o h p l r)
-  growing-any e = ap (ordered o) (e ∙ growing-same K (stateWith [] h p l r)) ∙ growing-ordered K o (stateWith [] h p l r)
+  pub seeding-any : ordered [] x ≡ closeSeeding (course (K .job) (K .n) []) (ordered [] s) → x ≡ closeSeeding K s
+  seeding-any e = sym back ∙ ap (ordered (s .order)) (e ∙ seeding-same K (ordered [] s)) ∙ seeding-ordered K (s .order) (ordered [] s)
 
-  pub replacing-any : stateWith [] h2 p2 l2 r2 ≡ closeReplacing (course (K .job) (K .n) []) (stateWith [] h p l r) → stateWith o h2 p2 l2 r2 ≡ closeReplacing K (stateWith o h p l r)
-  replacing-any e = ap (ordered o) (e ∙ replacing-same K (stateWith [] h p l r)) ∙ replacing-ordered K o (stateWith [] h p l r)
+  pub growing-any : ordered [] x ≡ closeGrowing (course (K .job) (K .n) []) (ordered [] s) → x ≡ closeGrowing K s
+  growing-any e = sym back ∙ ap (ordered (s .order)) (e ∙ growing-same K (ordered [] s)) ∙ growing-ordered K (s .order) (ordered [] s)
+
+  pub replacing-any : ordered [] x ≡ closeReplacing (course (K .job) (K .n) []) (ordered [] s) → x ≡ closeReplacing K s
+  replacing-any e = sym back ∙ ap (ordered (s .order)) (e ∙ replacing-same K (ordered [] s)) ∙ replacing-ordered K (s .order) (ordered [] s)
+
+  pub final-any : ordered [] x ≡ at (ordered [] s) 5 0 0 → x ≡ at s 5 0 0
+  final-any e = sym back ∙ ap (ordered (s .order)) e
 
   -- a run's first round
-  pub entry-any : stateWith [] h2 p2 l2 r2 ≡ enterGrowing (course (K .job) (K .n) []) (stateWith [] h p l r) → stateWith o h2 p2 l2 r2 ≡ enterGrowing K (stateWith o h p l r)
-  entry-any e = ap (ordered o) (e ∙ entry-same K (stateWith [] h p l r)) ∙ entry-ordered K o (stateWith [] h p l r)
+  pub entry-any : ordered [] x ≡ enterGrowing (course (K .job) (K .n) []) (ordered [] s) → x ≡ enterGrowing K s
+  entry-any e = sym back ∙ ap (ordered (s .order)) (e ∙ entry-same K (ordered [] s)) ∙ entry-ordered K (s .order) (ordered [] s)
 
-  pub open-any : (round from : ℕ) → stateWith [] [] p2 [] r2 ≡ openSeeding (sized (K .job .S) (K .job .C) (K .n)) round from (stateWith [] [] p [] r)
-      → stateWith o h p2 l r2 ≡ openSeeding K round from (stateWith o h p l r)
-  unfolding openSeeding duplicated
-  open-any round from e =
-      ap (λ (s : State). record { order = o; hints = h; palette = s .palette; least = l; generator = s .generator; stage = s .stage; rounds = s .rounds; left = s .left; made = s .made; error = s .error }) e
+pub open-any : (K : Course) (o h : List ℕ) (p l : List Float) (r : Record) (p2 : List Float) (r2 : Record) (round from : ℕ)
+    → stateWith [] [] p2 [] r2 ≡ openSeeding (sized (K .job .S) (K .job .C) (K .n)) round from (stateWith [] [] p [] r) → stateWith o h p2 l r2 ≡ openSeeding K round from (stateWith o h p l r)
+unfolding openSeeding duplicated
+open-any K o h p l r p2 r2 round from e =
+    ap (λ (s : State). record { order = o; hints = h; palette = s .palette; least = l; generator = s .generator; stage = s .stage; rounds = s .rounds; left = s .left; made = s .made; error = s .error }) e

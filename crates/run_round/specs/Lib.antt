@@ -1,3 +1,2 @@
-pub mod Grows
 pub mod Seeds
 pub mod Settles

@@ -1,13 +1,18 @@
 -- What the closing of a round and the settling of a run ask of its state. Definitions only. Assumes nothing.
-use Prim.Native.Nat.{ℕ, _≤_}
+use Prim.Native.Nat.{ℕ, _+_, _≤_, _<_}
 use mathlib.Core.Path.{_≡_}
-use mathlib.Core.Bool.{Bool, true}
+use mathlib.Core.Bool.{cond}
+use mathlib.Core.List.{List}
+use lib.Dec.{eqb}
+use lib.Ieee.{Float}
+use Rattle.job.specs.Job.{Job}
 use Rattle.job.specs.Gives.{Ready}
 use Rattle.quantizer.specs.Course.{Course}
 use Rattle.stages.specs.State.{State}
-use Rattle.stages.specs.Stages.{due}
+use Rattle.stages.specs.declared.Record.{Record}
 use Rattle.calls.specs.Place.{Placed}
 use Rattle.calls.specs.Sound.{Sound}
+use Rattle.run_keeping.specs.Closing.{Lent}
 
 -- a job that passed, at a place of its record, with sound memory
 pub record Standing (K : Course) (s : State) : Type 0 where
@@ -17,7 +22,19 @@ pub record Standing (K : Course) (s : State) : Type 0 where
   pub place : Placed K s
   pub sound : Sound K s
 
--- and a round to be closed
-pub record Closing (K : Course) (s : State) : Type 0 where
-  pub standing : Standing K s
-  pub over : due K s ≡ true
+-- which round is to be closed
+pub data Ripe (J : Job) (r : Record) : Type 0 where
+  seeds : r .stage ≡ 0 → r .rounds + 2 ≤ J .S → Ripe J r
+  grows : r .stage ≡ 1 → r .rounds + 2 ≤ J .C → Ripe J r
+  replaces : r .stage ≡ 2 → r .error < 0x7f800000 → Ripe J r
+  finishes : r .stage ≡ 4 → Ripe J r
+
+-- a round to be closed, of few
+pub record Closing (J : Job) (hints : List ℕ) (palette least : List Float) (r : Record) : Type 0 where
+  pub lent : Lent J hints palette least
+  pub ripe : Ripe J r
+  pub few : r .rounds ≤ 16
+
+-- the round of growing or of replacing, counted in one, that follows a round
+unfoldable pub turnAfter : ℕ → Record → ℕ
+turnAfter c r = cond (eqb (r .stage) 0) 0 (cond (eqb (r .stage) 1) (r .rounds + 1) (c + r .rounds))

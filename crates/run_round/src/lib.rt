@@ -1,16 +1,30 @@
 // What closes a round, whatever its stage, and the settling of a run: all that needs no draw.
-// The order and the samples are not read; they are there to be named in what is promised.
-pub mod growing;
-mod replacing;
+// The order and the samples are not read: a round's end leaves them out, and settling names them in what it promises.
 pub mod seeding;
 
 use stages::Record;
 ghost use mathlib.Core.Path.{_≡_};
+ghost use mathlib.Core.List.{[]};
+ghost use Prim.Native.Nat.{_≤_};
 ghost use Rattle.job.specs.Job.{job};
 ghost use Rattle.quantizer.specs.Course.{course};
 ghost use Rattle.stages.specs.State.{stateWith};
 ghost use Rattle.stages.specs.Stages.{finishRound, settle};
-ghost use Rattle.run_round.specs.Settles.{Standing, Closing};
+ghost use Rattle.run_round.specs.Settles.{Standing, Closing, turnAfter};
+
+// The next round of growing or of replacing, counted in one, after a round that is closed.
+fn turn(c: usize, r: Record) -> u64
+    requires { ⌜ (c ≤ 16) × (r .rounds ≤ 16) ⌝ }
+    ensures { λ x. ⌜ x ≡ turnAfter c r ⌝ }
+{
+    if r.stage == 0 {
+        return 0;
+    }
+    if r.stage == 1 {
+        return r.rounds + 1;
+    }
+    c as u64 + r.rounds
+}
 
 // A round's end, by its stage.
 fn finish_round(
@@ -22,65 +36,36 @@ fn finish_round(
     tiles: &[u32],
     colours: &[f32],
     counts: &[u32],
-    samples: &[u32],
-    order: &[u32],
     hints: &mut [u32],
     palette: &mut [f32],
     least: &mut [f32],
     r: Record,
 ) -> Record
-    requires { ⌜ Closing (course (job s c t weight (now tiles) (now colours) (now counts)) n (now samples)) (stateWith (now order) (now hints) (now palette) (now least) r) ⌝ }
-    ensures { λ x. ⌜ stateWith (now (order .entry)) (now (hints .exit)) (now (palette .exit)) (now (least .exit)) x ≡ finishRound (course (job s c t weight (now (tiles .entry)) (now (colours .entry)) (now (counts .entry))) n (now (samples .entry))) (stateWith (now (order .entry)) (now (hints .entry)) (now (palette .entry)) (now (least .entry)) r) ⌝ }
+    requires { ⌜ Closing (job s c t weight (now tiles) (now colours) (now counts)) (now hints) (now palette) (now least) r ⌝ }
+    ensures { λ x. ⌜ stateWith [] (now (hints .exit)) (now (palette .exit)) (now (least .exit)) x ≡ finishRound (course (job s c t weight (now (tiles .entry)) (now (colours .entry)) (now (counts .entry))) n []) (stateWith [] (now (hints .entry)) (now (palette .entry)) (now (least .entry)) r) ⌝ }
 {
-    if r.stage == 0 {
-        return seeding::close_seeding(
-            s,
-            c,
-            t,
-            n,
-            weight,
-            tiles,
-            colours,
-            counts,
-            hints,
-            palette,
-            least,
-            r,
-        );
+    let from = seeding::seek(s, c, t, weight, tiles, colours, counts, palette, hints, r);
+    if seeding::seeds(s, r) {
+        return seeding::open_seeding(s, c, n, palette, r.rounds + 1, from, r);
     }
-    if r.stage == 1 {
-        return growing::close_growing(
-            s,
-            c,
-            t,
-            n,
-            weight,
-            tiles,
-            colours,
-            counts,
-            hints,
-            palette,
-            least,
-            r,
-        );
+    if r.stage == 4 {
+        return run_next::end_final(r);
     }
-    if r.stage == 2 {
-        return replacing::close_replacing(
-            s,
-            c,
-            t,
-            n,
-            weight,
-            tiles,
-            colours,
-            counts,
-            hints,
-            palette,
-            least,
-            r,
-        );
-    }
-    run_next::end_final(r)
+    run_growing::go_on(
+        s,
+        c,
+        t,
+        n,
+        weight,
+        tiles,
+        colours,
+        counts,
+        hints,
+        palette,
+        least,
+        turn(c, r),
+        r,
+    )
 }
 
 // Rounds are closed while one is due.
@@ -114,8 +99,6 @@ pub fn settle(
             tiles,
             colours,
             counts,
-            samples,
-            order,
             hints,
             palette,
             least,

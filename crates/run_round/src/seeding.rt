@@ -1,16 +1,16 @@
-// What closes a round of seeding and opens the next: the subpalette of greatest summed distance is duplicated, until all are there.
+// What opens a round of seeding: the subpalette of greatest summed distance is duplicated, until all are there.
 // The order of the samples is not touched, so it is left out.
 use stages::Record;
 ghost use mathlib.Core.Path.{_≡_};
-ghost use mathlib.Core.List.{List, []};
-ghost use Prim.Native.Nat.{ℕ, _+_, _≤_, _<_};
-ghost use lib.ListN.{length};
+ghost use mathlib.Core.Bool.{_&&_};
+ghost use mathlib.Core.List.{[]};
+ghost use Prim.Native.Nat.{_+_, _≤_};
+ghost use lib.Dec.{eqb, ltb};
 ghost use Rattle.job.specs.Job.{job};
-ghost use Rattle.quantizer.specs.Course.{course};
 ghost use Rattle.stages.specs.State.{stateWith};
-ghost use Rattle.stages.specs.Stages.{openSeeding, closeSeeding};
+ghost use Rattle.stages.specs.Stages.{openSeeding};
 ghost use Rattle.run_record.specs.Sized.{sized};
-ghost use Rattle.run_round.specs.Seeds.{Doubling, Seeded};
+ghost use Rattle.run_round.specs.Seeds.{Doubling, Seeking, Sought};
 
 // A subpalette more, a copy of subpalette `from`, and a round of draws begins.
 pub fn open_seeding(
@@ -30,28 +30,27 @@ pub fn open_seeding(
     run_next::open_round(r, 0, round, n)
 }
 
-// A round's end: the next subpalette, or the next stage. The hints are written in either case.
-pub fn close_seeding(
+// In a round of seeding the subpalette to copy next, that of greatest summed distance; the hints are written. In other rounds nothing is done.
+pub fn seek(
     s: usize,
     c: usize,
     t: usize,
-    n: usize,
     weight: f32,
     tiles: &[u32],
     colours: &[f32],
     counts: &[u32],
+    palette: &[f32],
     hints: &mut [u32],
-    palette: &mut [f32],
-    least: &mut [f32],
     r: Record,
-) -> Record
-    requires { ⌜ Seeded (job s c t weight (now tiles) (now colours) (now counts)) (now hints) (now palette) (now least) r ⌝ }
-    ensures { λ x. ⌜ stateWith [] (now (hints .exit)) (now (palette .exit)) (now (least .exit)) x ≡ closeSeeding (course (job s c t weight (now (tiles .entry)) (now (colours .entry)) (now (counts .entry))) n []) (stateWith [] (now (hints .entry)) (now (palette .entry)) (now (least .entry)) r) ⌝ }
+) -> usize
+    requires { ⌜ Seeking (job s c t weight (now tiles) (now colours) (now counts)) (now hints) (now palette) r ⌝ }
+    ensures { λ x. ⌜ Sought (job s c t weight (now (tiles .entry)) (now (colours .entry)) (now (counts .entry))) (now (hints .entry)) (now (palette .entry)) r x (now (hints .exit)) ⌝ }
 {
-    let next = r.rounds + 1;
-    let last = s as u64 - 1;
+    if r.stage != 0 {
+        return 0;
+    }
     let subs = r.rounds as usize + 2;
-    let from = quantizer_worst::worst(
+    quantizer_worst::worst(
         s,
         c,
         t,
@@ -62,22 +61,16 @@ pub fn close_seeding(
         palette,
         subs,
         hints,
-    );
-    if next < last {
-        return open_seeding(s, c, n, palette, next, from, r);
-    }
-    crate::growing::enter_growing(
-        s,
-        c,
-        t,
-        n,
-        weight,
-        tiles,
-        colours,
-        counts,
-        hints,
-        palette,
-        least,
-        r,
     )
+}
+
+// Whether a round of seeding is followed by another.
+pub fn seeds(s: usize, r: Record) -> bool
+    requires { ⌜ r .rounds ≤ 16 ⌝ }
+    ensures { λ x. ⌜ x ≡ (eqb (r .stage) 0 && ltb (r .rounds + 2) s) ⌝ }
+{
+    if r.stage != 0 {
+        return false;
+    }
+    r.rounds + 2 < s as u64
 }

@@ -30,7 +30,7 @@ fn open_first(
     if 1 < s {
         return run_round::seeding::open_seeding(s, c, n, palette, 0, 0, r);
     }
-    run_round::growing::enter_growing(
+    run_growing::go_on(
         s,
         c,
         t,
@@ -42,6 +42,7 @@ fn open_first(
         hints,
         palette,
         least,
+        0,
         r,
     )
 }

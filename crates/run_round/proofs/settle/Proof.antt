@@ -1,5 +1,5 @@
 -- `run_round::settle` meets its contract. The invariant: what settling gives is still to come, from a state that can be closed. Assumes nothing.
-use mathlib.Core.Path.{sym, _∙_}
+use mathlib.Core.Path.{refl, sym, _∙_}
 use Rattle.job.specs.Job.{job}
 use Rattle.quantizer.specs.Course.{course}
 use Rattle.stages.specs.State.{stateWith}
@@ -26,10 +26,10 @@ finish-round-requires : tie.Need-finish-round-requires Inv-loop μ-loop
 finish-round-requires c κs = to-close _ _ (c .before .before .before .before .before .loop .inv .standing) (sym (c .before .before .before .before .is-due .ensures) ∙ c .before .before .before .if1 .taken)
 
 loop-less : tie.Need-loop-less Inv-loop μ-loop
-loop-less c = fewer _ _ (c .before .before .before .before .before .before .before .before .before .before .before .before .loop .inv .standing) (sym (c .before .before .before .before .before .before .before .before .before .before .before .is-due .ensures) ∙ c .before .before .before .before .before .before .before .before .before .before .if1 .taken) _ (c .before .before .before .before .before .before .finish-round .ensures)
+loop-less c = fewer _ _ (c .before .before .before .before .before .before .before .before .before .before .before .before .loop .inv .standing) (sym (c .before .before .before .before .before .before .before .before .before .before .before .is-due .ensures) ∙ c .before .before .before .before .before .before .before .before .before .before .if1 .taken) _ refl (c .before .before .before .before .before .before .finish-round .ensures)
 
 loop-again : tie.Need-loop-again Inv-loop μ-loop
-loop-again c = again _ _ _ (c .before .before .before .before .before .before .before .before .before .before .before .before .loop .inv) (sym (c .before .before .before .before .before .before .before .before .before .before .before .is-due .ensures) ∙ c .before .before .before .before .before .before .before .before .before .before .if1 .taken) _ (c .before .before .before .before .before .before .finish-round .ensures)
+loop-again c = again _ _ _ (c .before .before .before .before .before .before .before .before .before .before .before .before .loop .inv) (sym (c .before .before .before .before .before .before .before .before .before .before .before .is-due .ensures) ∙ c .before .before .before .before .before .before .before .before .before .before .if1 .taken) _ refl (c .before .before .before .before .before .before .finish-round .ensures)
 
 same-length : tie.Need-same-length Inv-loop μ-loop
 same-length c = c .before .before .loop .inv .standing .sound .hints ∙ sym (c .before .before .before .before .before .before .before .before .before .before .before .pre .sound .hints)

@@ -13,8 +13,8 @@ same-length c = search needs
 returns : tie.Need-returns
 returns c = opened _ _ _ _ _ (c .before .before .before .before .before .before .before .before .before .before .before .before .before .args .r) (c .before .before .before .before .if1 .taken) _ _ (c .before .before .open-seeding .ensures)
 
-enter-growing-requires : tie.Need-enter-growing-requires
-enter-growing-requires c κs = can-enter _ _ _ _ _ (c .before .before .before .before .before .before .before .before .before .before .before .before .args .r) (c .before .before .before .before .before .before .before .before .before .before .before .before .pre)
+go-on-requires : tie.Need-go-on-requires
+go-on-requires c κs = can-enter _ _ _ _ _ (c .before .before .before .before .before .before .before .before .before .before .before .before .args .r) (c .before .before .before .before .before .before .before .before .before .before .before .before .pre)
 
 same-length-2 : tie.Need-same-length-2
 same-length-2 c = search needs
@@ -26,7 +26,7 @@ same-length-4 : tie.Need-same-length-4
 same-length-4 c = search needs
 
 returns-2 : tie.Need-returns-2
-returns-2 c = entered _ _ _ _ _ (c .before .before .before .before .before .before .before .before .before .before .before .before .before .before .before .before .before .before .before .args .r) (c .before .before .before .before .before .before .before .before .before .before .if1 .left) _ _ _ _ (c .before .before .before .before .before .before .enter-growing .ensures)
+returns-2 c = entered _ _ _ _ _ (c .before .before .before .before .before .before .before .before .before .before .before .before .before .before .before .before .before .before .before .args .r) (c .before .before .before .before .before .before .before .before .before .before .before .before .before .before .before .before .before .before .before .pre .passed .ready .sizes .some) (c .before .before .before .before .before .before .before .before .before .before .if1 .left) _ _ _ _ (c .before .before .before .before .before .before .go-on .ensures)
 
 pub open-first-spec : {M : Type 1} → statement M
 open-first-spec =
@@ -35,7 +35,7 @@ open-first-spec =
     open-seeding-requires
     same-length
     returns
-    enter-growing-requires
+    go-on-requires
     same-length-2
     same-length-3
     same-length-4

@@ -1,0 +1,3 @@
+mod ReplacingRounds
+mod GrowingRounds
+pub mod Turns

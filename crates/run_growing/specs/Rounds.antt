@@ -1,0 +1,16 @@
+-- Rounds of growing and of replacing, one after the other. Definitions only. Assumes nothing.
+use Prim.Native.Nat.{ℕ, _-_}
+use mathlib.Core.Bool.{cond}
+use lib.Dec.{ltb}
+use Rattle.quantizer.specs.Course.{Course}
+use Rattle.stages.specs.State.{State}
+use Rattle.stages.specs.Stages.{openGrowing, openReplacing, enterReducing}
+use Rattle.run_keeping.specs.Keeping.{seen}
+
+-- the next round of replacing, or the stop
+unfoldable pub replaceOn : Course → ℕ → State → State
+replaceOn K round s = cond (ltb round 10) (openReplacing K round (seen K round s)) (enterReducing K (seen K round s))
+
+-- the rounds of both stages, counted in one: a round of growing for each colour but the first, then those of replacing
+unfoldable pub goOn : Course → ℕ → State → State
+goOn K turn s = cond (ltb turn (K .job .C - 1)) (openGrowing K turn s) (replaceOn K (turn - (K .job .C - 1)) s)

@@ -1,0 +1,25 @@
+-- `run_keeping::enter_reducing` meets its contract. Assumes nothing.
+use Rattle.run_keeping.proofs.Keeps.{reduced-by}
+use Rattle.run_record.specs.Sized.{sized}
+use borrow.Author.Needs.{needs}
+use Rattle.run_keeping.proofs.enter_reducing.Statement.{statement}
+use Rattle.run_keeping.proofs.enter_reducing.Tie as tie
+
+copy-requires : tie.Need-copy-requires
+copy-requires c κs = search needs
+
+zero-requires : tie.Need-zero-requires
+zero-requires c κs = search needs
+
+same-length : tie.Need-same-length
+same-length c = search needs
+
+same-length-2 : tie.Need-same-length-2
+same-length-2 c = search needs
+
+returns : tie.Need-returns
+returns c = reduced-by (sized _ _ _) _ _ (c .before .before .before .before .before .before .before .before .before .before .before .args .r) (c .before .before .before .before .before .before .before .before .before .before .before .pre .two) _ _ (c .before .before .before .before .before .before .copy .ensures) (c .before .before .zero .ensures)
+
+pub enter-reducing-spec : {M : Type 1} → statement M
+enter-reducing-spec =
+    tie.close (tie.spec copy-requires zero-requires same-length same-length-2 returns)
