@@ -1,4 +1,5 @@
 mod SeedingRounds
+mod FirstRound
 mod Finishes
 mod Closes
 pub mod Orders

@@ -4,13 +4,12 @@ use mathlib.Core.Path.{_≡_, refl, sym, ap, _∙_}
 use mathlib.Core.Bool.{Bool, true, false, cond}
 use mathlib.Core.List.{List, []}
 use lib.Dec.{ltb}
-use lib.Ieee.{Float, binary32, lt, ofBits}
+use lib.Ieee.{binary32, lt, ofBits}
 use Rattle.quantizer.specs.Course.{Course, course}
-use Rattle.quantizer.specs.Seeding.{duplicated, worstOf}
-use Rattle.stages.specs.declared.Record.{Record}
-use Rattle.run_record.specs.Sized.{sized}
-use Rattle.stages.specs.State.{State, stateWith, at}
+use Rattle.quantizer.specs.Seeding.{worstOf}
+use Rattle.stages.specs.State.{State, at}
 use Rattle.stages.specs.Stages.{noticed, openSeeding, openGrowing, openReplacing, errorOf, keep, judged, enterReplacing, enterGrowing, enterReducing, closeSeeding, closeGrowing, closeReplacing}
+use Rattle.run_round.specs.First.{firstRound}
 
 -- the state with another order
 abbrev pub ordered : List ℕ → State → State
@@ -47,6 +46,12 @@ seeding-ordered K o s =
     both-sides (ordered o) (ltb (s .rounds + 1) (K .job .S - 1)) x (enterGrowing K (noticed K (s .rounds + 2) 1 s))
     ∙ ap (cond (ltb (s .rounds + 1) (K .job .S - 1)) (ordered o x)) (entry-ordered K o (noticed K (s .rounds + 2) 1 s))
 
+first-ordered : (K : Course) (o : List ℕ) (s : State) → ordered o (firstRound K s) ≡ firstRound K (ordered o s)
+unfolding firstRound openSeeding
+first-ordered K o s =
+    both-sides (ordered o) (ltb 1 (K .job .S)) (openSeeding K 0 0 s) (enterGrowing K s)
+    ∙ ap (cond (ltb 1 (K .job .S)) (ordered o (openSeeding K 0 0 s))) (entry-ordered K o s)
+
 module _ (K : Course) (s : State) where
   seeding-same : closeSeeding (course (K .job) (K .n) []) s ≡ closeSeeding K s
   unfolding closeSeeding openSeeding noticed enterGrowing openGrowing enterReplacing openReplacing keep errorOf
@@ -60,9 +65,9 @@ module _ (K : Course) (s : State) where
   unfolding closeReplacing openReplacing enterReducing judged keep noticed errorOf
   replacing-same = refl
 
-  entry-same : enterGrowing (course (K .job) (K .n) []) s ≡ enterGrowing K s
-  unfolding enterGrowing openGrowing enterReplacing openReplacing keep noticed errorOf
-  entry-same = refl
+  first-same : firstRound (course (K .job) (K .n) []) s ≡ firstRound K s
+  unfolding firstRound openSeeding enterGrowing openGrowing enterReplacing openReplacing keep noticed errorOf
+  first-same = refl
 
 module _ (K : Course) (s x : State) (same : x .order ≡ s .order) where
   back : ordered (s .order) (ordered [] x) ≡ x
@@ -81,11 +86,5 @@ module _ (K : Course) (s x : State) (same : x .order ≡ s .order) where
   final-any e = sym back ∙ ap (ordered (s .order)) e
 
   -- a run's first round
-  pub entry-any : ordered [] x ≡ enterGrowing (course (K .job) (K .n) []) (ordered [] s) → x ≡ enterGrowing K s
-  entry-any e = sym back ∙ ap (ordered (s .order)) (e ∙ entry-same K (ordered [] s)) ∙ entry-ordered K (s .order) (ordered [] s)
-
-pub open-any : (K : Course) (o h : List ℕ) (p l : List Float) (r : Record) (p2 : List Float) (r2 : Record) (round from : ℕ)
-    → stateWith [] [] p2 [] r2 ≡ openSeeding (sized (K .job .S) (K .job .C) (K .n)) round from (stateWith [] [] p [] r) → stateWith o h p2 l r2 ≡ openSeeding K round from (stateWith o h p l r)
-unfolding openSeeding duplicated
-open-any K o h p l r p2 r2 round from e =
-    ap (λ (s : State). record { order = o; hints = h; palette = s .palette; least = l; generator = s .generator; stage = s .stage; rounds = s .rounds; left = s .left; made = s .made; error = s .error }) e
+  pub first-any : ordered [] x ≡ firstRound (course (K .job) (K .n) []) (ordered [] s) → x ≡ firstRound K s
+  first-any e = sym back ∙ ap (ordered (s .order)) (e ∙ first-same K (ordered [] s)) ∙ first-ordered K (s .order) (ordered [] s)

@@ -1,17 +1,12 @@
--- The first round of a start, and what it asks of the lent memory. Definitions only. Assumes nothing.
+-- What the first round of a start asks of its state. Definitions only. Assumes nothing.
 use Prim.Native.Nat.{ℕ, _≤_}
 use mathlib.Core.Path.{_≡_}
-use mathlib.Core.Bool.{Bool, cond}
-use lib.Dec.{ltb}
+use mathlib.Core.Bool.{Bool}
 use lib.ListN.{length}
 use Rattle.job.specs.Gives.{Sampled}
 use Rattle.quantizer.specs.Course.{Course}
 use Rattle.stages.specs.State.{State}
-use Rattle.stages.specs.Stages.{openSeeding, enterGrowing, fresh}
-
--- the first round: of seeding, or where there is one subpalette, what follows it
-unfoldable pub firstRound : Course → State → State
-firstRound K s = cond (ltb 1 (K .job .S)) (openSeeding K 0 0 s) (enterGrowing K s)
+use Rattle.stages.specs.Stages.{fresh}
 
 -- a course that passed, in the state that a seed gives
 pub record Beginning (K : Course) (s : State) : Type 0 where

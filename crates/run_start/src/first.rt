@@ -5,47 +5,8 @@ ghost use Rattle.job.specs.Job.{job};
 ghost use Rattle.quantizer.specs.Course.{course};
 ghost use Rattle.stages.specs.State.{stateWith};
 ghost use Rattle.stages.specs.Stages.{settle};
-ghost use Rattle.run_start.specs.Starts.{firstRound, Beginning};
-
-// The first round is opened: of seeding, where there is more than one subpalette.
-fn open_first(
-    s: usize,
-    c: usize,
-    t: usize,
-    n: usize,
-    weight: f32,
-    tiles: &[u32],
-    colours: &[f32],
-    counts: &[u32],
-    samples: &[u32],
-    order: &[u32],
-    hints: &mut [u32],
-    palette: &mut [f32],
-    least: &mut [f32],
-    r: Record,
-) -> Record
-    requires { ⌜ Beginning (course (job s c t weight (now tiles) (now colours) (now counts)) n (now samples)) (stateWith (now order) (now hints) (now palette) (now least) r) ⌝ }
-    ensures { λ x. ⌜ stateWith (now (order .entry)) (now (hints .exit)) (now (palette .exit)) (now (least .exit)) x ≡ firstRound (course (job s c t weight (now (tiles .entry)) (now (colours .entry)) (now (counts .entry))) n (now (samples .entry))) (stateWith (now (order .entry)) (now (hints .entry)) (now (palette .entry)) (now (least .entry)) r) ⌝ }
-{
-    if 1 < s {
-        return run_round::seeding::open_seeding(s, c, n, palette, 0, 0, r);
-    }
-    run_growing::go_on(
-        s,
-        c,
-        t,
-        n,
-        weight,
-        tiles,
-        colours,
-        counts,
-        hints,
-        palette,
-        least,
-        0,
-        r,
-    )
-}
+ghost use Rattle.run_round.specs.First.{firstRound};
+ghost use Rattle.run_start.specs.Starts.{Beginning};
 
 // The first round is opened, and all that needs no draw is done.
 pub fn set_out(
@@ -67,7 +28,7 @@ pub fn set_out(
     requires { ⌜ Beginning (course (job s c t weight (now tiles) (now colours) (now counts)) n (now samples)) (stateWith (now order) (now hints) (now palette) (now least) r) ⌝ }
     ensures { λ x. ⌜ stateWith (now (order .entry)) (now (hints .exit)) (now (palette .exit)) (now (least .exit)) x ≡ settle (course (job s c t weight (now (tiles .entry)) (now (colours .entry)) (now (counts .entry))) n (now (samples .entry))) (firstRound (course (job s c t weight (now (tiles .entry)) (now (colours .entry)) (now (counts .entry))) n (now (samples .entry))) (stateWith (now (order .entry)) (now (hints .entry)) (now (palette .entry)) (now (least .entry)) r)) ⌝ }
 {
-    let first = open_first(
+    let first = run_round::first::open_first(
         s,
         c,
         t,
@@ -76,8 +37,6 @@ pub fn set_out(
         tiles,
         colours,
         counts,
-        samples,
-        order,
         hints,
         palette,
         least,

@@ -1,15 +1,15 @@
 -- `first::set_out` meets its contract. Assumes nothing.
-use Rattle.run_start.proofs.Begins.{standing}
-use Rattle.run_start.proofs.FirstRound.{set-on}
+use mathlib.Core.Path.{refl}
+use Rattle.run_start.proofs.FirstRound.{can-open, can-settle, settled}
 use borrow.Author.Needs.{needs}
 use Rattle.run_start.proofs.first.set_out.Statement.{statement}
 use Rattle.run_start.proofs.first.set_out.Tie as tie
 
 open-first-requires : tie.Need-open-first-requires
-open-first-requires c κs = search needs
+open-first-requires c κs = can-open _ _ (c .before .before .before .before .before .before .before .before .before .before .before .pre)
 
 settle-requires : tie.Need-settle-requires
-settle-requires c κs = standing _ _ (c .before .before .before .before .before .before .before .before .before .before .before .before .before .before .before .before .before .before .before .before .before .pre) _ (c .before .before .before .before .before .before .before .before .before .open-first .ensures)
+settle-requires c κs = can-settle _ _ (c .before .before .before .before .before .before .before .before .before .before .before .before .before .before .before .before .before .before .before .before .before .pre) _ refl (c .before .before .before .before .before .before .before .before .before .open-first .ensures)
 
 same-length : tie.Need-same-length
 same-length c = search needs
@@ -21,7 +21,7 @@ same-length-3 : tie.Need-same-length-3
 same-length-3 c = search needs
 
 returns : tie.Need-returns
-returns c = set-on _ _ _ _ (c .before .before .before .before .before .before .settle .ensures) (c .before .before .before .before .before .before .before .before .before .before .before .before .before .before .before .before .open-first .ensures)
+returns c = settled _ _ (c .before .before .before .before .before .before .before .before .before .before .before .before .before .before .before .before .before .before .before .before .before .before .before .before .before .before .before .before .pre) _ refl (c .before .before .before .before .before .before .before .before .before .before .before .before .before .before .before .before .open-first .ensures) _ (c .before .before .before .before .before .before .settle .ensures)
 
 pub set-out-spec : {M : Type 1} → statement M
 set-out-spec =
