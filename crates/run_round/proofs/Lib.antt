@@ -1,5 +1,4 @@
 mod SeedingRounds
-mod FirstRound
 mod Finishes
 mod Closes
 pub mod Orders

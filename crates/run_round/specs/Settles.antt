@@ -1,5 +1,5 @@
 -- What the closing of a round and the settling of a run ask of its state. Definitions only. Assumes nothing.
-use Prim.Native.Nat.{ℕ, _+_, _≤_, _<_}
+use Prim.Native.Nat.{ℕ, _+_, _-_, _≤_, _<_}
 use mathlib.Core.Path.{_≡_}
 use mathlib.Core.Bool.{cond}
 use mathlib.Core.List.{List}
@@ -35,6 +35,6 @@ pub record Closing (J : Job) (hints : List ℕ) (palette least : List Float) (r 
   pub ripe : Ripe J r
   pub few : r .rounds ≤ 16
 
--- the round of growing or of replacing, counted in one, that follows a round
-unfoldable pub turnAfter : ℕ → Record → ℕ
-turnAfter c r = cond (eqb (r .stage) 0) 0 (cond (eqb (r .stage) 1) (r .rounds + 1) (c + r .rounds))
+-- the turn that follows a round
+unfoldable pub turnAfter : ℕ → ℕ → Record → ℕ
+turnAfter s c r = cond (eqb (r .stage) 0) (r .rounds + 1) (cond (eqb (r .stage) 1) (s + r .rounds) (s + c + r .rounds - 1))

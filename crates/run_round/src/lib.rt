@@ -1,6 +1,5 @@
 // What closes a round, whatever its stage, and the settling of a run: all that needs no draw.
 // The order and the samples are not read: a round's end leaves them out, and settling names them in what it promises.
-pub mod first;
 mod seeding;
 
 use stages::Record;
@@ -13,18 +12,18 @@ ghost use Rattle.stages.specs.State.{stateWith};
 ghost use Rattle.stages.specs.Stages.{finishRound, settle};
 ghost use Rattle.run_round.specs.Settles.{Standing, Closing, turnAfter};
 
-// The next round of growing or of replacing, counted in one, after a round that is closed.
-fn turn(c: usize, r: Record) -> u64
-    requires { ⌜ (c ≤ 16) × (r .rounds ≤ 16) ⌝ }
-    ensures { λ x. ⌜ x ≡ turnAfter c r ⌝ }
+// The turn after a round that is closed.
+fn turn_after(s: usize, c: usize, r: Record) -> u64
+    requires { ⌜ (s ≤ 16) × (1 ≤ s) × (c ≤ 16) × (r .rounds ≤ 16) ⌝ }
+    ensures { λ x. ⌜ x ≡ turnAfter s c r ⌝ }
 {
     if r.stage == 0 {
-        return 0;
-    }
-    if r.stage == 1 {
         return r.rounds + 1;
     }
-    c as u64 + r.rounds
+    if r.stage == 1 {
+        return s as u64 + r.rounds;
+    }
+    s as u64 + c as u64 + r.rounds - 1
 }
 
 // A round's end, by its stage.
@@ -46,13 +45,10 @@ fn finish_round(
     ensures { λ x. ⌜ stateWith [] (now (hints .exit)) (now (palette .exit)) (now (least .exit)) x ≡ finishRound (course (job s c t weight (now (tiles .entry)) (now (colours .entry)) (now (counts .entry))) n []) (stateWith [] (now (hints .entry)) (now (palette .entry)) (now (least .entry)) r) ⌝ }
 {
     let from = seeding::seek(s, c, t, weight, tiles, colours, counts, palette, hints, r);
-    if seeding::seeds(s, r) {
-        return seeding::open_seeding(s, c, n, palette, r.rounds + 1, from, r);
-    }
     if r.stage == 4 {
         return run_next::end_final(r);
     }
-    run_growing::go_on(
+    run_turns::go_on(
         s,
         c,
         t,
@@ -64,7 +60,8 @@ fn finish_round(
         hints,
         palette,
         least,
-        turn(c, r),
+        turn_after(s, c, r),
+        from,
         r,
     )
 }

@@ -1,11 +1,15 @@
 -- What the first round and the settling ask of a run's beginning, and what they leave. Assumes nothing.
-use mathlib.Core.Path.{_≡_, refl, ap, _∙_}
+use Prim.Native.Nat.{ℕ, _+_, _-_, _<_}
+use mathlib.Core.Path.{_≡_, ap, _∙_}
 use mathlib.Core.List.{[]}
+use native.Mathlib.Omega.{arith}
 use Rattle.quantizer.specs.Course.{Course, course}
-use Rattle.stages.specs.State.{State}
+use Rattle.stages.specs.State.{State, recordIn}
 use Rattle.stages.specs.Stages.{settle}
 use Rattle.calls.proofs.Sound.{all-shown}
-use Rattle.run_keeping.specs.Closing.{Lent}
+use Rattle.run_turns.specs.Asked.{Going}
+use Rattle.run_turns.specs.Rounds.{goOn}
+use Rattle.run_turns.proofs.Turns.{first-turn}
 use Rattle.run_round.specs.First.{firstRound}
 use Rattle.run_round.specs.Settles.{Standing}
 use Rattle.run_round.proofs.Orders.{ordered, first-any}
@@ -13,20 +17,28 @@ use Rattle.run_start.specs.Starts.{Beginning}
 use Rattle.run_start.proofs.Begins.{sound, standing}
 
 module _ (K : Course) (s : State) (B : Beginning K s) where
-  pub can-open : Lent (K .job) (s .hints) (s .palette) (s .least)
+  pub can-open : Going (K .job) (s .hints) (s .palette) (s .least) 0 0 (recordIn s)
   can-open =
       let A = sound K s B in
       record {
-        whole = record {
-          shown = all-shown (B .size) (B .small) K (B .passed .ready) (s .palette) (A .held);
-          each = B .each;
+        lent = record {
+          whole = record {
+            shown = all-shown (B .size) (B .small) K (B .passed .ready) (s .palette) (A .held);
+            each = B .each;
+          };
+          room = A .room;
         };
-        room = A .room;
+        source = omega (arith, B .passed .ready .sizes .subs);
+        error = λ (past : (K .job .S - 1) + (K .job .C - 1) < 0). absurd (omega arith);
       }
 
-  module _ (x : State) (same : x .order ≡ s .order) (e : ordered [] x ≡ firstRound (course (K .job) (K .n) []) (ordered [] s)) where
+  module _ (x : State) (same : x .order ≡ s .order) (e : ordered [] x ≡ goOn (course (K .job) (K .n) []) 0 0 (ordered [] s)) where
+    opened : x ≡ firstRound K s
+    unfolding firstRound
+    opened = first-any K s x same (e ∙ first-turn (course (K .job) (K .n) []) (ordered [] s) (B .passed .ready .sizes .subs) (B .passed .ready .sizes .some))
+
     pub can-settle : Standing K x
-    can-settle = standing K s B x (first-any K s x same e)
+    can-settle = standing K s B x opened
 
     pub settled : (y : State) → y ≡ settle K x → y ≡ settle K (firstRound K s)
-    settled y f = f ∙ ap (settle K) (first-any K s x same e)
+    settled y f = f ∙ ap (settle K) opened

@@ -28,7 +28,7 @@ pub fn set_out(
     requires { ⌜ Beginning (course (job s c t weight (now tiles) (now colours) (now counts)) n (now samples)) (stateWith (now order) (now hints) (now palette) (now least) r) ⌝ }
     ensures { λ x. ⌜ stateWith (now (order .entry)) (now (hints .exit)) (now (palette .exit)) (now (least .exit)) x ≡ settle (course (job s c t weight (now (tiles .entry)) (now (colours .entry)) (now (counts .entry))) n (now (samples .entry))) (firstRound (course (job s c t weight (now (tiles .entry)) (now (colours .entry)) (now (counts .entry))) n (now (samples .entry))) (stateWith (now (order .entry)) (now (hints .entry)) (now (palette .entry)) (now (least .entry)) r)) ⌝ }
 {
-    let first = run_round::first::open_first(
+    let first = run_turns::go_on(
         s,
         c,
         t,
@@ -40,6 +40,8 @@ pub fn set_out(
         hints,
         palette,
         least,
+        0,
+        0,
         r,
     );
     run_round::settle(

@@ -9,7 +9,7 @@ same-length : tie.Need-same-length
 same-length c = search needs
 
 returns : tie.Need-returns
-returns c = idle _ _ _ (c .before .before .before .before .before .before .before .args .r) _ (c .if1 .taken)
+returns c = idle _ _ _ (c .before .before .before .before .before .before .before .args .r) (c .before .before .before .before .before .before .before .pre .whole) (c .if1 .taken)
 
 add-subs : tie.Need-add-subs
 add-subs c = omega (arith, (c .before .before .before .before .before .before .before .pre .more) (c .if1 .left), (c .before .before .before .before .before .before .before .pre .whole .shown .ready .sizes .few))
@@ -18,7 +18,7 @@ worst-requires : tie.Need-worst-requires
 worst-requires c κs = (shown _ _ _ (c .before .before .before .before .before .before .before .before .args .r) (c .before .before .before .before .before .before .before .before .pre .whole) ((c .before .before .before .before .before .before .before .before .pre .more) (c .before .if1 .left)), (c .before .before .before .before .before .before .before .before .pre .whole .each))
 
 returns-2 : tie.Need-returns-2
-returns-2 c = sought _ _ _ (c .before .before .before .before .before .before .before .before .before .before .before .args .r) _ _ (c .before .before .before .before .if1 .left) (c .before .before .worst .ensures .0) (c .before .before .worst .ensures .1)
+returns-2 c = sought _ _ _ (c .before .before .before .before .before .before .before .before .before .before .before .args .r) (c .before .before .before .before .before .before .before .before .before .before .before .pre .whole) ((c .before .before .before .before .before .before .before .before .before .before .before .pre .more) (c .before .before .before .before .if1 .left)) _ _ (c .before .before .before .before .if1 .left) (c .before .before .worst .ensures .0) (c .before .before .worst .ensures .1)
 
 pub seek-spec : {M : Type 1} → statement M
 seek-spec = tie.close (tie.spec returns add-subs worst-requires same-length returns-2)

@@ -11,7 +11,7 @@ use Rattle.quantizer.specs.Replacing.{replaced, replacedHints}
 use Rattle.stages.specs.declared.Record.{Record}
 use Rattle.stages.specs.State.{State, stateWith, recordIn, at}
 use Rattle.stages.specs.Stages.{openReplacing, enterReducing}
-use Rattle.run_growing.specs.Rounds.{replaceOn}
+use Rattle.run_turns.specs.Rounds.{replaceOn}
 
 pub opened-by : (K : Course) (h : List ℕ) (p : List Float) (r : Record) (round : ℕ) (h2 : List ℕ) (p2 : List Float) → p2 ≡ replaced (K .job) p → h2 ≡ replacedHints (K .job) p h
     → (r2 : Record) → r2 ≡ recordIn (at (stateWith [] [] [] [] r) 2 round (K .n / 10)) → stateWith [] h2 p2 [] r2 ≡ openReplacing K round (stateWith [] h p [] r)

@@ -1,2 +1,2 @@
-pub mod Grows
+pub mod Asked
 pub mod Rounds

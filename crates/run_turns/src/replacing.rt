@@ -8,7 +8,7 @@ ghost use Rattle.quantizer.specs.Course.{course};
 ghost use Rattle.stages.specs.State.{stateWith};
 ghost use Rattle.stages.specs.Stages.{openReplacing};
 ghost use Rattle.run_keeping.specs.Closing.{Whole, Judging};
-ghost use Rattle.run_growing.specs.Rounds.{replaceOn};
+ghost use Rattle.run_turns.specs.Rounds.{replaceOn};
 
 // The weakest gives way, and a round of draws begins.
 fn open_replacing(

@@ -1,9 +1,9 @@
--- `seeding::open_seeding` meets its contract. Assumes nothing.
+-- `run_turns::open_seeding` meets its contract. Assumes nothing.
 use Rattle.run_record.specs.Sized.{sized}
-use Rattle.run_round.proofs.SeedingRounds.{rows, opened-by}
+use Rattle.run_turns.proofs.SeedingRounds.{rows, opened-by}
 use borrow.Author.Needs.{needs}
-use Rattle.run_round.proofs.seeding.open_seeding.Statement.{statement}
-use Rattle.run_round.proofs.seeding.open_seeding.Tie as tie
+use Rattle.run_turns.proofs.open_seeding.Statement.{statement}
+use Rattle.run_turns.proofs.open_seeding.Tie as tie
 
 add-have : tie.Need-add-have
 add-have c = search needs

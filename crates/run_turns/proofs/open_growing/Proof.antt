@@ -1,8 +1,8 @@
--- `run_growing::open_growing` meets its contract. Assumes nothing.
-use Rattle.run_growing.proofs.GrowingRounds.{opened-by}
+-- `run_turns::open_growing` meets its contract. Assumes nothing.
+use Rattle.run_turns.proofs.GrowingRounds.{opened-by}
 use borrow.Author.Needs.{needs}
-use Rattle.run_growing.proofs.open_growing.Statement.{statement}
-use Rattle.run_growing.proofs.open_growing.Tie as tie
+use Rattle.run_turns.proofs.open_growing.Statement.{statement}
+use Rattle.run_turns.proofs.open_growing.Tie as tie
 
 add-have : tie.Need-add-have
 add-have c = search needs

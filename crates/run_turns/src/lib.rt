@@ -1,4 +1,5 @@
-// Rounds of growing, where every subpalette gets a colour more, until it has all of its own; then rounds of replacing.
+// The rounds of a run up to the stop for reduction, counted in one: of seeding, until all subpalettes are there; of growing, where each gets
+// a colour more, until it has all of its own; of replacing.
 // The order of the samples is not touched, so it is left out.
 mod replacing;
 
@@ -8,9 +9,28 @@ ghost use mathlib.Core.List.{[]};
 ghost use Rattle.job.specs.Job.{job};
 ghost use Rattle.quantizer.specs.Course.{course};
 ghost use Rattle.stages.specs.State.{stateWith};
-ghost use Rattle.stages.specs.Stages.{openGrowing};
-ghost use Rattle.run_growing.specs.Grows.{Opening, Going};
-ghost use Rattle.run_growing.specs.Rounds.{goOn};
+ghost use Rattle.stages.specs.Stages.{openSeeding, openGrowing};
+ghost use Rattle.run_record.specs.Sized.{sized};
+ghost use Rattle.run_turns.specs.Asked.{Doubling, Opening, Going};
+ghost use Rattle.run_turns.specs.Rounds.{goOn};
+
+// A subpalette more, a copy of subpalette `from`, and a round of draws begins.
+fn open_seeding(
+    s: usize,
+    c: usize,
+    n: usize,
+    palette: &mut [f32],
+    round: u64,
+    from: usize,
+    r: Record,
+) -> Record
+    requires { ⌜ Doubling s c (now palette) round from ⌝ }
+    ensures { λ x. ⌜ stateWith [] [] (now (palette .exit)) [] x ≡ openSeeding (sized s c n) round from (stateWith [] [] (now (palette .entry)) [] r) ⌝ }
+{
+    let have = round as usize + 1;
+    palette_copy::duplicate_palette(palette, c, 1, have, from);
+    run_next::open_round(r, 0, round, n)
+}
 
 // A colour more in each subpalette, and a round of draws begins.
 fn open_growing(
@@ -46,7 +66,7 @@ fn open_growing(
     run_next::open_round(r, 1, round, n)
 }
 
-// The next round of the two stages, whose rounds are counted in one: a colour more until all are there, then replacing.
+// A turn: the next round in that count. One of seeding copies subpalette `from`.
 pub fn go_on(
     s: usize,
     c: usize,
@@ -60,13 +80,19 @@ pub fn go_on(
     palette: &mut [f32],
     least: &mut [f32],
     turn: u64,
+    from: usize,
     r: Record,
 ) -> Record
-    requires { ⌜ Going (job s c t weight (now tiles) (now colours) (now counts)) (now hints) (now palette) (now least) turn r ⌝ }
-    ensures { λ x. ⌜ stateWith [] (now (hints .exit)) (now (palette .exit)) (now (least .exit)) x ≡ goOn (course (job s c t weight (now (tiles .entry)) (now (colours .entry)) (now (counts .entry))) n []) turn (stateWith [] (now (hints .entry)) (now (palette .entry)) (now (least .entry)) r) ⌝ }
+    requires { ⌜ Going (job s c t weight (now tiles) (now colours) (now counts)) (now hints) (now palette) (now least) turn from r ⌝ }
+    ensures { λ x. ⌜ stateWith [] (now (hints .exit)) (now (palette .exit)) (now (least .exit)) x ≡ goOn (course (job s c t weight (now (tiles .entry)) (now (colours .entry)) (now (counts .entry))) n []) turn from (stateWith [] (now (hints .entry)) (now (palette .entry)) (now (least .entry)) r) ⌝ }
 {
+    let seeded = s as u64 - 1;
+    if turn < seeded {
+        return open_seeding(s, c, n, palette, turn, from, r);
+    }
+    let later = turn - seeded;
     let grown = c as u64 - 1;
-    if turn < grown {
+    if later < grown {
         return open_growing(
             s,
             c,
@@ -78,7 +104,7 @@ pub fn go_on(
             counts,
             hints,
             palette,
-            turn,
+            later,
             r,
         );
     }
@@ -94,7 +120,7 @@ pub fn go_on(
         hints,
         palette,
         least,
-        turn - grown,
+        later - grown,
         r,
     )
 }

@@ -1,8 +1,8 @@
 -- `replacing::open_replacing` meets its contract. Assumes nothing.
-use Rattle.run_growing.proofs.ReplacingRounds.{opened-by}
+use Rattle.run_turns.proofs.ReplacingRounds.{opened-by}
 use borrow.Author.Needs.{needs}
-use Rattle.run_growing.proofs.replacing.open_replacing.Statement.{statement}
-use Rattle.run_growing.proofs.replacing.open_replacing.Tie as tie
+use Rattle.run_turns.proofs.replacing.open_replacing.Statement.{statement}
+use Rattle.run_turns.proofs.replacing.open_replacing.Tie as tie
 
 replace-weakest-requires : tie.Need-replace-weakest-requires
 replace-weakest-requires c κs = search needs

@@ -1,8 +1,8 @@
 -- `replacing::replace_on` meets its contract. Assumes nothing.
-use Rattle.run_growing.proofs.ReplacingRounds.{replaced-more, replaced-last}
+use Rattle.run_turns.proofs.ReplacingRounds.{replaced-more, replaced-last}
 use borrow.Author.Needs.{needs}
-use Rattle.run_growing.proofs.replacing.replace_on.Statement.{statement}
-use Rattle.run_growing.proofs.replacing.replace_on.Tie as tie
+use Rattle.run_turns.proofs.replacing.replace_on.Statement.{statement}
+use Rattle.run_turns.proofs.replacing.replace_on.Tie as tie
 
 look-requires : tie.Need-look-requires
 look-requires c κs = search needs

@@ -15,8 +15,8 @@ use Rattle.stages.specs.declared.Record.{Record}
 use Rattle.stages.specs.State.{State, stateWith, recordIn, at}
 use Rattle.stages.specs.Stages.{openGrowing}
 use Rattle.run_keeping.specs.Closing.{Lent, Judging}
-use Rattle.run_growing.specs.Grows.{Opening, Going}
-use Rattle.run_growing.specs.Rounds.{replaceOn, goOn}
+use Rattle.run_turns.specs.Asked.{Opening, Going}
+use Rattle.run_turns.specs.Rounds.{replaceOn, growOn, goOn}
 
 pub can-open : (J : Job) (hints : List ℕ) (pal least : List Float) → Lent J hints pal least → (round : ℕ) → round < J .C - 1 → Opening J pal round hints
 can-open J hints pal least A round t =
@@ -42,18 +42,18 @@ module _ (K : Course) (h : List ℕ) (p l : List Float) (r : Record) (round : �
   open-beside =
       ap (λ (s : State). record { order = s .order; hints = s .hints; palette = s .palette; least = l; generator = s .generator; stage = s .stage; rounds = s .rounds; left = s .left; made = s .made; error = s .error }) e
 
-  pub gone-on : round < K .job .C - 1 → stateWith [] h2 p2 l r2 ≡ goOn K round (stateWith [] h p l r)
-  unfolding goOn
-  gone-on t = rw (lt-ltb round (K .job .C - 1) t) open-beside
+  pub grown-by : (turn from : ℕ) → K .job .S - 1 ≤ turn → round ≡ turn - (K .job .S - 1) → round < K .job .C - 1 → stateWith [] h2 p2 l r2 ≡ goOn K turn from (stateWith [] h p l r)
+  unfolding goOn growOn
+  grown-by turn from a z t = rw (le-ltb turn (K .job .S - 1) a, ← z, lt-ltb round (K .job .C - 1) t) open-beside
 
 -- the next stage
-pub gone-past : (K : Course) (s t : State) (turn : ℕ) → t ≡ replaceOn K (turn - (K .job .C - 1)) s → K .job .C - 1 ≤ turn → t ≡ goOn K turn s
-unfolding goOn
-gone-past K s t turn e z = rw (le-ltb turn (K .job .C - 1) z) e
+pub grown-past : (K : Course) (s t : State) (turn from : ℕ) → t ≡ replaceOn K (turn - (K .job .S - 1) - (K .job .C - 1)) s → K .job .S - 1 ≤ turn → K .job .C - 1 ≤ turn - (K .job .S - 1) → t ≡ goOn K turn from s
+unfolding goOn growOn
+grown-past K s t turn from e a z = rw (le-ltb turn (K .job .S - 1) a, le-ltb (turn - (K .job .S - 1)) (K .job .C - 1) z) e
 
-pub can-replace : (J : Job) (hints : List ℕ) (pal least : List Float) (turn : ℕ) (r : Record) → Going J hints pal least turn r → J .C - 1 ≤ turn → Judging J hints pal least (turn - (J .C - 1)) r
-can-replace J hints pal least turn r A z = record { lent = A .lent; error = λ (n : turn - (J .C - 1) ≢ 0). A .error (past n (lt-or-ge (J .C - 1) turn)) }
+pub can-replace : (J : Job) (hints : List ℕ) (pal least : List Float) (turn from : ℕ) (r : Record) → Going J hints pal least turn from r → Judging J hints pal least (turn - (J .S - 1) - (J .C - 1)) r
+can-replace J hints pal least turn from r A = record { lent = A .lent; error = λ (n : turn - (J .S - 1) - (J .C - 1) ≢ 0). A .error (past n (lt-or-ge ((J .S - 1) + (J .C - 1)) turn)) }
   where
-    past : turn - (J .C - 1) ≢ 0 → (J .C - 1 < turn) ⊎ (turn ≤ J .C - 1) → J .C - 1 < turn
+    past : turn - (J .S - 1) - (J .C - 1) ≢ 0 → ((J .S - 1) + (J .C - 1) < turn) ⊎ (turn ≤ (J .S - 1) + (J .C - 1)) → (J .S - 1) + (J .C - 1) < turn
     past n (inl t) = t
     past n (inr t) = absurd (n (omega arith))

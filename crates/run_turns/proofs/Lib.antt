@@ -1,3 +1,4 @@
 mod ReplacingRounds
 mod GrowingRounds
+mod SeedingRounds
 pub mod Turns

@@ -1,0 +1,68 @@
+-- `run_turns::go_on` meets its contract, stage by stage. Assumes nothing.
+use mathlib.Core.Path.{refl}
+use Rattle.run_turns.proofs.SeedingRounds.{can-double, seeded-by}
+use Rattle.run_turns.proofs.GrowingRounds.{can-open, can-replace, grown-by, grown-past}
+use borrow.Author.Needs.{needs}
+use Rattle.run_turns.proofs.go_on.Statement.{statement}
+use Rattle.run_turns.proofs.go_on.Tie as tie
+
+sub-seeded : tie.Need-sub-seeded
+sub-seeded c = search needs
+
+open-seeding-requires : tie.Need-open-seeding-requires
+open-seeding-requires c κs = can-double _ _ _ _ _ _ (c .before .before .before .before .before .before .before .before .args .r) (c .before .before .before .before .before .before .before .before .pre) (c .before .if1 .taken)
+
+same-length : tie.Need-same-length
+same-length c = search needs
+
+returns : tie.Need-returns
+returns c = seeded-by _ _ _ _ (c .before .before .before .before .before .before .before .before .before .before .before .args .r) _ _ _ _ (c .before .before .open-seeding .ensures) (c .before .before .before .before .if1 .taken)
+
+sub-grown : tie.Need-sub-grown
+sub-grown c = search needs
+
+open-growing-requires : tie.Need-open-growing-requires
+open-growing-requires c κs = can-open _ _ _ _ (c .before .before .before .before .before .before .before .before .before .before .pre .lent) _ (c .before .before .if2 .taken)
+
+same-length-2 : tie.Need-same-length-2
+same-length-2 c = search needs
+
+same-length-3 : tie.Need-same-length-3
+same-length-3 c = search needs
+
+returns-2 : tie.Need-returns-2
+returns-2 c = grown-by _ _ _ _ (c .before .before .before .before .before .before .before .before .before .before .before .before .before .before .before .args .r) _ _ _ _ (c .before .before .before .before .open-growing .ensures) _ _ (c .before .before .before .before .before .before .before .before .if1 .left) refl (c .before .before .before .before .before .before .before .if2 .taken)
+
+replace-on-requires : tie.Need-replace-on-requires
+replace-on-requires c κs = can-replace _ _ _ _ _ _ (c .before .before .before .before .before .before .before .before .before .before .before .args .r) (c .before .before .before .before .before .before .before .before .before .before .before .pre)
+
+same-length-4 : tie.Need-same-length-4
+same-length-4 c = search needs
+
+same-length-5 : tie.Need-same-length-5
+same-length-5 c = search needs
+
+same-length-6 : tie.Need-same-length-6
+same-length-6 c = search needs
+
+returns-3 : tie.Need-returns-3
+returns-3 c = grown-past _ _ _ _ _ (c .before .before .before .before .before .before .replace-on .ensures) (c .before .before .before .before .before .before .before .before .before .before .before .if1 .left) (c .before .before .before .before .before .before .before .before .before .before .if2 .left)
+
+pub go-on-spec : {M : Type 1} → statement M
+go-on-spec =
+    tie.close
+    (tie.spec
+    sub-seeded
+    open-seeding-requires
+    same-length
+    returns
+    sub-grown
+    open-growing-requires
+    same-length-2
+    same-length-3
+    returns-2
+    replace-on-requires
+    same-length-4
+    same-length-5
+    same-length-6
+    returns-3)
