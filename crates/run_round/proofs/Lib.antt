@@ -1,4 +1,6 @@
 mod SeedingRounds
 mod Finishes
 mod Closes
-pub mod Orders
+mod Orders
+mod Begins
+mod FirstRound

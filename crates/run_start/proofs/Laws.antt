@@ -18,8 +18,7 @@ use Rattle.calls.proofs.Accepted.{job-passed}
 use Rattle.calls.proofs.Answers.{start-opened}
 use Rattle.calls.proofs.Next as next
 use Rattle.run_blank.specs.Blanks.{dealt, Blanking}
-use Rattle.run_round.specs.First.{firstRound}
-use Rattle.run_start.specs.Starts.{Beginning}
+use Rattle.run_round.specs.First.{firstRound, Beginning}
 
 module _ (size : ℕ) (small : size ≤ 256) (K : Course) (m : Memory) (seed : ℕ) (a : ℕ) (e : a ≡ startAnswer size K m) where
   pub refused : (a ≡ 0 → ⊥) → outcome a 0 m ≡ startCall size K m seed

@@ -1,3 +1,1 @@
-mod Begins
-mod FirstRound
 mod Laws

@@ -1,6 +1,4 @@
 // The public call that starts a run: both palettes nought but for the samples' mean, the first order, and all that needs no draw.
-mod first;
-
 ghost use mathlib.Core.Path.{_≡_};
 ghost use Rattle.job.specs.Job.{job, tileSize};
 ghost use Rattle.quantizer.specs.Course.{course};
@@ -59,7 +57,7 @@ pub fn start(
         least,
     );
     let r = run_blank::deal(order, seed);
-    let next = first::set_out(
+    let next = run_round::first::set_out(
         s,
         c,
         t,

@@ -5,8 +5,7 @@ ghost use Rattle.job.specs.Job.{job};
 ghost use Rattle.quantizer.specs.Course.{course};
 ghost use Rattle.stages.specs.State.{stateWith};
 ghost use Rattle.stages.specs.Stages.{settle};
-ghost use Rattle.run_round.specs.First.{firstRound};
-ghost use Rattle.run_start.specs.Starts.{Beginning};
+ghost use Rattle.run_round.specs.First.{firstRound, Beginning};
 
 // The first round is opened, and all that needs no draw is done.
 pub fn set_out(
@@ -44,7 +43,7 @@ pub fn set_out(
         0,
         r,
     );
-    run_round::settle(
+    crate::settle(
         s,
         c,
         t,

@@ -1,9 +1,9 @@
 -- `first::set_out` meets its contract. Assumes nothing.
 use mathlib.Core.Path.{refl}
-use Rattle.run_start.proofs.FirstRound.{can-open, can-settle, settled}
+use Rattle.run_round.proofs.FirstRound.{can-open, can-settle, settled}
 use borrow.Author.Needs.{needs}
-use Rattle.run_start.proofs.first.set_out.Statement.{statement}
-use Rattle.run_start.proofs.first.set_out.Tie as tie
+use Rattle.run_round.proofs.first.set_out.Statement.{statement}
+use Rattle.run_round.proofs.first.set_out.Tie as tie
 
 go-on-requires : tie.Need-go-on-requires
 go-on-requires c κs = can-open _ _ (c .before .before .before .before .before .before .before .before .before .before .before .pre)

@@ -10,11 +10,10 @@ use Rattle.calls.proofs.Sound.{all-shown}
 use Rattle.run_turns.specs.Asked.{Going}
 use Rattle.run_turns.specs.Rounds.{goOn}
 use Rattle.run_turns.proofs.Turns.{first-turn}
-use Rattle.run_round.specs.First.{firstRound}
 use Rattle.run_round.specs.Settles.{Standing}
 use Rattle.run_round.proofs.Orders.{ordered, first-any}
-use Rattle.run_start.specs.Starts.{Beginning}
-use Rattle.run_start.proofs.Begins.{sound, standing}
+use Rattle.run_round.specs.First.{firstRound, Beginning}
+use Rattle.run_round.proofs.Begins.{sound, standing}
 
 module _ (K : Course) (s : State) (B : Beginning K s) where
   pub can-open : Going (K .job) (s .hints) (s .palette) (s .least) 0 0 (recordIn s)

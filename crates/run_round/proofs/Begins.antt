@@ -6,9 +6,8 @@ use Rattle.calls.specs.Place.{Placed}
 use Rattle.calls.proofs.Place.{first-placed}
 use Rattle.calls.specs.Sound.{Sound}
 use Rattle.calls.proofs.Sound.{fresh-sound, first-sound}
 use Rattle.run_round.specs.Settles.{Standing}
-use Rattle.run_round.specs.First.{firstRound}
-use Rattle.run_start.specs.Starts.{Beginning}
+use Rattle.run_round.specs.First.{firstRound, Beginning}
 
 module _ (K : Course) (s : State) (B : Beginning K s) where
   pub sound : Sound K s
