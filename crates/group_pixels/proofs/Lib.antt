@@ -1,3 +1,2 @@
 pub mod Tests
 pub mod Alike
-pub mod Pixel

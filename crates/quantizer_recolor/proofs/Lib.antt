@@ -1,4 +1,3 @@
 pub mod Rows
 pub mod Colours
 pub mod Lengths
-pub mod Row

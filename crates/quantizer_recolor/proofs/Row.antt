@@ -1,2 +1,0 @@
--- Laws of what specs/Row defines. Assumes nothing.
-use Rattle.quantizer_recolor.proofs.Row.{}
