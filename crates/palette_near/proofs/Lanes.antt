@@ -35,13 +35,13 @@ module _ (s : List Float) (q : Oklab) (w : Float) where
       f ∙ ap (λ (x : Float). lesserOf x m) e ∙ ap (lesserOf (gap s q w i)) h ∙ sym (least-more (gap s q w) i) ∙ sym (ap (λ (n : ℕ). leastOf (gap s q w) n .dist) (add-one i))
 
   -- four colours more, one in each lane
-  pub fours-step : Clear s q w → (k : ℕ) → k < length s / 12 → (a b c e x y z u a' b' c' e' : Float) → Lanes (gap s q w) (4 * k) a b c e
+  pub fours-step : Clear s q w → (k : ℕ) → k < length s / 12 → (a b c e x y z u a₁ b₁ c₁ e₁ : Float) → Lanes (gap s q w) (4 * k) a b c e
       → x ≡ gap s q w (4 * k) → y ≡ gap s q w (4 * k + 1) → z ≡ gap s q w (4 * k + 2) → u ≡ gap s q w (4 * k + 3)
-      → a' ≡ lesserOf x a → b' ≡ lesserOf y b → c' ≡ lesserOf z c → e' ≡ lesserOf u e → Lanes (gap s q w) (4 * (k + 1)) a' b' c' e'
-  fours-step C k l a b c e x y z u a' b' c' e' L p p1 p2 p3 r r1 r2 r3 =
-      subst⁻¹ (λ (v : Float). Lanes d n v b' c' e') r
-      (subst⁻¹ (λ (v : Float). Lanes d n (lesserOf x a) v c' e') r1
-      (subst⁻¹ (λ (v : Float). Lanes d n (lesserOf x a) (lesserOf y b) v e') r2
+      → a₁ ≡ lesserOf x a → b₁ ≡ lesserOf y b → c₁ ≡ lesserOf z c → e₁ ≡ lesserOf u e → Lanes (gap s q w) (4 * (k + 1)) a₁ b₁ c₁ e₁
+  fours-step C k l a b c e x y z u a₁ b₁ c₁ e₁ L p p1 p2 p3 r r1 r2 r3 =
+      subst⁻¹ (λ (v : Float). Lanes d n v b₁ c₁ e₁) r
+      (subst⁻¹ (λ (v : Float). Lanes d n (lesserOf x a) v c₁ e₁) r1
+      (subst⁻¹ (λ (v : Float). Lanes d n (lesserOf x a) (lesserOf y b) v e₁) r2
       (subst⁻¹ (λ (v : Float). Lanes d n (lesserOf x a) (lesserOf y b) (lesserOf z c) v) r3
       (lanes-more d k a b c e L x y z u (good x (4 * k) (there (length s) k l) p) (good y (4 * k + 1) (there1 (length s) k l) p1) (good z (4 * k + 2) (there2 (length s) k l) p2) (good u (4 * k + 3) (there3 (length s) k l) p3) p p1 p2 p3))))
     where
