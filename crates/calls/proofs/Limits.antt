@@ -1,5 +1,5 @@
 -- What is within a bound passes the test of it: components, order entries, and the bits of an error. Assumes nothing.
-use Prim.Native.Nat.{ℕ, zero, suc, _*_, _≤_, _<_}
+use Prim.Native.Nat.{ℕ, _*_, _≤_, _<_}
 use mathlib.Core.Path.{_≡_, refl, sym, ap, _∙_}
 use mathlib.Core.Bool.{Bool, true, false}
 use mathlib.Core.List.{List}
@@ -16,21 +16,14 @@ use Rattle.ieee.specs.Terms.{Within}
 use Rattle.ieee.proofs.Within.{wider}
 use Rattle.ieee.specs.Terms.{Good, key}
 use Rattle.ieee.proofs.Keys.{pack-mono, plus-bits, le→keys}
-use Rattle.lists.specs.Every.{every}
 use Rattle.lists.proofs.Tests.{and-i}
-use Rattle.lists.proofs.Loops.{every-at}
+use Rattle.lists.proofs.Loops.{every-at, every-all}
 use Rattle.color.specs.Color.{Bounded}
 use Rattle.job.proofs.First.{first-none}
 use Rattle.job.specs.Checks.{within, componentFits, firstBad, componentsFit}
 use Rattle.job.proofs.Ready.{components-within}
 use Rattle.mse.proofs.Fine.{Error}
 use Rattle.stages.specs.Record.{four, entryFits, orderFits}
-
--- ---- every index passes
-pub every-all : (f : ℕ → Bool) (n : ℕ) → ((i : ℕ) → i < n → f i ≡ true) → every f n ≡ true
-unfolding every
-every-all f zero h = refl
-every-all f (suc n) h = and-i (every f n) (f n) (every-all f n (λ i l. h i (omega arith))) (h n (omega arith))
 
 true-of : (t : Bool) → T t → t ≡ true
 true-of true h = refl

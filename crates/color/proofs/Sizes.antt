@@ -1,5 +1,6 @@
 -- Colours of bounded components: the colours of a bounded list are bounded, and a list stays bounded where a bounded colour is written. Assumes nothing.
 use Prim.Native.Nat.{ℕ, _+_, _*_, _/_, _≤_, _<_}
+use mathlib.Core.Path.{_≡_}
 use mathlib.Core.List.{List}
 use native.Mathlib.Omega.{arith}
 use lib.ListN.{getD, length}
@@ -39,6 +40,13 @@ colour-real s i h l = record { rl = h (3 * i) (omega arith); ra = h (3 * i + 1) 
 
 pub colour-sized : (s : List Float) (k i : ℕ) → Bounded s k → i < length s / 3 → Sized (colourAt s i) k
 colour-sized s k i h l = record { sl = h (3 * i) (omega arith); sa = h (3 * i + 1) (omega arith); sb = h (3 * i + 2) (omega arith) }
+
+-- of n colours the k-th
+pub nth-sized : (s : List Float) (b n k : ℕ) → Bounded s b → length s ≡ 3 * n → k < n → Sized (colourAt s k) b
+nth-sized s b n k B e l = colour-sized s b k B (third (length s) e)
+  where
+    third : (z : ℕ) → z ≡ 3 * n → k < z / 3
+    third z h = omega arith
 
 module _ (s : List Float) (i : ℕ) (x : Oklab) where
   pub finite-put : Finite s → Real x → Finite (putAt s i x)

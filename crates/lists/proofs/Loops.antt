@@ -8,7 +8,7 @@ use native.Mathlib.Omega.{arith}
 use native.Mathlib.Numerals.{add-one}
 use lib.Dec.{ltb}
 use borrow.Author.Tests.{not-true, not-false, ltb-true, ltb-false}
-use Rattle.lists.proofs.Tests.{and-l, and-r, and-no-r}
+use Rattle.lists.proofs.Tests.{and-l, and-r, and-i, and-no-r}
 use Rattle.lists.specs.Every.{every, sum}
 
 last-or-below : (i n : ℕ) → i < suc n → (i ≡ n) ⊎ (i < n)
@@ -30,6 +30,11 @@ module _ (f : ℕ → Bool) where
       by : (i ≡ n) ⊎ (i < n) → (i < n → f i ≡ true) → f i ≡ true
       by (inl e) lower = subst (λ (k : ℕ). f k ≡ true) (sym e) (and-r (every f n) (f n) h)
       by (inr k) lower = lower k
+
+  pub every-all : (n : ℕ) → ((i : ℕ) → i < n → f i ≡ true) → every f n ≡ true
+  unfolding every
+  every-all zero h = refl
+  every-all (suc n) h = and-i (every f n) (f n) (every-all n (λ i l. h i (omega arith))) (h n (omega arith))
 
   pub every-fails : (n i : ℕ) (r : Bool) → r ≡ f i → not r ≡ true → i < n → false ≡ every f n
   unfolding every

@@ -24,7 +24,7 @@ use Rattle.ieee.proofs.Goods.{add-good, times-good, count-positive}
 use Rattle.ieee.specs.Narrow.{narrowOf}
 use Rattle.ieee.proofs.Narrows.{narrow-within, narrow-good}
 use Rattle.color.specs.Color.{colourAt, Sized}
-use Rattle.color.proofs.Sizes.{bounded-finite, colour-sized, sized-real}
+use Rattle.color.proofs.Sizes.{bounded-finite, nth-sized, sized-real}
 use Rattle.job.specs.Job.{Job, sizeOf, isEmpty}
 use Rattle.job.proofs.Tiles.{counts-length, tile-three, tile-near}
 use Rattle.palette.specs.Palette.{Tile, subOf, nearestOf}
@@ -54,10 +54,7 @@ step-fine a b d n F g v lo hi B =
 -- ---- a tile
 module _ (s : List Float) (X : Tile) (w : Float) (R : Summed s X w) where
   pub target-sized : (k : ℕ) → k < length (X .counts) → Sized (colourAt (X .colours) k) 2
-  target-sized k l = colour-sized (X .colours) 2 k (R .near) (third (length (X .colours)) (R .three))
-    where
-      third : (z : ℕ) → z ≡ 3 * length (X .counts) → k < z / 3
-      third z e = omega arith
+  target-sized k = nth-sized (X .colours) 2 (length (X .counts)) k (R .near) (R .three)
 
   pub near-good : (k : ℕ) → k < length (X .counts) → Good binary32 (nearestOf s (colourAt (X .colours) k) w .dist)
   near-good k l = nearest-good s w (bounded-finite s 4 (R .sub)) (R .weight) (colourAt (X .colours) k) (sized-real (colourAt (X .colours) k) 2 (target-sized k l))

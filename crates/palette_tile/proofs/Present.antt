@@ -10,7 +10,7 @@ use lib.Ieee.{Float}
 use Rattle.ieee.specs.Terms.{Within}
 use Rattle.color.specs.declared.Oklab.{Oklab}
 use Rattle.color.specs.Color.{colourAt, Sized, Bounded}
-use Rattle.color.proofs.Sizes.{bounded-finite, colour-sized}
+use Rattle.color.proofs.Sizes.{bounded-finite, nth-sized}
 use Rattle.job.specs.Job.{Job, sizeOf, tileOf}
 use Rattle.job.proofs.Tiles.{tile-length, tile-three, tile-near, tile-finite}
 use Rattle.choice.proofs.Scan.{least-below}
@@ -76,10 +76,7 @@ module _ (J : Job) (pal : List Float) (n have : ℕ) (S : Shown J pal n have) wh
     tile-fits = record { palette = shown-present; tile = tile-counted; weight = S .ready .weight }
 
     pub tile-sized : (k : ℕ) → k < sizeOf (J .tiles) t → Sized (colourAt (tileOf J t) k) 2
-    tile-sized k m = colour-sized (tileOf J t) 2 k (tile-near (S .size) J (S .ready) t l) (third (length (tileOf J t)) (tile-length (S .size) J (S .ready) t l))
-      where
-        third : (z : ℕ) → z ≡ 3 * sizeOf (J .tiles) t → k < z / 3
-        third z e = omega arith
+    tile-sized k = nth-sized (tileOf J t) 2 (sizeOf (J .tiles) t) k (tile-near (S .size) J (S .ready) t l) (tile-length (S .size) J (S .ready) t l)
 
     pub tile-hinted : (hints : List ℕ) → length hints ≡ J .T → Hinted n hints t
     tile-hinted hints e = record { subs = S .subs; few = omega (arith, S .most, S .ready .sizes .few); at = omega arith }

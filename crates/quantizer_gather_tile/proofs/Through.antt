@@ -1,5 +1,5 @@
 -- A walk over a tile's colours keeps the lists whole, and tiles of a job that is shown may be gathered. Assumes nothing.
-use Prim.Native.Nat.{ℕ, suc, _+_, _*_, _/_, _≤_, _<_}
+use Prim.Native.Nat.{ℕ, suc, _+_, _*_, _≤_, _<_}
 use mathlib.Core.Path.{_≡_}
 use mathlib.Core.List.{List}
 use native.Mathlib.Omega.{arith}
@@ -8,8 +8,7 @@ use lib.Ieee.{Float}
 use Rattle.lists.specs.Every.{sum}
 use Rattle.lists.proofs.Loops.{sum-rises}
 use Rattle.color.specs.declared.Oklab.{Oklab}
-use Rattle.color.specs.Color.{colourAt, Sized}
-use Rattle.color.proofs.Sizes.{colour-sized}
+use Rattle.color.proofs.Sizes.{nth-sized}
 use Rattle.job.specs.Job.{Job}
 use Rattle.job.proofs.Tiles.{tile-three, tile-near}
 use Rattle.palette.specs.Palette.{Tile, subOf, nearestOf}
@@ -31,14 +30,8 @@ module _ (s : List Float) (X : Tile) (w : Float) (base : ℕ) (A : Gather) (G : 
   pub place-in : (q : Oklab) → base + nearestOf s q w .index < 256
   place-in q = omega (arith, nearest-below s q w (G .some), G .place)
 
-  tile-sized : (k : ℕ) → k < length (X .counts) → Sized (colourAt (X .colours) k) 2
-  tile-sized k l = colour-sized (X .colours) 2 k (G .near) (third (length (X .colours)) (G .three))
-    where
-      third : (z : ℕ) → z ≡ 3 * length (X .counts) → k < z / 3
-      third z e = omega arith
-
   pub through : (k : ℕ) → k ≤ length (X .counts) → Summed A (tileGather s X w base A k) (pixels X k)
-  through = tile-summed s X w base A (G .held) place-in tile-sized (G .few)
+  through = tile-summed s X w base A (G .held) place-in (λ k. nth-sized (X .colours) 2 (length (X .counts)) k (G .near) (G .three)) (G .few)
 
 -- tile t may go to subpalette i
 pub gathering : (J : Job) (pal : List Float) → Shown J pal (J .S) (J .C) → (t : ℕ) → t < J .T → (A : Gather) → Gathered A (256 * t) → (i : ℕ) → i < J .S → Gathering (subOf pal (J .C) (J .C) i) (tileAt J t) (i * J .C) A

@@ -19,6 +19,7 @@ use Rattle.sheet_format.specs.Lists.{total}
 use Rattle.sheet_check.specs.declared.Checked.{Checked}
 use Rattle.sheet_check.specs.declared.Checked.the-variants.{Refused, Sound}
 use Rattle.sheet_check.specs.Steps.{checkedOf}
+use Rattle.sheet_check.proofs.Whole.{sound-not, sound-is}
 use Rattle.sheet_fill_colours.specs.Fill.{Reads, listOf, listAt}
 use Rattle.sheet_fill_colours.proofs.Components.{component-fixed}
 use Rattle.sheet_fill.proofs.Ends.{components-end, tiles-end}
@@ -35,12 +36,6 @@ pub record Accepted (s : List ℕ) (a b t w : ℕ) : Type 0 where
       ≡ accepted (whole ((a, (b, (t, w))), (listAt (times (3 * (a * b)) component) s 86, listAt (times t (tile edition1)) s (86 + 3 * (a * b) * 32))))
 
 -- ---- answers, taken apart
-sound-not : (n a b t w : ℕ) → _≡_ {A = Checked} (Refused n) (Sound a b t w) → ⊥
-sound-not n a b t w e = let z : _≡_ {A = ℕ} 0 1 = cc in omega arith
-
-sound-is : (a b t w c d u v : ℕ) → _≡_ {A = Checked} (Sound a b t w) (Sound c d u v) → (a ≡ c) × (b ≡ d) × (t ≡ u) × (w ≡ v)
-sound-is a b t w c d u v e = (cc, cc, cc, cc)
-
 refused-not : (n : ℕ) (x : Sheet) → _≡_ {A = Answer Sheet} (refused n) (accepted x) → ⊥
 refused-not n x e = let z : _≡_ {A = ℕ} 0 1 = cc in omega arith
 

@@ -14,8 +14,9 @@ use Rattle.format.specs.Format.{times, Answer, refused, accepted}
 use Rattle.sheet_format.specs.Sheet.{edition1, component, Colour, Sheet, tile, readSheet}
 use Rattle.sheet_format.specs.Lists.{floats, allCounts, allFloats, tableOf}
 use Rattle.sheet_check.specs.declared.Checked.{Checked}
-use Rattle.sheet_check.specs.declared.Checked.the-variants.{Refused, Sound}
+use Rattle.sheet_check.specs.declared.Checked.the-variants.{Refused}
 use Rattle.sheet_check.specs.Steps.{checkedOf}
+use Rattle.sheet_check.proofs.Whole.{sound-not}
 use Rattle.sheet_fill_colours.specs.Fill.{listAt}
 use Rattle.sheet.specs.declared.Reading.the-variants as reading
 use Rattle.sheet.specs.Sheets.{Room, room, ReadOutcome, readOutcome, roomy, readInto, readDef}
@@ -58,12 +59,9 @@ module _ (s : List ℕ) (h : Room) (r : Bool) (e : r ≡ roomy (length (h .tiles
         same : (n m : ℕ) → _≡_ {A = Checked} (Refused n) (Refused m) → n ≡ m
         same n m e = cc
 
-        never : (n a b t w : ℕ) → _≡_ {A = Checked} (Refused n) (Sound a b t w) → ⊥
-        never n a b t w e = let z : _≡_ {A = ℕ} 0 1 = cc in omega arith
-
         go : (x : Answer Sheet) → readSheet edition1 s ≡ x → Refused n ≡ checkedOf x → readOutcome (reading.Refused n) h ≡ readDef s h
         go (refused m) k f = ap (λ (i : ℕ). readOutcome (reading.Refused i) h) (same n m f) ∙ by-sheet (refused m) k
-        go (accepted x) k f = absurd (never n (x .subs) (x .each) (x .tiles) (x .weight) f)
+        go (accepted x) k f = absurd (sound-not n (x .subs) (x .each) (x .tiles) (x .weight) f)
 
     pub accepted-out : (a b t w : ℕ) (weight : Float) (tb : List ℕ) (cs : List ℕ) (f : List Float) (p : List Float) → Accepted s a b t w → weight ≡ ofBits binary32 w
         → p ≡ sets (h .palette) 0 (floats (listAt (times (3 * (a * b)) component) s 86))

@@ -12,6 +12,7 @@ use lib.Ieee.{Float, nan, inf, fin, binary32, ofBits, ofFields, odd, lt, le, neg
 use borrow.Author.Tests.{eq-eqb, le-leb}
 use Rattle.lists.specs.Every.{every, sum}
 use Rattle.lists.proofs.Tests.{and-i}
+use Rattle.lists.proofs.Loops.{every-all}
 use Rattle.ieee.proofs.Order.{le-fin←}
 use Rattle.ieee.specs.Terms.{zeroF}
 use Rattle.ieee.specs.Terms.{Within}
@@ -31,11 +32,6 @@ use Rattle.sheet.specs.Sheets.{jobOf}
 use Rattle.sheet.proofs.Floats.{components-back}
 use Rattle.sheet.proofs.Kept.{sum-front}
 use Rattle.sheet.proofs.Again.{tile-says, counts-here, table-left, counts-left, colours-left, sized, palette-good, content-good}
-
-every-passes : (f : ℕ → Bool) (n : ℕ) → ((i : ℕ) → i < n → f i ≡ true) → every f n ≡ true
-unfolding every
-every-passes f zero h = refl
-every-passes f (suc n) h = and-i (every f n) (f n) (every-passes f n (λ i l. h i (omega arith))) (h n (omega arith))
 
 of-T : (b : Bool) → T b → b ≡ true
 of-T true h = refl
@@ -71,7 +67,7 @@ unfolding firstBad componentFits within neg
 near xs b =
     eq-eqb (firstNot (componentFits two xs) (length xs)) (length xs)
     (sym (first-none (componentFits two xs) (length xs)
-    (every-passes (componentFits two xs) (length xs) λ i l.
+    (every-all (componentFits two xs) (length xs) λ i l.
     and-i (le (getD xs i nan) two) (le (neg two) (getD xs i nan))
     (subst (λ (y : Float). le (getD xs i nan) y ≡ true) (sym two-is) (of-T (le (getD xs i nan) (fin false 1 (pos 1))) (under 1 (getD xs i nan) (b i l))))
     (subst (λ (y : Float). le (neg y) (getD xs i nan) ≡ true) (sym two-is) (of-T (le (fin true 1 (pos 1)) (getD xs i nan)) (over 1 (getD xs i nan) (b i l)))))))
@@ -116,7 +112,7 @@ table-fits : (v : List (List Colour)) (n all : ℕ) → length v ≡ n → total
 unfolding tilesFit tileFits tileTest
 table-fits v n all e t few =
     and-i (every (tileFits tileSize all (tableOf 0 v)) n) (eqb (sum (sizeOf (tableOf 0 v)) n) all)
-    (every-passes (tileFits tileSize all (tableOf 0 v)) n λ i l.
+    (every-all (tileFits tileSize all (tableOf 0 v)) n λ i l.
     let a = table-at v 0 i (omega arith) in
     let s = sums v 0 i (omega arith) in
     and-i (eqb (firstOf (tableOf 0 v) i) (sum (sizeOf (tableOf 0 v)) i)) (leb (sizeOf (tableOf 0 v) i) 64 && leb (sum (sizeOf (tableOf 0 v)) i + sizeOf (tableOf 0 v) i) all)
@@ -146,7 +142,7 @@ counted (suc n) done (y ∷ v) h (suc k) l =
 part-fits : (y : List Colour) → T (tile edition1 .good y) → partFits tileSize (tileCounts y) ≡ true
 unfolding partFits countFits countTest
 part-fits y h =
-    every-passes (countFits tileSize (tileCounts y)) (length (tileCounts y)) λ k l.
+    every-all (countFits tileSize (tileCounts y)) (length (tileCounts y)) λ k l.
     let g = counted (length y) 0 y (and-r (ltb (length y) (2 ^ 7) && leb (length y) 64) (colours edition1 (length y) 0 .good y) h) k l in
     and-i (leb 1 (getD (tileCounts y) k 0)) (leb (sum (λ i. getD (tileCounts y) i 0) k + getD (tileCounts y) k 0) 64)
     (le-leb 1 (getD (tileCounts y) k 0) (g .0))
@@ -222,7 +218,7 @@ taken x h fit =
     let g = at i (x .tiles) 0 0 v (content-good x h) refl refl refl l .1 in
     leb→le (length (getD v i [])) 64 (and-r (ltb (length (getD v i [])) (2 ^ 7)) (leb (length (getD v i [])) 64) (and-l (ltb (length (getD v i [])) (2 ^ 7) && leb (length (getD v i [])) 64) (colours edition1 (length (getD v i [])) 0 .good (getD v i [])) g)) in
     let parts-fit : every (tileCountsFit tileSize (tableOf 0 v) (allCounts v)) (x .tiles) ≡ true =
-    every-passes (tileCountsFit tileSize (tableOf 0 v) (allCounts v)) (x .tiles) λ i l.
+    every-all (tileCountsFit tileSize (tableOf 0 v) (allCounts v)) (x .tiles) λ i l.
     let z : 0 + i ≡ i = omega arith in
     let g = at i (x .tiles) 0 0 v (content-good x h) refl refl refl l in
     ap (partFits tileSize) (ap (countsPart (tableOf 0 v) (allCounts v)) (sym z) ∙ g .0) ∙ part-fits (getD v i []) (g .1) in

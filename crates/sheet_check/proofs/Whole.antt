@@ -25,18 +25,18 @@ use Rattle.sheet_colours.proofs.Turns.{step-at}
 refused-is : (n m : ℕ) → _≡_ {A = Checked} (Refused n) (Refused m) → n ≡ m
 refused-is n m e = cc
 
-refused-not : (n a b t w : ℕ) → _≡_ {A = Checked} (Refused n) (Sound a b t w) → ⊥
-refused-not n a b t w e = let z : _≡_ {A = ℕ} 0 1 = cc in omega arith
+pub sound-not : (n a b t w : ℕ) → _≡_ {A = Checked} (Refused n) (Sound a b t w) → ⊥
+sound-not n a b t w e = let z : _≡_ {A = ℕ} 0 1 = cc in omega arith
 
-sound-is : (a b t w c d u v : ℕ) → _≡_ {A = Checked} (Sound a b t w) (Sound c d u v) → (a ≡ c) × (b ≡ d) × (t ≡ u) × (w ≡ v)
+pub sound-is : (a b t w c d u v : ℕ) → _≡_ {A = Checked} (Sound a b t w) (Sound c d u v) → (a ≡ c) × (b ≡ d) × (t ≡ u) × (w ≡ v)
 sound-is a b t w c d u v e = (cc, cc, cc, cc)
 
 pub head-fault : (x : Res Header) (n : ℕ) → Refused n ≡ headOf x → x ≡ fault n
 head-fault (fault m) n e = ap fault (sym (refused-is n m e))
-head-fault (got h r) n e = absurd (refused-not n (h .0) (h .1 .0) (h .1 .1 .0) (h .1 .1 .1) e)
+head-fault (got h r) n e = absurd (sound-not n (h .0) (h .1 .0) (h .1 .1 .0) (h .1 .1 .1) e)
 
 pub head-got : (x : Res Header) (a b t w : ℕ) → Sound a b t w ≡ headOf x → (r : List Bool) × (x ≡ got (a, (b, (t, w))) r)
-head-got (fault m) a b t w e = absurd (refused-not m a b t w (sym e))
+head-got (fault m) a b t w e = absurd (sound-not m a b t w (sym e))
 head-got (got h r) a b t w e =
     let k = sound-is a b t w (h .0) (h .1 .0) (h .1 .1 .0) (h .1 .1 .1) e in
     (r, ap (λ (y : Header). got y r) (sym (ap₂ {C = Header} (λ i j. (i, j)) (k .0) (ap₂ {C = ℕ × (ℕ × ℕ)} (λ i j. (i, j)) (k .1) (ap₂ {C = ℕ × ℕ} (λ i j. (i, j)) (k .2) (k .3))))))

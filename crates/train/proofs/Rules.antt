@@ -18,7 +18,7 @@ use Rattle.job.proofs.Ready.{plain-ready}
 use Rattle.job.proofs.Tiles.{counts-length, counts-placed}
 use Rattle.quantizer.specs.Course.{course}
 use Rattle.stages.specs.Calls.{jobRules}
-use Rattle.calls.proofs.Limits.{every-all}
+use Rattle.lists.proofs.Loops.{every-all}
 use Rattle.train_samples.specs.Samples.{units, samplesTo, unitsTo, Countable}
 use Rattle.train_samples.proofs.Numbers.{length-samples}
 use Rattle.train_samples.proofs.Named.{sample-named}

@@ -19,7 +19,8 @@ use Rattle.job.proofs.First.{first-none}
 use Rattle.job.specs.Checks.{within, componentFits, firstBad, componentsFit}
 use Rattle.job.proofs.Ready.{two-within}
 use Rattle.calls.proofs.Cases.{by-test}
-use Rattle.calls.proofs.Limits.{every-all, fits-limit}
+use Rattle.lists.proofs.Loops.{every-all}
+use Rattle.calls.proofs.Limits.{fits-limit}
 use Rattle.training.specs.Training.{cutOne, cut}
 
 pub length-cut : (xs : List Float) → length (cut xs) ≡ length xs
