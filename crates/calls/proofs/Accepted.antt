@@ -58,9 +58,9 @@ module _ (K : Course) (S1 : 1 ≤ K .job .S) (C1 : 1 ≤ K .job .C) where
       let x = lastly (A .second) in
       (w .place, (eq-eqb _ _ (w .made), (x .0, (fits-four (s .palette) (A .held .bound), (x .1, (entries-fit (K .n) (s .order) (A .dealt .below), tt))))))
     where
-      lastly : Second K (s .stage) (s .error) (s .least) → (errorFits (s .stage) (s .error) ≡ true) × (leastFits (s .stage) (s .least) ≡ true)
-      lastly (in2 k e f) = unfold errorFits leastFits in rw (eq-eqb (s .stage) 2 k) (lt-ltb (s .error) 0x7f800000 e, fits-four (s .least) f)
-      lastly (out2 k e) = unfold errorFits leastFits in rw (ne-eqb (s .stage) 2 k) (eq-eqb (s .error) 0 e, refl)
+      lastly : Second K (s .rec .stage) (s .rec .error) (s .least) → (errorFits (s .rec .stage) (s .rec .error) ≡ true) × (leastFits (s .rec .stage) (s .least) ≡ true)
+      lastly (in2 k e f) = unfold errorFits leastFits in rw (eq-eqb (s .rec .stage) 2 k) (lt-ltb (s .rec .error) 0x7f800000 e, fits-four (s .least) f)
+      lastly (out2 k e) = unfold errorFits leastFits in rw (ne-eqb (s .rec .stage) 2 k) (eq-eqb (s .rec .error) 0 e, refl)
 
   pub rules→fit : (m : Memory) → Roomy K m → Passed (stateRules K (stateOf m)) → Fit K (stateOf m)
   unfolding stateOf
@@ -71,7 +71,7 @@ module _ (K : Course) (S1 : 1 ≤ K .job .S) (C1 : 1 ≤ K .job .C) where
         sound = record {
           held = record { size = r .palette; bound = four-bounded (m .palette) p4 };
           room = r .least;
-          second = lastly (decide (eqb (s .stage) 2));
+          second = lastly (decide (eqb (s .rec .stage) 2));
           hints = r .hints;
           dealt = record { size = r .order; below = entries-below (K .n) (m .order) p6 };
         };

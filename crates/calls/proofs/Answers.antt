@@ -45,46 +45,46 @@ module _ (size : ℕ) (K : Course) where
 
   module _ (m : Memory) where
     -- ---- advance
-    pub advance-opened : advanceAnswer size K m ≡ 0 → Accepted size K m × (draws (stateOf m .stage) ≡ true)
+    pub advance-opened : advanceAnswer size K m ≡ 0 → Accepted size K m × (draws (stateOf m .rec .stage) ≡ true)
     unfolding advanceAnswer numbered
     advance-opened h =
-        let x = opened m (memoryRoom size K m) (draws (stateOf m .stage)) (λ e. e) (all-pass (runRules size K m (memoryRoom size K m) (draws (stateOf m .stage))) refl h) in
+        let x = opened m (memoryRoom size K m) (draws (stateOf m .rec .stage)) (λ e. e) (all-pass (runRules size K m (memoryRoom size K m) (draws (stateOf m .rec .stage))) refl h) in
         (x .0, x .2)
 
-    pub advance-closed : Accepted size K m → draws (stateOf m .stage) ≡ true → advanceAnswer size K m ≡ 0
+    pub advance-closed : Accepted size K m → draws (stateOf m .rec .stage) ≡ true → advanceAnswer size K m ≡ 0
     unfolding advanceAnswer
-    advance-closed A d = sym (pass-all (runRules size K m (memoryRoom size K m) (draws (stateOf m .stage))) (closed m (memoryRoom size K m) (draws (stateOf m .stage)) A (room-of size K m (A .roomy)) d))
+    advance-closed A d = sym (pass-all (runRules size K m (memoryRoom size K m) (draws (stateOf m .rec .stage))) (closed m (memoryRoom size K m) (draws (stateOf m .rec .stage)) A (room-of size K m (A .roomy)) d))
 
     -- ---- hand-in
     module _ (reduced : List Float) where
-      pub handIn-opened : handInAnswer size K m reduced ≡ 0 → Accepted size K m × (stops (stateOf m .stage) ≡ true) × (coloursRoom size K reduced ≡ true) × (componentsFit two reduced ≡ true)
+      pub handIn-opened : handInAnswer size K m reduced ≡ 0 → Accepted size K m × (stops (stateOf m .rec .stage) ≡ true) × (coloursRoom size K reduced ≡ true) × (componentsFit two reduced ≡ true)
       unfolding handInAnswer numbered
       handIn-opened h =
           let room = memoryRoom size K m && coloursRoom size K reduced in
-          let rules = runRules size K m room (stops (stateOf m .stage)) in
+          let rules = runRules size K m room (stops (stateOf m .rec .stage)) in
           let x = passed-split rules (rule 7 (componentsFit two reduced) ∷ []) (all-pass (rules ++ (rule 7 (componentsFit two reduced) ∷ [])) refl h) in
-          let y = opened m room (stops (stateOf m .stage)) (λ e. and-l (memoryRoom size K m) (coloursRoom size K reduced) e) (x .0) in
+          let y = opened m room (stops (stateOf m .rec .stage)) (λ e. and-l (memoryRoom size K m) (coloursRoom size K reduced) e) (x .0) in
           (y .0, y .2, and-r (memoryRoom size K m) (coloursRoom size K reduced) (y .1), x .1 .0)
 
-      pub handIn-closed : Accepted size K m → stops (stateOf m .stage) ≡ true → coloursRoom size K reduced ≡ true → componentsFit two reduced ≡ true → handInAnswer size K m reduced ≡ 0
+      pub handIn-closed : Accepted size K m → stops (stateOf m .rec .stage) ≡ true → coloursRoom size K reduced ≡ true → componentsFit two reduced ≡ true → handInAnswer size K m reduced ≡ 0
       unfolding handInAnswer
       handIn-closed A d r f =
           let room = memoryRoom size K m && coloursRoom size K reduced in
-          let rules = runRules size K m room (stops (stateOf m .stage)) in
+          let rules = runRules size K m room (stops (stateOf m .rec .stage)) in
           sym (pass-all (rules ++ (rule 7 (componentsFit two reduced) ∷ []))
-          (passed-join rules (rule 7 (componentsFit two reduced) ∷ []) (closed m room (stops (stateOf m .stage)) A (and-i (memoryRoom size K m) (coloursRoom size K reduced) (room-of size K m (A .roomy)) r) d) (f, tt)))
+          (passed-join rules (rule 7 (componentsFit two reduced) ∷ []) (closed m room (stops (stateOf m .rec .stage)) A (and-i (memoryRoom size K m) (coloursRoom size K reduced) (room-of size K m (A .roomy)) r) d) (f, tt)))
 
     -- ---- result
     module _ (out : List Float) where
-      pub result-opened : resultAnswer size K m out ≡ 0 → Accepted size K m × (eqb (stateOf m .stage) 7 ≡ true) × (coloursRoom size K out ≡ true)
+      pub result-opened : resultAnswer size K m out ≡ 0 → Accepted size K m × (eqb (stateOf m .rec .stage) 7 ≡ true) × (coloursRoom size K out ≡ true)
       unfolding resultAnswer numbered
       result-opened h =
           let room = memoryRoom size K m && coloursRoom size K out in
-          let y = opened m room (eqb (stateOf m .stage) 7) (λ e. and-l (memoryRoom size K m) (coloursRoom size K out) e) (all-pass (runRules size K m room (eqb (stateOf m .stage) 7)) refl h) in
+          let y = opened m room (eqb (stateOf m .rec .stage) 7) (λ e. and-l (memoryRoom size K m) (coloursRoom size K out) e) (all-pass (runRules size K m room (eqb (stateOf m .rec .stage) 7)) refl h) in
           (y .0, y .2, and-r (memoryRoom size K m) (coloursRoom size K out) (y .1))
 
-      pub result-closed : Accepted size K m → eqb (stateOf m .stage) 7 ≡ true → coloursRoom size K out ≡ true → resultAnswer size K m out ≡ 0
+      pub result-closed : Accepted size K m → eqb (stateOf m .rec .stage) 7 ≡ true → coloursRoom size K out ≡ true → resultAnswer size K m out ≡ 0
       unfolding resultAnswer
       result-closed A d r =
           let room = memoryRoom size K m && coloursRoom size K out in
-          sym (pass-all (runRules size K m room (eqb (stateOf m .stage) 7)) (closed m room (eqb (stateOf m .stage) 7) A (and-i (memoryRoom size K m) (coloursRoom size K out) (room-of size K m (A .roomy)) r) d))
+          sym (pass-all (runRules size K m room (eqb (stateOf m .rec .stage) 7)) (closed m room (eqb (stateOf m .rec .stage) 7) A (and-i (memoryRoom size K m) (coloursRoom size K out) (room-of size K m (A .roomy)) r) d))

@@ -17,7 +17,7 @@ use Rattle.calls.proofs.Sound.{settle-sound, draw-sound, start-sound, h
 use Rattle.calls.specs.Fit.{Fit}
 
 module _ (size : ℕ) (small : size ≤ 256) (K : Course) (given : Bool) (D : Sampled size (K .job) (K .n) (K .samples) given) where
-  pub step-fit : (s : State) → Fit K s → draws (s .stage) ≡ true → Fit K (step K s)
+  pub step-fit : (s : State) → Fit K s → draws (s .rec .stage) ≡ true → Fit K (step K s)
   unfolding step
   step-fit s F d =
       record {
@@ -31,6 +31,6 @@ module _ (size : ℕ) (small : size ≤ 256) (K : Course) (given : Bool) (D : Sa
   pub start-fit : (seed : ℕ) (hints : List ℕ) → length hints ≡ K .job .T → Fit K (start K seed hints)
   start-fit seed hints h = record { rests = start-rests K (D .ready .sizes .subs) (D .ready .sizes .some) seed hints; sound = start-sound size small K given D seed hints h }
 
-  pub handIn-fit : (reduced : List Float) (s : State) → Held K reduced → Fit K s → draws (s .stage) ≡ false → s .stage ≤ 6 → s .stage ≢ 2 → Fit K (handIn K reduced s)
+  pub handIn-fit : (reduced : List Float) (s : State) → Held K reduced → Fit K s → draws (s .rec .stage) ≡ false → s .rec .stage ≤ 6 → s .rec .stage ≢ 2 → Fit K (handIn K reduced s)
   handIn-fit reduced s H F d l n =
       record { rests = handIn-rests K (D .ready .sizes .subs) (D .ready .sizes .some) reduced s (F .rests) d l; sound = handIn-sound size small K (D .ready) reduced s H (F .sound) n }

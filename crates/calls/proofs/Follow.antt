@@ -33,7 +33,7 @@ use Rattle.calls.proofs.Next.{started-state, advanced-state, handed-sta
 
 -- ---- a state at its place in the cycle of a seed
 pub record Follows (K : Course) (seed : ℕ) (s : State) : Type 0 where
-  pub cycle : cycleOf K s ≡ after (K .n) seed (s .made)
+  pub cycle : cycleOf K s ≡ after (K .n) seed (s .rec .made)
 
 -- a first value, by its place
 first-at : (f : ℕ → ℕ) (t i : ℕ) → i < t → getD (firsts f t) i 0 ≡ f i
@@ -55,23 +55,23 @@ module _ (K : Course) (seed : ℕ) where
   same-follows : (s z : State) → Same s z → Follows K seed s → Follows K seed z
   same-follows s z e F =
       record {
-        cycle = ap (λ (o : List ℕ). cycle (deck o (z .generator)) (z .made)) (e .order)
-            ∙ ap (λ (g : ℕ). cycle (deck (s .order) g) (z .made)) (e .generator)
-            ∙ ap (λ (m : ℕ). cycle (deck (s .order) (s .generator)) m) (e .made)
+        cycle = ap (λ (o : List ℕ). cycle (deck o (z .rec .generator)) (z .rec .made)) (e .order)
+            ∙ ap (λ (g : ℕ). cycle (deck (s .order) g) (z .rec .made)) (e .generator)
+            ∙ ap (λ (m : ℕ). cycle (deck (s .order) (s .rec .generator)) m) (e .made)
             ∙ F .cycle
             ∙ sym (ap (after (K .n) seed) (e .made));
       }
 
   -- the next sample is the cycle's
-  pub sample-follows : (s : State) → Follows K seed s → sampleAt K s ≡ drawAt (K .n) seed (s .made)
-  sample-follows s F = follow-sample (K .n) seed (s .made) (sampleAt K s) (cycleOf K s) (drawOne (cycleOf K s) .next) (F .cycle) refl
+  pub sample-follows : (s : State) → Follows K seed s → sampleAt K s ≡ drawAt (K .n) seed (s .rec .made)
+  sample-follows s F = follow-sample (K .n) seed (s .rec .made) (sampleAt K s) (cycleOf K s) (drawOne (cycleOf K s) .next) (F .cycle) refl
 
   draw-follows : (s : State) → Follows K seed s → Follows K seed (draw K s)
   unfolding draw drawWith drawOne
   draw-follows s F =
       record {
-        cycle = follow-next (K .n) seed (s .made) (sampleAt K s) (cycleOf K s) (drawOne (cycleOf K s) .next) (F .cycle) refl
-            ∙ sym (ap (after (K .n) seed) (add-one (s .made)));
+        cycle = follow-next (K .n) seed (s .rec .made) (sampleAt K s) (cycleOf K s) (drawOne (cycleOf K s) .next) (F .cycle) refl
+            ∙ sym (ap (after (K .n) seed) (add-one (s .rec .made)));
       }
 
   pub step-follows : (s : State) → Follows K seed s → Follows K seed (step K s)
@@ -97,42 +97,42 @@ module _ (K : Course) (seed : ℕ) where
   pub handIn-follows : (reduced : List Float) (s : State) → Follows K seed s → Follows K seed (handIn K reduced s)
   unfolding handIn refinedOnce
   handIn-follows reduced s F =
-      both (Follows K seed) (eqb (s .stage) 3) (same-follows final (settle K final) (settle-same K final) (record { cycle = F .cycle }))
-      (both (Follows K seed) (eqb (s .stage) 5) (record { cycle = F .cycle }) (record { cycle = F .cycle }))
+      both (Follows K seed) (eqb (s .rec .stage) 3) (same-follows final (settle K final) (settle-same K final) (record { cycle = F .cycle }))
+      (both (Follows K seed) (eqb (s .rec .stage) 5) (record { cycle = F .cycle }) (record { cycle = F .cycle }))
     where
       final : State
       final = at (painted s (s .hints) reduced) 4 0 (10 * b K)
 
   -- ---- the samples of one advance go on where the draws made end
-  pub advance-samples : (a : ℕ) (s : State) → Follows K seed s → firsts (drawAt (K .n) seed) (s .made) ++ sampled K a s ≡ firsts (drawAt (K .n) seed) (advance K a s .made)
+  pub advance-samples : (a : ℕ) (s : State) → Follows K seed s → firsts (drawAt (K .n) seed) (s .rec .made) ++ sampled K a s ≡ firsts (drawAt (K .n) seed) (advance K a s .rec .made)
   unfolding sampled
-  advance-samples zero s F = append-nil (firsts (drawAt (K .n) seed) (s .made)) ∙ sym (ap (λ (z : State). firsts (drawAt (K .n) seed) (z .made)) (whilst-zero (going K) (step K) s))
+  advance-samples zero s F = append-nil (firsts (drawAt (K .n) seed) (s .rec .made)) ∙ sym (ap (λ (z : State). firsts (drawAt (K .n) seed) (z .rec .made)) (whilst-zero (going K) (step K) s))
   advance-samples (suc a) s F = elim (decide (going K s)) [
     | inl d ↦
         ap (λ (t : Bool). done-so-far ++ cond t (sampleAt K s ∷ sampled K a (step K s)) []) d
         ∙ sym (append-assoc done-so-far (sampleAt K s ∷ []) (sampled K a (step K s)))
         ∙ ap (λ (l : List ℕ). l ++ sampled K a (step K s)) one-more
         ∙ advance-samples a (step K s) (step-follows s F)
-        ∙ sym (ap (λ (z : State). firsts (drawAt (K .n) seed) (z .made)) (whilst-step (going K) (step K) a s d))
+        ∙ sym (ap (λ (z : State). firsts (drawAt (K .n) seed) (z .rec .made)) (whilst-step (going K) (step K) a s d))
     | inr d ↦
         ap (λ (t : Bool). done-so-far ++ cond t (sampleAt K s ∷ sampled K a (step K s)) []) d
         ∙ append-nil done-so-far
-        ∙ sym (ap (λ (z : State). firsts (drawAt (K .n) seed) (z .made)) (whilst-stop (going K) (step K) (suc a) s d))
+        ∙ sym (ap (λ (z : State). firsts (drawAt (K .n) seed) (z .rec .made)) (whilst-stop (going K) (step K) (suc a) s d))
   ]
     where
       done-so-far : List ℕ
-      done-so-far = firsts (drawAt (K .n) seed) (s .made)
+      done-so-far = firsts (drawAt (K .n) seed) (s .rec .made)
 
-      one-more : done-so-far ++ (sampleAt K s ∷ []) ≡ firsts (drawAt (K .n) seed) (step K s .made)
+      one-more : done-so-far ++ (sampleAt K s ∷ []) ≡ firsts (drawAt (K .n) seed) (step K s .rec .made)
       one-more =
           unfold firsts in
-          ap (λ (x : ℕ). firsts (drawAt (K .n) seed) (s .made) ++ (x ∷ [])) (sample-follows s F)
-          ∙ sym (ap (firsts (drawAt (K .n) seed)) (step-made K s ∙ add-one (s .made)))
+          ap (λ (x : ℕ). firsts (drawAt (K .n) seed) (s .rec .made) ++ (x ∷ [])) (sample-follows s F)
+          ∙ sym (ap (firsts (drawAt (K .n) seed)) (step-made K s ∙ add-one (s .rec .made)))
 
 -- ---- all calls since the start
 pub record Followed (K : Course) (seed : ℕ) (m : Memory) (ds : List ℕ) : Type 0 where
   pub follows : Follows K seed (stateOf m)
-  pub samples : ds ≡ firsts (drawAt (K .n) seed) (stateOf m .made)
+  pub samples : ds ≡ firsts (drawAt (K .n) seed) (stateOf m .rec .made)
 
 module _ (size : ℕ) (K : Course) (seed : ℕ) where
   pub run-follows : {m : Memory} {ds : List ℕ} → Run size K seed m ds → Followed K seed m ds
@@ -140,21 +140,21 @@ module _ (size : ℕ) (K : Course) (seed : ℕ) where
       let e = started-state size K m seed h in
       record {
         follows = subst⁻¹ (Follows K seed) e (start-follows K seed (m .hints));
-        samples = unfold firsts in sym (ap (firsts (drawAt (K .n) seed)) (ap (λ (z : State). z .made) e ∙ start-made K seed (m .hints)));
+        samples = unfold firsts in sym (ap (firsts (drawAt (K .n) seed)) (ap (λ (z : State). z .rec .made) e ∙ start-made K seed (m .hints)));
       }
   run-follows (advanced {m} {ds} r a h) =
       let F = run-follows r in
       let e = advanced-state size K m a h in
       record {
         follows = subst⁻¹ (Follows K seed) e (advance-follows K seed a (stateOf m) (F .follows));
-        samples = ap (λ (l : List ℕ). l ++ sampled K a (stateOf m)) (F .samples) ∙ advance-samples K seed a (stateOf m) (F .follows) ∙ sym (ap (λ (z : State). firsts (drawAt (K .n) seed) (z .made)) e);
+        samples = ap (λ (l : List ℕ). l ++ sampled K a (stateOf m)) (F .samples) ∙ advance-samples K seed a (stateOf m) (F .follows) ∙ sym (ap (λ (z : State). firsts (drawAt (K .n) seed) (z .rec .made)) e);
       }
   run-follows (handedIn {m} {ds} r reduced h) =
       let F = run-follows r in
       let e = handed-state size K m reduced h in
       record {
         follows = subst⁻¹ (Follows K seed) e (handIn-follows K seed reduced (stateOf m) (F .follows));
-        samples = F .samples ∙ sym (ap (firsts (drawAt (K .n) seed)) (ap (λ (z : State). z .made) e ∙ handIn-made K reduced (stateOf m)));
+        samples = F .samples ∙ sym (ap (firsts (drawAt (K .n) seed)) (ap (λ (z : State). z .rec .made) e ∙ handIn-made K reduced (stateOf m)));
       }
 
   -- as many as word 4 says
@@ -163,7 +163,7 @@ module _ (size : ℕ) (K : Course) (seed : ℕ) where
   run-made {m} {ds} r = ap length (run-follows r .samples) ∙ length-firsts (drawAt (K .n) seed) (getD (m .words) 4 0)
 
   pub run-samples : {m : Memory} {ds : List ℕ} → Run size K seed m ds → ds ≡ firsts (drawAt (K .n) seed) (length ds)
-  run-samples {m} {ds} r = let F = run-follows r in F .samples ∙ sym (ap (firsts (drawAt (K .n) seed)) (ap length (F .samples) ∙ length-firsts (drawAt (K .n) seed) (stateOf m .made)))
+  run-samples {m} {ds} r = let F = run-follows r in F .samples ∙ sym (ap (firsts (drawAt (K .n) seed)) (ap length (F .samples) ∙ length-firsts (drawAt (K .n) seed) (stateOf m .rec .made)))
 
   -- each sample has been drawn t / n times, rounded down or up
   pub run-even : {m : Memory} {ds : List ℕ} → Run size K seed m ds → (i : ℕ) → i < K .n → Even (K .n) (length ds) (count i ds)

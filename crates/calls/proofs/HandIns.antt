@@ -34,17 +34,17 @@ unfolding handIns
 few-hand-ins k = by-test (λ (x : ℕ). x ≤ 3) (ltb k 4) (λ _. omega arith) (λ _. by-test (λ (x : ℕ). x ≤ 3) (ltb k 6) (λ _. omega arith) (λ t. omega (arith, ltb-false k 6 t)))
 
 record Final (s : State) : Type 0 where
-  pub from : 4 ≤ s .stage
-  pub to : s .stage ≤ 5
+  pub from : 4 ≤ s .rec .stage
+  pub to : s .rec .stage ≤ 5
 
 module _ (K : Course) where
   finish-final : (s : State) → Final s → Final (finishRound K s)
   unfolding finishRound
   finish-final s F =
-      by-test Final (eqb (s .stage) 0) (λ t. absurd (omega (arith, F .from, eqb-true (s .stage) 0 t)))
-      (λ _. by-test Final (eqb (s .stage) 1) (λ t. absurd (omega (arith, F .from, eqb-true (s .stage) 1 t)))
-      (λ _. by-test Final (eqb (s .stage) 2) (λ t. absurd (omega (arith, F .from, eqb-true (s .stage) 2 t)))
-      (λ _. both Final (eqb (s .stage) 4) (record { from = omega arith; to = omega arith }) F)))
+      by-test Final (eqb (s .rec .stage) 0) (λ t. absurd (omega (arith, F .from, eqb-true (s .rec .stage) 0 t)))
+      (λ _. by-test Final (eqb (s .rec .stage) 1) (λ t. absurd (omega (arith, F .from, eqb-true (s .rec .stage) 1 t)))
+      (λ _. by-test Final (eqb (s .rec .stage) 2) (λ t. absurd (omega (arith, F .from, eqb-true (s .rec .stage) 2 t)))
+      (λ _. both Final (eqb (s .rec .stage) 4) (record { from = omega arith; to = omega arith }) F)))
 
   settle-final : (s : State) → Final s → Final (settle K s)
   unfolding settle
@@ -57,33 +57,33 @@ module _ (K : Course) where
   advance-final : (a : ℕ) (s : State) → Final s → Final (advance K a s)
   advance-final a s F = whilst-keeps (going K) (step K) Final (λ z G _. step-final z G) a s F
 
-  pub advance-hand-ins : (a : ℕ) (s : State) → draws (s .stage) ≡ true → handIns (advance K a s .stage) ≡ handIns (s .stage)
-  advance-hand-ins a s d = or-case (ltb (s .stage) 3) (eqb (s .stage) 4) d first second
+  pub advance-hand-ins : (a : ℕ) (s : State) → draws (s .rec .stage) ≡ true → handIns (advance K a s .rec .stage) ≡ handIns (s .rec .stage)
+  advance-hand-ins a s d = or-case (ltb (s .rec .stage) 3) (eqb (s .rec .stage) 4) d first second
     where
-      first : ltb (s .stage) 3 ≡ true → handIns (advance K a s .stage) ≡ handIns (s .stage)
+      first : ltb (s .rec .stage) 3 ≡ true → handIns (advance K a s .rec .stage) ≡ handIns (s .rec .stage)
       first t =
-          let l : s .stage ≤ 3 = omega (arith, ltb-true (s .stage) 3 t) in
-          early (advance K a s .stage) (advance-early K a s l) ∙ sym (early (s .stage) l)
+          let l : s .rec .stage ≤ 3 = omega (arith, ltb-true (s .rec .stage) 3 t) in
+          early (advance K a s .rec .stage) (advance-early K a s l) ∙ sym (early (s .rec .stage) l)
 
-      second : eqb (s .stage) 4 ≡ true → handIns (advance K a s .stage) ≡ handIns (s .stage)
+      second : eqb (s .rec .stage) 4 ≡ true → handIns (advance K a s .rec .stage) ≡ handIns (s .rec .stage)
       second t =
-          let F : Final s = record { from = omega (arith, eqb-true (s .stage) 4 t); to = omega (arith, eqb-true (s .stage) 4 t) } in
+          let F : Final s = record { from = omega (arith, eqb-true (s .rec .stage) 4 t); to = omega (arith, eqb-true (s .rec .stage) 4 t) } in
           let G = advance-final a s F in
-          late (advance K a s .stage) (G .from) (G .to) ∙ sym (late (s .stage) (F .from) (F .to))
+          late (advance K a s .rec .stage) (G .from) (G .to) ∙ sym (late (s .rec .stage) (F .from) (F .to))
 
   -- ---- and a hand-in takes one from them
-  pub hand-in-one : (reduced : List Float) (s : State) → stops (s .stage) ≡ true → suc (handIns (handIn K reduced s .stage)) ≡ handIns (s .stage)
+  pub hand-in-one : (reduced : List Float) (s : State) → stops (s .rec .stage) ≡ true → suc (handIns (handIn K reduced s .rec .stage)) ≡ handIns (s .rec .stage)
   unfolding handIn refinedOnce
   hand-in-one reduced s d =
-      by-test One (eqb (s .stage) 3) (λ t. let F = settle-final (at (painted s (s .hints) reduced) 4 0 (10 * b K)) (record { from = omega arith; to = omega arith }) in
-      ap suc (late _ (F .from) (F .to)) ∙ sym (early (s .stage) (omega (arith, eqb-true (s .stage) 3 t))))
-      (λ t. by-test One (eqb (s .stage) 5) (λ u. ap suc (last 6 (omega arith)) ∙ sym (late (s .stage) (omega (arith, eqb-true (s .stage) 5 u)) (omega (arith, eqb-true (s .stage) 5 u))))
+      by-test One (eqb (s .rec .stage) 3) (λ t. let F = settle-final (at (painted s (s .hints) reduced) 4 0 (10 * b K)) (record { from = omega arith; to = omega arith }) in
+      ap suc (late _ (F .from) (F .to)) ∙ sym (early (s .rec .stage) (omega (arith, eqb-true (s .rec .stage) 3 t))))
+      (λ t. by-test One (eqb (s .rec .stage) 5) (λ u. ap suc (last 6 (omega arith)) ∙ sym (late (s .rec .stage) (omega (arith, eqb-true (s .rec .stage) 5 u)) (omega (arith, eqb-true (s .rec .stage) 5 u))))
       (λ u. sixth t u))
     where
       One : State → Type 0
-      One z = suc (handIns (z .stage)) ≡ handIns (s .stage)
+      One z = suc (handIns (z .rec .stage)) ≡ handIns (s .rec .stage)
 
-      sixth : eqb (s .stage) 3 ≡ false → eqb (s .stage) 5 ≡ false → suc (handIns 7) ≡ handIns (s .stage)
+      sixth : eqb (s .rec .stage) 3 ≡ false → eqb (s .rec .stage) 5 ≡ false → suc (handIns 7) ≡ handIns (s .rec .stage)
       sixth t u =
-          let q : s .stage ≡ 6 = eqb-true (s .stage) 6 (subst (λ (x : Bool). x || eqb (s .stage) 6 ≡ true) (or-no (eqb (s .stage) 3) (eqb (s .stage) 5) t u) d) in
+          let q : s .rec .stage ≡ 6 = eqb-true (s .rec .stage) 6 (subst (λ (x : Bool). x || eqb (s .rec .stage) 6 ≡ true) (or-no (eqb (s .rec .stage) 3) (eqb (s .rec .stage) 5) t u) d) in
           ap suc (last 7 (omega arith)) ∙ sym (ap handIns q ∙ last 6 (omega arith))

@@ -1,5 +1,6 @@
 pub mod Limits
 pub mod Split
+pub mod Traces
 pub mod Whilsts
 pub mod Presence
 pub mod Follow
@@ -13,5 +14,6 @@ pub mod Settling
 pub mod Place
 pub mod Sound
 pub mod HandIns
+pub mod Hintless
 pub mod Fit
 pub mod Accepted

@@ -19,6 +19,7 @@ use Rattle.ieee.proofs.Keys.{pack-mono, plus-bits, le→keys}
 use Rattle.lists.proofs.Tests.{and-i}
 use Rattle.lists.proofs.Loops.{every-at, every-all}
 use Rattle.color.specs.Color.{Bounded}
+use Rattle.job.specs.Job.{two}
 use Rattle.job.proofs.First.{first-none}
 use Rattle.job.specs.Checks.{within, componentFits, firstBad, componentsFit}
 use Rattle.job.proofs.Ready.{components-within}
@@ -52,6 +53,19 @@ module _ (n : ℕ) (b : ℤ) (k : ℕ) (exact : n * up b ≡ k * down b) where
   unfolding within neg
   fits-limit x w = and-i (le x (fin false n b)) (le (fin true n b) x) (true-of (le x (fin false n b)) (below-limit x w)) (true-of (le (fin true n b) x) (above-limit x w))
 
+-- a list within a bound passes the limit's test
+listed : (k : ℕ) (limit : Float) → ((x : Float) → Within x k 1 → within limit x ≡ true) → (xs : List Float) → Bounded xs k → componentsFit limit xs ≡ true
+unfolding firstBad componentFits
+listed k limit f xs B = eq-eqb (firstBad limit xs) (length xs) (sym (first-none (componentFits limit xs) (length xs) (every-all (componentFits limit xs) (length xs) (λ i l. f (getD xs i nan) (B i l)))))
+
+-- ---- handed-in colours: within 2
+two-exact : (x : Float) → Within x 2 1 → within two x ≡ true
+unfolding ofBits
+two-exact x w = fits-limit 1 (pos 1) 2 refl x w
+
+pub fits-two : (xs : List Float) → Bounded xs 2 → componentsFit two xs ≡ true
+fits-two = listed 2 two two-exact
+
 -- ---- working colours: within 4
 four-exact : (x : Float) → Within x 4 1 → within four x ≡ true
 unfolding ofBits
@@ -62,8 +76,7 @@ unfolding ofBits
 four-within = lit≤ tt
 
 pub fits-four : (xs : List Float) → Bounded xs 4 → componentsFit four xs ≡ true
-unfolding firstBad componentFits
-fits-four xs B = eq-eqb (firstBad four xs) (length xs) (sym (first-none (componentFits four xs) (length xs) (every-all (componentFits four xs) (length xs) (λ i l. four-exact (getD xs i nan) (B i l)))))
+fits-four = listed 4 four four-exact
 
 pub four-bounded : (xs : List Float) → componentsFit four xs ≡ true → Bounded xs 4
 four-bounded xs h = components-within four xs 4 four-within h

@@ -19,9 +19,9 @@ use Rattle.calls.proofs.Place.{some-left, advance-rests, start-rests}
 
 -- what only a draw changes
 pub record Same (s z : State) : Type 0 where
-  pub made : z .made ≡ s .made
+  pub made : z .rec .made ≡ s .rec .made
   pub order : z .order ≡ s .order
-  pub generator : z .generator ≡ s .generator
+  pub generator : z .rec .generator ≡ s .rec .generator
 
 module _ (K : Course) where
   enterReplacing-same : (s : State) → Same s (enterReplacing K s)
@@ -34,25 +34,25 @@ module _ (K : Course) where
 
   closeSeeding-same : (s : State) → Same s (closeSeeding K s)
   unfolding closeSeeding openSeeding noticed
-  closeSeeding-same s = both (Same s) (ltb (s .rounds + 1) (K .job .S - 1)) (record { made = refl; order = refl; generator = refl })
+  closeSeeding-same s = both (Same s) (ltb (s .rec .rounds + 1) (K .job .S - 1)) (record { made = refl; order = refl; generator = refl })
       (let x = enterGrowing-same _ in record { made = x .made; order = x .order; generator = x .generator })
 
   closeGrowing-same : (s : State) → Same s (closeGrowing K s)
   unfolding closeGrowing openGrowing
-  closeGrowing-same s = both (Same s) (ltb (s .rounds + 1) (K .job .C - 1)) (record { made = refl; order = refl; generator = refl }) (enterReplacing-same s)
+  closeGrowing-same s = both (Same s) (ltb (s .rec .rounds + 1) (K .job .C - 1)) (record { made = refl; order = refl; generator = refl }) (enterReplacing-same s)
 
   judged-same : (s : State) → Same s (judged K s)
   unfolding judged keep noticed
-  judged-same s = both (Same s) (lt (errorOf K s) (ofBits binary32 (s .error))) (record { made = refl; order = refl; generator = refl }) (record { made = refl; order = refl; generator = refl })
+  judged-same s = both (Same s) (lt (errorOf K s) (ofBits binary32 (s .rec .error))) (record { made = refl; order = refl; generator = refl }) (record { made = refl; order = refl; generator = refl })
 
   closeReplacing-same : (s : State) → Same s (closeReplacing K s)
   unfolding closeReplacing openReplacing enterReducing
   closeReplacing-same s = let x = judged-same s in
-      both (Same s) (ltb (s .rounds + 1) 10) (record { made = x .made; order = x .order; generator = x .generator }) (record { made = x .made; order = x .order; generator = x .generator })
+      both (Same s) (ltb (s .rec .rounds + 1) 10) (record { made = x .made; order = x .order; generator = x .generator }) (record { made = x .made; order = x .order; generator = x .generator })
 
   finish-same : (s : State) → Same s (finishRound K s)
   unfolding finishRound
-  finish-same s = all-stages (Same s) (s .stage) (closeSeeding-same s) (closeGrowing-same s) (closeReplacing-same s)
+  finish-same s = all-stages (Same s) (s .rec .stage) (closeSeeding-same s) (closeGrowing-same s) (closeReplacing-same s)
       (record { made = refl; order = refl; generator = refl }) (record { made = refl; order = refl; generator = refl })
 
   pub settle-same : (s : State) → Same s (settle K s)
@@ -62,33 +62,33 @@ module _ (K : Course) where
       _ s (record { made = refl; order = refl; generator = refl })
 
   -- ---- the draws that are counted
-  pub step-made : (s : State) → step K s .made ≡ s .made + 1
+  pub step-made : (s : State) → step K s .rec .made ≡ s .rec .made + 1
   unfolding step draw drawWith
   step-made s = settle-same (draw K s) .made
 
-  pub advance-made : (a : ℕ) (s : State) → advance K a s .made ≡ s .made + drawsOf K a s
-  advance-made = times-grows (going K) (step K) (λ (s : State). s .made) step-made
+  pub advance-made : (a : ℕ) (s : State) → advance K a s .rec .made ≡ s .rec .made + drawsOf K a s
+  advance-made = times-grows (going K) (step K) (λ (s : State). s .rec .made) step-made
 
   -- the start and a hand-in make no draw
-  pub start-made : (seed : ℕ) (hints : List ℕ) → start K seed hints .made ≡ 0
+  pub start-made : (seed : ℕ) (hints : List ℕ) → start K seed hints .rec .made ≡ 0
   unfolding start
-  start-made seed hints = settle-same first .made ∙ both (λ (z : State). z .made ≡ 0) (ltb 1 (K .job .S)) (unfold openSeeding fresh in refl) (enterGrowing-same (fresh K seed hints) .made ∙ (unfold fresh in refl))
+  start-made seed hints = settle-same first .made ∙ both (λ (z : State). z .rec .made ≡ 0) (ltb 1 (K .job .S)) (unfold openSeeding fresh in refl) (enterGrowing-same (fresh K seed hints) .made ∙ (unfold fresh in refl))
     where
       first : State
       first = cond (ltb 1 (K .job .S)) (openSeeding K 0 0 (fresh K seed hints)) (enterGrowing K (fresh K seed hints))
 
-  pub handIn-made : (reduced : List Float) (s : State) → handIn K reduced s .made ≡ s .made
+  pub handIn-made : (reduced : List Float) (s : State) → handIn K reduced s .rec .made ≡ s .rec .made
   unfolding handIn refinedOnce
   handIn-made reduced s =
-      both (λ (z : State). z .made ≡ s .made) (eqb (s .stage) 3) (settle-same (at (painted s (s .hints) reduced) 4 0 (10 * b K)) .made) (both (λ (z : State). z .made ≡ s .made) (eqb (s .stage) 5) refl refl)
+      both (λ (z : State). z .rec .made ≡ s .rec .made) (eqb (s .rec .stage) 3) (settle-same (at (painted s (s .hints) reduced) 4 0 (10 * b K)) .made) (both (λ (z : State). z .rec .made ≡ s .rec .made) (eqb (s .rec .stage) 5) refl refl)
 
   -- a call that leaves the run in a stage that draws has spent its allotment
-  pub all-spent : (a : ℕ) (s : State) → draws (advance K a s .stage) ≡ true → drawsOf K a s ≡ a
+  pub all-spent : (a : ℕ) (s : State) → draws (advance K a s .rec .stage) ≡ true → drawsOf K a s ≡ a
   all-spent = times-all (going K) (step K)
 
   -- ---- up to the stop for reduction
   abbrev Early : State → Type 0
-  Early s = s .stage ≤ 3
+  Early s = s .rec .stage ≤ 3
 
   enterGrowing-early : (s : State) → Early (enterGrowing K s)
   unfolding enterGrowing openGrowing enterReplacing openReplacing
@@ -96,20 +96,20 @@ module _ (K : Course) where
 
   closeSeeding-early : (s : State) → Early (closeSeeding K s)
   unfolding closeSeeding openSeeding
-  closeSeeding-early s = both Early (ltb (s .rounds + 1) (K .job .S - 1)) (omega arith) (enterGrowing-early _)
+  closeSeeding-early s = both Early (ltb (s .rec .rounds + 1) (K .job .S - 1)) (omega arith) (enterGrowing-early _)
 
   closeGrowing-early : (s : State) → Early (closeGrowing K s)
   unfolding closeGrowing openGrowing enterReplacing openReplacing
-  closeGrowing-early s = both Early (ltb (s .rounds + 1) (K .job .C - 1)) (omega arith) (omega arith)
+  closeGrowing-early s = both Early (ltb (s .rec .rounds + 1) (K .job .C - 1)) (omega arith) (omega arith)
 
   closeReplacing-early : (s : State) → Early (closeReplacing K s)
   unfolding closeReplacing openReplacing enterReducing
-  closeReplacing-early s = both Early (ltb (s .rounds + 1) 10) (omega arith) (omega arith)
+  closeReplacing-early s = both Early (ltb (s .rec .rounds + 1) 10) (omega arith) (omega arith)
 
   finish-early : (s : State) → Early s → Early (finishRound K s)
   unfolding finishRound
-  finish-early s h = both Early (eqb (s .stage) 0) (closeSeeding-early s) (both Early (eqb (s .stage) 1) (closeGrowing-early s) (both Early (eqb (s .stage) 2) (closeReplacing-early s)
-      (by-test Early (eqb (s .stage) 4) (λ t. absurd (let e : s .stage ≡ 4 = eqb-true (s .stage) 4 t in omega arith)) (λ t. h))))
+  finish-early s h = both Early (eqb (s .rec .stage) 0) (closeSeeding-early s) (both Early (eqb (s .rec .stage) 1) (closeGrowing-early s) (both Early (eqb (s .rec .stage) 2) (closeReplacing-early s)
+      (by-test Early (eqb (s .rec .stage) 4) (λ t. absurd (let e : s .rec .stage ≡ 4 = eqb-true (s .rec .stage) 4 t in omega arith)) (λ t. h))))
 
   settle-early : (s : State) → Early s → Early (settle K s)
   unfolding settle
@@ -129,7 +129,7 @@ module _ (K : Course) where
 -- ---- the run's ends
 module _ (K : Course) (S1 : 1 ≤ K .job .S) (C1 : 1 ≤ K .job .C) where
   -- up to stage 3, what is made and left is no more than the draws before the stop
-  bounded : (s : State) → Placed K s → Early K s → s .made + s .left ≤ (K .job .S + K .job .C + 8) * b K
+  bounded : (s : State) → Placed K s → Early K s → s .rec .made + s .rec .left ≤ (K .job .S + K .job .C + 8) * b K
   bounded s (seeding k r l e) h = rw e (mul-le-mul-right (b K) (omega arith))
   bounded s (growing k r l e) h = rw e (mul-le-mul-right (b K) (omega arith))
   bounded s (replacing k r l e) h = rw e (mul-le-mul-right (b K) (omega arith))
@@ -137,7 +137,7 @@ module _ (K : Course) (S1 : 1 ≤ K .job .S) (C1 : 1 ≤ K .job .C) where
   bounded s (finishing k r l e) h = absurd (omega arith)
   bounded s (over k past r l e) h = absurd (omega arith)
 
-  left-le : (s : State) → Placed K s → Early K s → s .left ≤ b K
+  left-le : (s : State) → Placed K s → Early K s → s .rec .left ≤ b K
   left-le s (seeding k r l e) h = l
   left-le s (growing k r l e) h = l
   left-le s (replacing k r l e) h = l
@@ -145,13 +145,13 @@ module _ (K : Course) (S1 : 1 ≤ K .job .S) (C1 : 1 ≤ K .job .C) where
   left-le s (finishing k r l e) h = absurd (omega arith)
   left-le s (over k past r l e) h = absurd (omega arith)
 
-  stopped : (s : State) → Placed K s → Early K s → draws (s .stage) ≡ false → s .stage ≡ 3
+  stopped : (s : State) → Placed K s → Early K s → draws (s .rec .stage) ≡ false → s .rec .stage ≡ 3
   stopped s p h D = go p
     where
-      drawn : {k : ℕ} → s .stage ≡ k → draws k ≡ true → s .stage ≡ 3
+      drawn : {k : ℕ} → s .rec .stage ≡ k → draws k ≡ true → s .rec .stage ≡ 3
       drawn k t = absurd (true≢false (sym t ∙ sym (ap draws k) ∙ D))
 
-      go : Placed K s → s .stage ≡ 3
+      go : Placed K s → s .rec .stage ≡ 3
       go (seeding k r l e) = drawn k refl
       go (growing k r l e) = drawn k refl
       go (replacing k r l e) = drawn k refl
@@ -160,21 +160,21 @@ module _ (K : Course) (S1 : 1 ≤ K .job .S) (C1 : 1 ≤ K .job .C) where
       go (over k past r l e) = absurd (omega arith)
 
   -- fewer than ten samples: no draw at all, and the start goes straight to the stop for reduction
-  pub straight : b K ≡ 0 → (seed : ℕ) (hints : List ℕ) → start K seed hints .stage ≡ 3
+  pub straight : b K ≡ 0 → (seed : ℕ) (hints : List ℕ) → start K seed hints .rec .stage ≡ 3
   straight e seed hints = go (start-rests K S1 C1 seed hints) (start-early K seed hints)
     where
-      go : {s : State} → Rests K s → Early K s → s .stage ≡ 3
-      go {s} R h = elim (decide (draws (s .stage))) [
+      go : {s : State} → Rests K s → Early K s → s .rec .stage ≡ 3
+      go {s} R h = elim (decide (draws (s .rec .stage))) [
         | inl t ↦ absurd (omega (arith, some-left K s R t, left-le s (R .place) h))
         | inr t ↦ stopped s (R .place) h t
       ]
 
   -- an allotment that covers what is missing ends at the stop for reduction, with (S + C + 8)·b draws made
-  pub reaches : (a : ℕ) (s : State) → Rests K s → Early K s → (K .job .S + K .job .C + 8) * b K ≤ s .made + a → advance K a s .stage ≡ 3
+  pub reaches : (a : ℕ) (s : State) → Rests K s → Early K s → (K .job .S + K .job .C + 8) * b K ≤ s .rec .made + a → advance K a s .rec .stage ≡ 3
   reaches a s R h n = go (advance K a s) refl (advance-rests K S1 C1 a s R) (advance-early K a s h)
     where
-      go : (z : State) → z ≡ advance K a s → Rests K z → Early K z → advance K a s .stage ≡ 3
-      go z q Z k = ap (λ (x : State). x .stage) (sym q) ∙ (elim (decide (draws (z .stage))) [
-        | inl t ↦ absurd (omega (arith, some-left K z Z t, bounded z (Z .place) k, ap (λ (x : State). x .made) q, advance-made K a s, all-spent K a s (ap (λ (x : State). draws (x .stage)) (sym q) ∙ t)))
+      go : (z : State) → z ≡ advance K a s → Rests K z → Early K z → advance K a s .rec .stage ≡ 3
+      go z q Z k = ap (λ (x : State). x .rec .stage) (sym q) ∙ (elim (decide (draws (z .rec .stage))) [
+        | inl t ↦ absurd (omega (arith, some-left K z Z t, bounded z (Z .place) k, ap (λ (x : State). x .rec .made) q, advance-made K a s, all-spent K a s (ap (λ (x : State). draws (x .rec .stage)) (sym q) ∙ t)))
         | inr t ↦ stopped z (Z .place) k t
       ])

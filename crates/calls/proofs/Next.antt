@@ -57,7 +57,7 @@ module _ (size : ℕ) (K : Course) (m : Memory) where
   handed-state reduced h = ap (λ (x : Outcome). stateOf (x .after)) (done (handInAnswer size K m reduced) m 0 (handIn K reduced (stateOf m)) h) ∙ held-state (handIn K reduced (stateOf m))
 
 -- at a stop no draw is due, and the stage is no 2
-quiet-at : (k : ℕ) → stops k ≡ true → (draws k ≡ false) × (k ≤ 6) × (k ≢ 2)
+pub quiet-at : (k : ℕ) → stops k ≡ true → (draws k ≡ false) × (k ≤ 6) × (k ≢ 2)
 quiet-at k e =
     or-case (eqb k 3 || eqb k 5) (eqb k 6) e
     (λ d. or-case (eqb k 3) (eqb k 5) d (λ q. known 3 (eqb-true k 3 q) refl (omega arith) (omega arith)) (λ q. known 5 (eqb-true k 5 q) refl (omega arith) (omega arith)))
@@ -87,13 +87,13 @@ module _ (size : ℕ) (small : size ≤ 256) (K : Course) where
   handIn-leaves m reduced h =
       let o = handIn-opened size K m reduced h in
       let A = o .0 in
-      let q = quiet-at (stateOf m .stage) (o .1) in
+      let q = quiet-at (stateOf m .rec .stage) (o .1) in
       let H : Held K reduced = record { size = eqb-true (length reduced) (3 * (K .job .S * K .job .C)) (o .2); bound = bounded-wider reduced 2 4 (omega arith) (components-within two reduced 2 two-within (o .3)) } in
       subst (λ (x : Outcome). Accepted size K (x .after)) (sym (done (handInAnswer size K m reduced) m 0 (handIn K reduced (stateOf m)) h))
       (holds size K (handIn K reduced (stateOf m)) (A .passed) (handIn-fit size small K true (job-passed size K true (A .passed)) reduced (stateOf m) H (A .fit) (q .0) (q .1) (q .2)))
 
   -- ---- two allotments, with no stop between, and their sum
-  pub advance-split : (m : Memory) (a c : ℕ) → advanceAnswer size K m ≡ 0 → draws (advance K a (stateOf m) .stage) ≡ true
+  pub advance-split : (m : Memory) (a c : ℕ) → advanceAnswer size K m ≡ 0 → draws (advance K a (stateOf m) .rec .stage) ≡ true
       → advanceCall size K m (a + c)
       ≡ outcome 0 (advanceCall size K m a .drew + advanceCall size K (advanceCall size K m a .after) c .drew) (advanceCall size K (advanceCall size K m a .after) c .after)
   advance-split m a c h d =

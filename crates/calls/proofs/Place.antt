@@ -31,73 +31,73 @@ quiet k h = rw (le-ltb k 3 (omega arith), ne-eqb k 4 (λ (e : k ≡ 4). omega ar
 
 -- rounds not yet finished, up to the next stop
 unfoldable pub togo : Course → State → ℕ
-togo K s = byStage (s .stage) (K .job .S - 1 - s .rounds + (K .job .C - 1) + 10) (K .job .C - 1 - s .rounds + 10) (10 - s .rounds) 1 0
+togo K s = byStage (s .rec .stage) (K .job .S - 1 - s .rec .rounds + (K .job .C - 1) + 10) (K .job .C - 1 - s .rec .rounds + 10) (10 - s .rec .rounds) 1 0
 
 pub record Ahead (K : Course) (f : ℕ) (s : State) : Type 0 where
   pub place : Placed K s
   pub near : togo K s ≤ f
 
 -- a stage that draws has draws left then
-pub some-left : (K : Course) (s : State) → Rests K s → draws (s .stage) ≡ true → 1 ≤ s .left
-some-left K s R D = let z : s .left ≢ 0 = eqb-false (s .left) 0 (subst (λ (t : Bool). t && eqb (s .left) 0 ≡ false) D (R .done)) in omega arith
+pub some-left : (K : Course) (s : State) → Rests K s → draws (s .rec .stage) ≡ true → 1 ≤ s .rec .left
+some-left K s R D = let z : s .rec .left ≢ 0 = eqb-false (s .rec .left) 0 (subst (λ (t : Bool). t && eqb (s .rec .left) 0 ≡ false) D (R .done)) in omega arith
 
 module _ (K : Course) (S1 : 1 ≤ K .job .S) (C1 : 1 ≤ K .job .C) where
   -- ---- entering a stage
-  enterReplacing-ahead : (f : ℕ) (s : State) → s .made ≡ (K .job .S - 1 + (K .job .C - 1)) * b K → 10 ≤ f → Ahead K f (enterReplacing K s)
+  enterReplacing-ahead : (f : ℕ) (s : State) → s .rec .made ≡ (K .job .S - 1 + (K .job .C - 1)) * b K → 10 ≤ f → Ahead K f (enterReplacing K s)
   unfolding enterReplacing openReplacing keep noticed togo
   enterReplacing-ahead f s h n = record {
-    place = replacing refl (omega arith) (le-refl (b K)) (next-round (K .job .S - 1 + (K .job .C - 1)) _ (s .made) (b K) (omega arith) h);
+    place = replacing refl (omega arith) (le-refl (b K)) (next-round (K .job .S - 1 + (K .job .C - 1)) _ (s .rec .made) (b K) (omega arith) h);
     near = omega arith;
   }
 
-  enterGrowing-ahead : (f : ℕ) (s : State) → s .made ≡ (K .job .S - 1) * b K → K .job .C - 1 + 10 ≤ f → Ahead K f (enterGrowing K s)
+  enterGrowing-ahead : (f : ℕ) (s : State) → s .rec .made ≡ (K .job .S - 1) * b K → K .job .C - 1 + 10 ≤ f → Ahead K f (enterGrowing K s)
   unfolding enterGrowing openGrowing togo
   enterGrowing-ahead f s h n = by-test (Ahead K f) (ltb 1 (K .job .C))
       (λ t. let c : 1 < K .job .C = ltb-true 1 (K .job .C) t in
-      record { place = growing refl (omega arith) (le-refl (b K)) (next-round (K .job .S - 1) _ (s .made) (b K) (omega arith) h); near = omega arith })
+      record { place = growing refl (omega arith) (le-refl (b K)) (next-round (K .job .S - 1) _ (s .rec .made) (b K) (omega arith) h); near = omega arith })
       (λ t. let c : K .job .C ≤ 1 = ltb-false 1 (K .job .C) t in
-      enterReplacing-ahead f s (same-rounds _ _ (s .made) (b K) (omega arith) h) (omega arith))
+      enterReplacing-ahead f s (same-rounds _ _ (s .rec .made) (b K) (omega arith) h) (omega arith))
 
   -- ---- closing a round
-  closeSeeding-ahead : (f : ℕ) (s : State) → s .rounds < K .job .S - 1 → s .made ≡ suc (s .rounds) * b K → K .job .S - 1 - s .rounds + (K .job .C - 1) + 10 ≤ suc f
+  closeSeeding-ahead : (f : ℕ) (s : State) → s .rec .rounds < K .job .S - 1 → s .rec .made ≡ suc (s .rec .rounds) * b K → K .job .S - 1 - s .rec .rounds + (K .job .C - 1) + 10 ≤ suc f
       → Ahead K f (closeSeeding K s)
   unfolding closeSeeding openSeeding noticed togo
-  closeSeeding-ahead f s r h n = by-test (Ahead K f) (ltb (s .rounds + 1) (K .job .S - 1))
-      (λ t. let c : s .rounds + 1 < K .job .S - 1 = ltb-true (s .rounds + 1) (K .job .S - 1) t in
-      record { place = seeding refl c (le-refl (b K)) (next-round (suc (s .rounds)) _ (s .made) (b K) (omega arith) h); near = omega arith })
-      (λ t. let c : K .job .S - 1 ≤ s .rounds + 1 = ltb-false (s .rounds + 1) (K .job .S - 1) t in
-      enterGrowing-ahead f _ (same-rounds _ _ (s .made) (b K) (omega arith) h) (omega arith))
+  closeSeeding-ahead f s r h n = by-test (Ahead K f) (ltb (s .rec .rounds + 1) (K .job .S - 1))
+      (λ t. let c : s .rec .rounds + 1 < K .job .S - 1 = ltb-true (s .rec .rounds + 1) (K .job .S - 1) t in
+      record { place = seeding refl c (le-refl (b K)) (next-round (suc (s .rec .rounds)) _ (s .rec .made) (b K) (omega arith) h); near = omega arith })
+      (λ t. let c : K .job .S - 1 ≤ s .rec .rounds + 1 = ltb-false (s .rec .rounds + 1) (K .job .S - 1) t in
+      enterGrowing-ahead f _ (same-rounds _ _ (s .rec .made) (b K) (omega arith) h) (omega arith))
 
-  closeGrowing-ahead : (f : ℕ) (s : State) → s .rounds < K .job .C - 1 → s .made ≡ (K .job .S - 1 + suc (s .rounds)) * b K → K .job .C - 1 - s .rounds + 10 ≤ suc f
+  closeGrowing-ahead : (f : ℕ) (s : State) → s .rec .rounds < K .job .C - 1 → s .rec .made ≡ (K .job .S - 1 + suc (s .rec .rounds)) * b K → K .job .C - 1 - s .rec .rounds + 10 ≤ suc f
       → Ahead K f (closeGrowing K s)
   unfolding closeGrowing openGrowing togo
-  closeGrowing-ahead f s r h n = by-test (Ahead K f) (ltb (s .rounds + 1) (K .job .C - 1))
-      (λ t. let c : s .rounds + 1 < K .job .C - 1 = ltb-true (s .rounds + 1) (K .job .C - 1) t in
-      record { place = growing refl c (le-refl (b K)) (next-round (K .job .S - 1 + suc (s .rounds)) _ (s .made) (b K) (omega arith) h); near = omega arith })
-      (λ t. let c : K .job .C - 1 ≤ s .rounds + 1 = ltb-false (s .rounds + 1) (K .job .C - 1) t in
-      enterReplacing-ahead f s (same-rounds _ _ (s .made) (b K) (omega arith) h) (omega arith))
+  closeGrowing-ahead f s r h n = by-test (Ahead K f) (ltb (s .rec .rounds + 1) (K .job .C - 1))
+      (λ t. let c : s .rec .rounds + 1 < K .job .C - 1 = ltb-true (s .rec .rounds + 1) (K .job .C - 1) t in
+      record { place = growing refl c (le-refl (b K)) (next-round (K .job .S - 1 + suc (s .rec .rounds)) _ (s .rec .made) (b K) (omega arith) h); near = omega arith })
+      (λ t. let c : K .job .C - 1 ≤ s .rec .rounds + 1 = ltb-false (s .rec .rounds + 1) (K .job .C - 1) t in
+      enterReplacing-ahead f s (same-rounds _ _ (s .rec .made) (b K) (omega arith) h) (omega arith))
 
-  judged-made : (s : State) → judged K s .made ≡ s .made
+  judged-made : (s : State) → judged K s .rec .made ≡ s .rec .made
   unfolding judged keep noticed
-  judged-made s = both (λ (z : State). z .made ≡ s .made) (lt (errorOf K s) (ofBits binary32 (s .error))) {x = keep K s} {y = noticed K (K .job .S) (K .job .C) s} refl refl
+  judged-made s = both (λ (z : State). z .rec .made ≡ s .rec .made) (lt (errorOf K s) (ofBits binary32 (s .rec .error))) {x = keep K s} {y = noticed K (K .job .S) (K .job .C) s} refl refl
 
-  closeReplacing-ahead : (f : ℕ) (s : State) → s .rounds < 10 → s .made ≡ (K .job .S - 1 + (K .job .C - 1) + suc (s .rounds)) * b K → 10 - s .rounds ≤ suc f
+  closeReplacing-ahead : (f : ℕ) (s : State) → s .rec .rounds < 10 → s .rec .made ≡ (K .job .S - 1 + (K .job .C - 1) + suc (s .rec .rounds)) * b K → 10 - s .rec .rounds ≤ suc f
       → Ahead K f (closeReplacing K s)
   unfolding closeReplacing openReplacing enterReducing togo
   closeReplacing-ahead f s r h n =
-      let e : judged K s .made ≡ (K .job .S - 1 + (K .job .C - 1) + suc (s .rounds)) * b K = judged-made s ∙ h in
-      by-test (Ahead K f) (ltb (s .rounds + 1) 10)
-      (λ t. let c : s .rounds + 1 < 10 = ltb-true (s .rounds + 1) 10 t in
-      record { place = replacing refl c (le-refl (b K)) (next-round (K .job .S - 1 + (K .job .C - 1) + suc (s .rounds)) _ (judged K s .made) (b K) (omega arith) e); near = omega arith })
-      (λ t. let c : 10 ≤ s .rounds + 1 = ltb-false (s .rounds + 1) 10 t in
-      record { place = reducing refl refl refl (same-rounds _ _ (judged K s .made) (b K) (omega arith) e); near = omega arith })
+      let e : judged K s .rec .made ≡ (K .job .S - 1 + (K .job .C - 1) + suc (s .rec .rounds)) * b K = judged-made s ∙ h in
+      by-test (Ahead K f) (ltb (s .rec .rounds + 1) 10)
+      (λ t. let c : s .rec .rounds + 1 < 10 = ltb-true (s .rec .rounds + 1) 10 t in
+      record { place = replacing refl c (le-refl (b K)) (next-round (K .job .S - 1 + (K .job .C - 1) + suc (s .rec .rounds)) _ (judged K s .rec .made) (b K) (omega arith) e); near = omega arith })
+      (λ t. let c : 10 ≤ s .rec .rounds + 1 = ltb-false (s .rec .rounds + 1) 10 t in
+      record { place = reducing refl refl refl (same-rounds _ _ (judged K s .rec .made) (b K) (omega arith) e); near = omega arith })
 
   -- ---- closing a round, whatever the stage
-  module _ (f : ℕ) (s : State) (L : s .left ≡ 0) (A : Ahead K (suc f) s) (D : draws (s .stage) ≡ true) where
+  module _ (f : ℕ) (s : State) (L : s .rec .left ≡ 0) (A : Ahead K (suc f) s) (D : draws (s .rec .stage) ≡ true) where
     pub finish-ahead : Ahead K f (finishRound K s)
     finish-ahead = go (A .place)
       where
-        at-end : (x : ℕ) → s .made + s .left ≡ x → s .made ≡ x
+        at-end : (x : ℕ) → s .rec .made + s .rec .left ≡ x → s .rec .made ≡ x
         at-end x e = omega arith
 
         go : Placed K s → Ahead K f (finishRound K s)
@@ -106,25 +106,25 @@ module _ (K : Course) (S1 : 1 ≤ K .job .S) (C1 : 1 ≤ K .job .C) where
         go (replacing k r l e) = unfold finishRound togo in rw stage2 (closeReplacing-ahead f s r (at-end _ e) (rw stage2 at (A .near)))
         go (reducing k r l e) = absurd (true≢false (sym D ∙ ap draws k))
         go (finishing k r l e) = unfold finishRound togo in rw stage4 (record { place = over (omega arith) (omega arith) refl refl (at-end _ e); near = omega arith })
-        go (over k past r l e) = absurd (true≢false (sym D ∙ quiet (s .stage) k))
+        go (over k past r l e) = absurd (true≢false (sym D ∙ quiet (s .rec .stage) k))
 
   -- ---- settling: with as much fuel as there are rounds to go, nothing is due in the end
-  pub idle : (s : State) → Ahead K 0 s → draws (s .stage) ≡ false
+  pub idle : (s : State) → Ahead K 0 s → draws (s .rec .stage) ≡ false
   idle s A = go (A .place)
     where
-      go : Placed K s → draws (s .stage) ≡ false
-      go (seeding k r l e) = absurd (let n : K .job .S - 1 - s .rounds + (K .job .C - 1) + 10 ≤ 0 = unfold togo in rw stage0 at (A .near) in omega arith)
-      go (growing k r l e) = absurd (let n : K .job .C - 1 - s .rounds + 10 ≤ 0 = unfold togo in rw stage1 at (A .near) in omega arith)
-      go (replacing k r l e) = absurd (let n : 10 - s .rounds ≤ 0 = unfold togo in rw stage2 at (A .near) in omega arith)
+      go : Placed K s → draws (s .rec .stage) ≡ false
+      go (seeding k r l e) = absurd (let n : K .job .S - 1 - s .rec .rounds + (K .job .C - 1) + 10 ≤ 0 = unfold togo in rw stage0 at (A .near) in omega arith)
+      go (growing k r l e) = absurd (let n : K .job .C - 1 - s .rec .rounds + 10 ≤ 0 = unfold togo in rw stage1 at (A .near) in omega arith)
+      go (replacing k r l e) = absurd (let n : 10 - s .rec .rounds ≤ 0 = unfold togo in rw stage2 at (A .near) in omega arith)
       go (reducing k r l e) = ap draws k
       go (finishing k r l e) = absurd (let n : 1 ≤ 0 = unfold togo in rw stage4 at (A .near) in omega arith)
-      go (over k past r l e) = quiet (s .stage) k
+      go (over k past r l e) = quiet (s .rec .stage) k
 
   pub settling : (f : ℕ) (s : State) → Ahead K f s → Rests K (whilst (due K) (finishRound K) f s)
   unfolding whilst
-  settling zero s A = record { place = A .place; done = ap (λ (t : Bool). t && eqb (s .left) 0) (idle s A) }
+  settling zero s A = record { place = A .place; done = ap (λ (t : Bool). t && eqb (s .rec .left) 0) (idle s A) }
   settling (suc f) s A = by-test (Rests K) (due K s)
-      (λ t. settling f (finishRound K s) (finish-ahead f s (eqb-true (s .left) 0 (and-r (draws (s .stage)) _ t)) A (and-l (draws (s .stage)) _ t)))
+      (λ t. settling f (finishRound K s) (finish-ahead f s (eqb-true (s .rec .left) 0 (and-r (draws (s .rec .stage)) _ t)) A (and-l (draws (s .rec .stage)) _ t)))
       (λ t. record { place = A .place; done = t })
 
   pub enough : (s : State) → Placed K s → togo K s ≤ K .job .S + K .job .C + 20
@@ -141,7 +141,7 @@ module _ (K : Course) (S1 : 1 ≤ K .job .S) (C1 : 1 ≤ K .job .C) where
   settle-rests s p = settling _ s (record { place = p; near = enough s p })
 
   -- ---- a draw, a step, an advance
-  pub draw-place : (s : State) → Rests K s → draws (s .stage) ≡ true → Placed K (draw K s)
+  pub draw-place : (s : State) → Rests K s → draws (s .rec .stage) ≡ true → Placed K (draw K s)
   draw-place s R D = go (R .place)
     where
       go : Placed K s → Placed K (draw K s)
@@ -150,9 +150,9 @@ module _ (K : Course) (S1 : 1 ≤ K .job .S) (C1 : 1 ≤ K .job .C) where
       go (replacing k r l e) = unfold draw drawWith in replacing k r (omega arith) (omega (arith, some-left K s R D))
       go (reducing k r l e) = absurd (true≢false (sym D ∙ ap draws k))
       go (finishing k r l e) = unfold draw drawWith in finishing k r (omega arith) (omega (arith, some-left K s R D))
-      go (over k past r l e) = absurd (true≢false (sym D ∙ quiet (s .stage) k))
+      go (over k past r l e) = absurd (true≢false (sym D ∙ quiet (s .rec .stage) k))
 
-  pub step-rests : (s : State) → Rests K s → draws (s .stage) ≡ true → Rests K (step K s)
+  pub step-rests : (s : State) → Rests K s → draws (s .rec .stage) ≡ true → Rests K (step K s)
   unfolding step
   step-rests s R D = settle-rests (draw K s) (draw-place s R D)
 
@@ -170,27 +170,27 @@ module _ (K : Course) (S1 : 1 ≤ K .job .S) (C1 : 1 ≤ K .job .C) where
   unfolding start
   start-rests seed hints = settle-rests _ (first-placed seed hints)
 
-  pub final-placed : (s : State) → s .made ≡ (K .job .S + K .job .C + 8) * b K → Placed K (at s 4 0 (10 * b K))
+  pub final-placed : (s : State) → s .rec .made ≡ (K .job .S + K .job .C + 8) * b K → Placed K (at s 4 0 (10 * b K))
   final-placed s e = finishing refl refl (le-refl _) (rw (e, ← add-mul (K .job .S + K .job .C + 8) 10 (b K)) (ap (λ (x : ℕ). x * b K) (omega arith)))
 
-  pub handIn-rests : (h : List Float) (s : State) → Rests K s → draws (s .stage) ≡ false → s .stage ≤ 6 → Rests K (handIn K h s)
+  pub handIn-rests : (h : List Float) (s : State) → Rests K s → draws (s .rec .stage) ≡ false → s .rec .stage ≤ 6 → Rests K (handIn K h s)
   handIn-rests h s R D Z = go (R .place)
     where
-      drawn : {k : ℕ} → s .stage ≡ k → draws k ≡ true → Rests K (handIn K h s)
+      drawn : {k : ℕ} → s .rec .stage ≡ k → draws k ≡ true → Rests K (handIn K h s)
       drawn k t = absurd (true≢false (sym t ∙ sym (ap draws k) ∙ D))
 
       go : Placed K s → Rests K (handIn K h s)
       go (seeding k r l e) = drawn k refl
       go (growing k r l e) = drawn k refl
       go (replacing k r l e) = drawn k refl
-      go (reducing k r l e) = unfold handIn in rw (eq-eqb (s .stage) 3 k) (settle-rests _ (final-placed (painted s (s .hints) h) e))
+      go (reducing k r l e) = unfold handIn in rw (eq-eqb (s .rec .stage) 3 k) (settle-rests _ (final-placed (painted s (s .hints) h) e))
       go (finishing k r l e) = drawn k refl
       go (over k past r l e) = unfold handIn refinedOnce noticed in
-          rw (ne-eqb (s .stage) 3 (λ (q : s .stage ≡ 3). omega arith))
-          (both (Rests K) (eqb (s .stage) 5) (record { place = over (omega arith) (omega arith) refl refl e; done = refl }) (record { place = over (omega arith) (omega arith) refl refl e; done = refl }))
+          rw (ne-eqb (s .rec .stage) 3 (λ (q : s .rec .stage ≡ 3). omega arith))
+          (both (Rests K) (eqb (s .rec .stage) 5) (record { place = over (omega arith) (omega arith) refl refl e; done = refl }) (record { place = over (omega arith) (omega arith) refl refl e; done = refl }))
 
   -- ---- what a run has made at its stops
-  pub made-at-3 : (s : State) → Placed K s → s .stage ≡ 3 → s .made ≡ (K .job .S + K .job .C + 8) * b K
+  pub made-at-3 : (s : State) → Placed K s → s .rec .stage ≡ 3 → s .rec .made ≡ (K .job .S + K .job .C + 8) * b K
   made-at-3 s (seeding k r l e) q = absurd (omega arith)
   made-at-3 s (growing k r l e) q = absurd (omega arith)
   made-at-3 s (replacing k r l e) q = absurd (omega arith)
@@ -198,7 +198,7 @@ module _ (K : Course) (S1 : 1 ≤ K .job .S) (C1 : 1 ≤ K .job .C) where
   made-at-3 s (finishing k r l e) q = absurd (omega arith)
   made-at-3 s (over k past r l e) q = absurd (omega arith)
 
-  pub made-at-end : (s : State) → Placed K s → 5 ≤ s .stage → s .made ≡ (K .job .S + K .job .C + 18) * b K
+  pub made-at-end : (s : State) → Placed K s → 5 ≤ s .rec .stage → s .rec .made ≡ (K .job .S + K .job .C + 18) * b K
   made-at-end s (seeding k r l e) q = absurd (omega arith)
   made-at-end s (growing k r l e) q = absurd (omega arith)
   made-at-end s (replacing k r l e) q = absurd (omega arith)

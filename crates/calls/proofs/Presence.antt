@@ -22,13 +22,13 @@ use Rattle.calls.specs.Place.{seeding, growing, replacing, reducing, fin
 module _ (K : Course) (S1 : 1 ≤ K .job .S) (C1 : 1 ≤ K .job .C) (s : State) where
   pub some-subs : 1 ≤ subsOf K s
   unfolding subsOf
-  some-subs = both (λ (x : ℕ). 1 ≤ x) (eqb (s .stage) 0) (omega arith) S1
+  some-subs = both (λ (x : ℕ). 1 ≤ x) (eqb (s .rec .stage) 0) (omega arith) S1
 
   pub some-colours : 1 ≤ haveOf K s
   unfolding haveOf
-  some-colours = all-stages (λ (x : ℕ). 1 ≤ x) (s .stage) (omega arith) (omega arith) C1 C1 C1
+  some-colours = all-stages (λ (x : ℕ). 1 ≤ x) (s .rec .stage) (omega arith) (omega arith) C1 C1 C1
 
-  pub seeding-rounds : Placed K s → s .stage ≡ 0 → s .rounds + 2 ≤ K .job .S
+  pub seeding-rounds : Placed K s → s .rec .stage ≡ 0 → s .rec .rounds + 2 ≤ K .job .S
   seeding-rounds (seeding k r l e) h = omega arith
   seeding-rounds (growing k r l e) h = absurd (omega arith)
   seeding-rounds (replacing k r l e) h = absurd (omega arith)
@@ -36,7 +36,7 @@ module _ (K : Course) (S1 : 1 ≤ K .job .S) (C1 : 1 ≤ K .job .C) (s : State) 
   seeding-rounds (finishing k r l e) h = absurd (omega arith)
   seeding-rounds (over k past r l e) h = absurd (omega arith)
 
-  pub growing-rounds : Placed K s → s .stage ≡ 1 → s .rounds + 2 ≤ K .job .C
+  pub growing-rounds : Placed K s → s .rec .stage ≡ 1 → s .rec .rounds + 2 ≤ K .job .C
   growing-rounds (seeding k r l e) h = absurd (omega arith)
   growing-rounds (growing k r l e) h = omega arith
   growing-rounds (replacing k r l e) h = absurd (omega arith)
@@ -46,14 +46,14 @@ module _ (K : Course) (S1 : 1 ≤ K .job .S) (C1 : 1 ≤ K .job .C) (s : State) 
 
   pub few-subs : Placed K s → subsOf K s ≤ K .job .S
   unfolding subsOf
-  few-subs p = by-test (λ (x : ℕ). x ≤ K .job .S) (eqb (s .stage) 0) (λ t. seeding-rounds p (eqb-true (s .stage) 0 t)) (λ _. le-refl (K .job .S))
+  few-subs p = by-test (λ (x : ℕ). x ≤ K .job .S) (eqb (s .rec .stage) 0) (λ t. seeding-rounds p (eqb-true (s .rec .stage) 0 t)) (λ _. le-refl (K .job .S))
 
   pub few-colours : Placed K s → haveOf K s ≤ K .job .C
   unfolding haveOf
   few-colours p =
-      both (λ (x : ℕ). x ≤ K .job .C) (eqb (s .stage) 0) C1
-      (by-test (λ (x : ℕ). x ≤ K .job .C) (eqb (s .stage) 1) (λ t. growing-rounds p (eqb-true (s .stage) 1 t))
-      (λ _. both (λ (x : ℕ). x ≤ K .job .C) (eqb (s .stage) 2) (le-refl (K .job .C)) (both (λ (x : ℕ). x ≤ K .job .C) (eqb (s .stage) 4) (le-refl (K .job .C)) (le-refl (K .job .C)))))
+      both (λ (x : ℕ). x ≤ K .job .C) (eqb (s .rec .stage) 0) C1
+      (by-test (λ (x : ℕ). x ≤ K .job .C) (eqb (s .rec .stage) 1) (λ t. growing-rounds p (eqb-true (s .rec .stage) 1 t))
+      (λ _. both (λ (x : ℕ). x ≤ K .job .C) (eqb (s .rec .stage) 2) (le-refl (K .job .C)) (both (λ (x : ℕ). x ≤ K .job .C) (eqb (s .rec .stage) 4) (le-refl (K .job .C)) (le-refl (K .job .C)))))
 
 -- what a draw asks of the palette
 pub draw-shown : (size : ℕ) → size ≤ 256 → (K : Course) → Ready size (K .job) → (s : State) → Placed K s → length (s .palette) ≡ 3 * (K .job .S * K .job .C) → Bounded (s .palette) 4

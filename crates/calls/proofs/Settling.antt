@@ -22,11 +22,11 @@ module _ (K : Course) (S1 : 1 ≤ K .job .S) (C1 : 1 ≤ K .job .C) (s : State) 
   settle-done h = whilst-stop (due K) (finishRound K) _ s h
 
   module _ (d : due K s ≡ true) where
-    spent : s .left ≡ 0
-    spent = eqb-true (s .left) 0 (and-r (draws (s .stage)) _ d)
+    spent : s .rec .left ≡ 0
+    spent = eqb-true (s .rec .left) 0 (and-r (draws (s .rec .stage)) _ d)
 
-    drawing : draws (s .stage) ≡ true
-    drawing = and-l (draws (s .stage)) _ d
+    drawing : draws (s .rec .stage) ≡ true
+    drawing = and-l (draws (s .rec .stage)) _ d
 
     some-togo : 1 ≤ togo K s
     some-togo = go (togo K s) refl
@@ -60,7 +60,7 @@ module _ (K : Course) (S1 : 1 ≤ K .job .S) (C1 : 1 ≤ K .job .C) (s : State) 
 
 -- ---- the record's words stay small
 module _ (K : Course) where
-  pub made-few : (s : State) → Placed K s → s .made + s .left ≤ (K .job .S + K .job .C + 18) * b K
+  pub made-few : (s : State) → Placed K s → s .rec .made + s .rec .left ≤ (K .job .S + K .job .C + 18) * b K
   made-few s (seeding k r l e) = rw e (mul-le-mul-right (b K) (omega arith))
   made-few s (growing k r l e) = rw e (mul-le-mul-right (b K) (omega arith))
   made-few s (replacing k r l e) = rw e (mul-le-mul-right (b K) (omega arith))

@@ -41,10 +41,10 @@ use Rattle.calls.proofs.Limits.{error-bits}
 use Rattle.calls.specs.Sound.{Dealt, Held, Second, Sound, in2, out2}
 
 -- the last word outside stage 2
-pub no-error : (K : Course) (s : State) → Sound K s → s .stage ≢ 2 → s .error ≡ 0
+pub no-error : (K : Course) (s : State) → Sound K s → s .rec .stage ≢ 2 → s .rec .error ≡ 0
 no-error K s A h = go (A .second)
   where
-    go : Second K (s .stage) (s .error) (s .least) → s .error ≡ 0
+    go : Second K (s .rec .stage) (s .rec .error) (s .least) → s .rec .error ≡ 0
     go (in2 k e f) = absurd (h k)
     go (out2 k e) = e
 
@@ -89,7 +89,7 @@ module _ (size : ℕ) (small : size ≤ 256) (K : Course) (R : Ready size (K .jo
   hinted pal n have h e = length-hints (K .job) pal n have h (K .job .T) ∙ e
 
   -- ---- opening a round, and entering a stage
-  keep-held : (s : State) → Held K (s .palette) → length (s .hints) ≡ K .job .T → Dealt (K .n) (s .order) → s .stage ≡ 2 → Sound K (keep K s)
+  keep-held : (s : State) → Held K (s .palette) → length (s .hints) ≡ K .job .T → Dealt (K .n) (s .order) → s .rec .stage ≡ 2 → Sound K (keep K s)
   unfolding keep noticed
   keep-held s H h d k = record { held = H; room = H .size; second = in2 k (error-finite (s .palette) H s refl) (H .bound); hints = hinted (s .palette) _ _ (s .hints) h; dealt = d }
 
@@ -104,7 +104,7 @@ module _ (size : ℕ) (small : size ≤ 256) (K : Course) (R : Ready size (K .jo
         dealt = d;
       }
 
-  openGrowing-sound : (r : ℕ) (s : State) → r + 1 ≤ K .job .C → Sound K s → s .error ≡ 0 → Sound K (openGrowing K r s)
+  openGrowing-sound : (r : ℕ) (s : State) → r + 1 ≤ K .job .C → Sound K s → s .rec .error ≡ 0 → Sound K (openGrowing K r s)
   unfolding openGrowing
   openGrowing-sound r s l A e =
       record {
@@ -115,11 +115,11 @@ module _ (size : ℕ) (small : size ≤ 256) (K : Course) (R : Ready size (K .jo
         dealt = A .dealt;
       }
 
-  openSeeding-sound : (r from : ℕ) (s : State) → r + 1 < K .job .S → from < K .job .S → Sound K s → s .error ≡ 0 → Sound K (openSeeding K r from s)
+  openSeeding-sound : (r from : ℕ) (s : State) → r + 1 < K .job .S → from < K .job .S → Sound K s → s .rec .error ≡ 0 → Sound K (openSeeding K r from s)
   unfolding openSeeding
   openSeeding-sound r from s l f A e = record { held = duplicated-held from (r + 1) (s .palette) f l (A .held); room = A .room; second = out2 (omega arith) e; hints = A .hints; dealt = A .dealt }
 
-  enterGrowing-sound : (s : State) → Sound K s → s .error ≡ 0 → Sound K (enterGrowing K s)
+  enterGrowing-sound : (s : State) → Sound K s → s .rec .error ≡ 0 → Sound K (enterGrowing K s)
   unfolding enterGrowing
   enterGrowing-sound s A e = both (Sound K) (ltb 1 (K .job .C)) (openGrowing-sound 0 s (omega (arith, R .sizes .some)) A e) (enterReplacing-sound s (A .held) (A .hints) (A .dealt))
 
@@ -127,46 +127,46 @@ module _ (size : ℕ) (small : size ≤ 256) (K : Course) (R : Ready size (K .jo
   unfolding noticed
   noticed-sound n have s A = record { held = A .held; room = A .room; second = A .second; hints = hinted (s .palette) n have (s .hints) (A .hints); dealt = A .dealt }
 
-  noticed-error : (n have : ℕ) (s : State) → noticed K n have s .error ≡ s .error
+  noticed-error : (n have : ℕ) (s : State) → noticed K n have s .rec .error ≡ s .rec .error
   unfolding noticed
   noticed-error n have s = refl
 
   -- ---- closing a round
-  closeSeeding-sound : (s : State) → Sound K s → s .stage ≡ 0 → Sound K (closeSeeding K s)
+  closeSeeding-sound : (s : State) → Sound K s → s .rec .stage ≡ 0 → Sound K (closeSeeding K s)
   unfolding closeSeeding
   closeSeeding-sound s A k =
-      let e = noticed-error (s .rounds + 2) 1 s ∙ no-error K s A (omega arith) in
-      by-test (Sound K) (ltb (s .rounds + 1) (K .job .S - 1))
+      let e = noticed-error (s .rec .rounds + 2) 1 s ∙ no-error K s A (omega arith) in
+      by-test (Sound K) (ltb (s .rec .rounds + 1) (K .job .S - 1))
       (λ t.
-      let l : s .rounds + 1 < K .job .S - 1 = ltb-true (s .rounds + 1) (K .job .S - 1) t in
-      let H = shown (s .palette) (A .held) (s .rounds + 2) 1 (omega arith) (omega arith) (omega arith) (R .sizes .some) in
-      openSeeding-sound (s .rounds + 1) (worstOf (K .job) (s .palette) (s .rounds + 2)) _ (omega arith) (omega (arith, worst-below (K .job) (s .palette) (s .rounds + 2) H)) (noticed-sound _ _ s A) e)
+      let l : s .rec .rounds + 1 < K .job .S - 1 = ltb-true (s .rec .rounds + 1) (K .job .S - 1) t in
+      let H = shown (s .palette) (A .held) (s .rec .rounds + 2) 1 (omega arith) (omega arith) (omega arith) (R .sizes .some) in
+      openSeeding-sound (s .rec .rounds + 1) (worstOf (K .job) (s .palette) (s .rec .rounds + 2)) _ (omega arith) (omega (arith, worst-below (K .job) (s .palette) (s .rec .rounds + 2) H)) (noticed-sound _ _ s A) e)
       (λ t. enterGrowing-sound _ (noticed-sound _ _ s A) e)
 
-  closeGrowing-sound : (s : State) → Sound K s → s .stage ≡ 1 → Sound K (closeGrowing K s)
+  closeGrowing-sound : (s : State) → Sound K s → s .rec .stage ≡ 1 → Sound K (closeGrowing K s)
   unfolding closeGrowing
   closeGrowing-sound s A k =
-      by-test (Sound K) (ltb (s .rounds + 1) (K .job .C - 1))
-      (λ t. let l : s .rounds + 1 < K .job .C - 1 = ltb-true (s .rounds + 1) (K .job .C - 1) t in openGrowing-sound (s .rounds + 1) s (omega arith) A (no-error K s A (omega arith)))
+      by-test (Sound K) (ltb (s .rec .rounds + 1) (K .job .C - 1))
+      (λ t. let l : s .rec .rounds + 1 < K .job .C - 1 = ltb-true (s .rec .rounds + 1) (K .job .C - 1) t in openGrowing-sound (s .rec .rounds + 1) s (omega arith) A (no-error K s A (omega arith)))
       (λ t. enterReplacing-sound s (A .held) (A .hints) (A .dealt))
 
-  judged-sound : (s : State) → Sound K s → s .stage ≡ 2 → Sound K (judged K s)
+  judged-sound : (s : State) → Sound K s → s .rec .stage ≡ 2 → Sound K (judged K s)
   unfolding judged
-  judged-sound s A k = both (Sound K) (lt (errorOf K s) (ofBits binary32 (s .error))) (keep-held s (A .held) (A .hints) (A .dealt) k) (noticed-sound _ _ s A)
+  judged-sound s A k = both (Sound K) (lt (errorOf K s) (ofBits binary32 (s .rec .error))) (keep-held s (A .held) (A .hints) (A .dealt) k) (noticed-sound _ _ s A)
 
-  judged-stage : (s : State) → judged K s .stage ≡ s .stage
+  judged-stage : (s : State) → judged K s .rec .stage ≡ s .rec .stage
   unfolding judged keep noticed
-  judged-stage s = both (λ (z : State). z .stage ≡ s .stage) (lt (errorOf K s) (ofBits binary32 (s .error))) {x = keep K s} {y = noticed K (K .job .S) (K .job .C) s} refl refl
+  judged-stage s = both (λ (z : State). z .rec .stage ≡ s .rec .stage) (lt (errorOf K s) (ofBits binary32 (s .rec .error))) {x = keep K s} {y = noticed K (K .job .S) (K .job .C) s} refl refl
 
   -- the least palette in stage 2
-  least-held : (s : State) → Sound K s → s .stage ≡ 2 → Held K (s .least)
+  least-held : (s : State) → Sound K s → s .rec .stage ≡ 2 → Held K (s .least)
   least-held s A k = go (A .second)
     where
-      go : Second K (s .stage) (s .error) (s .least) → Held K (s .least)
+      go : Second K (s .rec .stage) (s .rec .error) (s .least) → Held K (s .least)
       go (in2 q e f) = record { size = A .room; bound = f }
       go (out2 q e) = absurd (q k)
 
-  openReplacing-sound : (r : ℕ) (s : State) → Sound K s → s .stage ≡ 2 → Sound K (openReplacing K r s)
+  openReplacing-sound : (r : ℕ) (s : State) → Sound K s → s .rec .stage ≡ 2 → Sound K (openReplacing K r s)
   unfolding openReplacing
   openReplacing-sound r s A k =
       record {
@@ -177,26 +177,26 @@ module _ (size : ℕ) (small : size ≤ 256) (K : Course) (R : Ready size (K .jo
         dealt = A .dealt;
       }
     where
-      two : Second K (s .stage) (s .error) (s .least) → Second K 2 (s .error) (s .least)
+      two : Second K (s .rec .stage) (s .rec .error) (s .least) → Second K 2 (s .rec .error) (s .least)
       two (in2 q e f) = in2 refl e f
       two (out2 q e) = absurd (q k)
 
-  enterReducing-sound : (s : State) → Sound K s → s .stage ≡ 2 → Sound K (enterReducing K s)
+  enterReducing-sound : (s : State) → Sound K s → s .rec .stage ≡ 2 → Sound K (enterReducing K s)
   unfolding enterReducing
   enterReducing-sound s A k = record { held = least-held s A k; room = zeros-held .size; second = out2 (omega arith) refl; hints = A .hints; dealt = A .dealt }
 
-  closeReplacing-sound : (s : State) → Sound K s → s .stage ≡ 2 → Sound K (closeReplacing K s)
+  closeReplacing-sound : (s : State) → Sound K s → s .rec .stage ≡ 2 → Sound K (closeReplacing K s)
   unfolding closeReplacing
   closeReplacing-sound s A k =
-      both (Sound K) (ltb (s .rounds + 1) 10) (openReplacing-sound _ _ (judged-sound s A k) (judged-stage s ∙ k)) (enterReducing-sound _ (judged-sound s A k) (judged-stage s ∙ k))
+      both (Sound K) (ltb (s .rec .rounds + 1) 10) (openReplacing-sound _ _ (judged-sound s A k) (judged-stage s ∙ k)) (enterReducing-sound _ (judged-sound s A k) (judged-stage s ∙ k))
 
   pub finish-sound : (s : State) → Sound K s → Sound K (finishRound K s)
   unfolding finishRound
   finish-sound s A =
-      by-test (Sound K) (eqb (s .stage) 0) (λ t. closeSeeding-sound s A (eqb-true (s .stage) 0 t))
-      (λ _. by-test (Sound K) (eqb (s .stage) 1) (λ t. closeGrowing-sound s A (eqb-true (s .stage) 1 t))
-      (λ _. by-test (Sound K) (eqb (s .stage) 2) (λ t. closeReplacing-sound s A (eqb-true (s .stage) 2 t))
-      (λ _. by-test (Sound K) (eqb (s .stage) 4) (λ t. record { held = A .held; room = A .room; second = out2 (omega arith) (no-error K s A (omega (arith, eqb-true (s .stage) 4 t))); hints = A .hints; dealt = A .dealt })
+      by-test (Sound K) (eqb (s .rec .stage) 0) (λ t. closeSeeding-sound s A (eqb-true (s .rec .stage) 0 t))
+      (λ _. by-test (Sound K) (eqb (s .rec .stage) 1) (λ t. closeGrowing-sound s A (eqb-true (s .rec .stage) 1 t))
+      (λ _. by-test (Sound K) (eqb (s .rec .stage) 2) (λ t. closeReplacing-sound s A (eqb-true (s .rec .stage) 2 t))
+      (λ _. by-test (Sound K) (eqb (s .rec .stage) 4) (λ t. record { held = A .held; room = A .room; second = out2 (omega arith) (no-error K s A (omega (arith, eqb-true (s .rec .stage) 4 t))); hints = A .hints; dealt = A .dealt })
       (λ _. A))))
 
   pub settle-sound : (s : State) → Sound K s → Sound K (settle K s)
@@ -208,13 +208,13 @@ module _ (size : ℕ) (small : size ≤ 256) (K : Course) (R : Ready size (K .jo
   unfolding refinedOnce
   refined-sound s A = record { held = refined-held (s .palette) (A .held); room = A .room; second = A .second; hints = hinted (s .palette) _ _ (s .hints) (A .hints); dealt = A .dealt }
 
-  pub handIn-sound : (h : List Float) (s : State) → Held K h → Sound K s → s .stage ≢ 2 → Sound K (handIn K h s)
+  pub handIn-sound : (h : List Float) (s : State) → Held K h → Sound K s → s .rec .stage ≢ 2 → Sound K (handIn K h s)
   unfolding handIn refinedOnce
   handIn-sound h s H A k =
       let e = no-error K s A k in
       let y = refined-sound _ (refined-sound _ (refined-sound _ (refined-sound _ handed))) in
-      both (Sound K) (eqb (s .stage) 3) (settle-sound _ (record { held = H; room = A .room; second = out2 (omega arith) e; hints = A .hints; dealt = A .dealt }))
-      (both (Sound K) (eqb (s .stage) 5)
+      both (Sound K) (eqb (s .rec .stage) 3) (settle-sound _ (record { held = H; room = A .room; second = out2 (omega arith) e; hints = A .hints; dealt = A .dealt }))
+      (both (Sound K) (eqb (s .rec .stage) 5)
       (record { held = y .held; room = y .room; second = out2 (omega arith) e; hints = y .hints; dealt = y .dealt })
       (record { held = H; room = A .room; second = out2 (omega arith) e; hints = A .hints; dealt = A .dealt }))
     where
@@ -225,7 +225,7 @@ module _ (size : ℕ) (small : size ≤ 256) (K : Course) (R : Ready size (K .jo
 module _ (size : ℕ) (small : size ≤ 256) (K : Course) (given : Bool) (D : Sampled size (K .job) (K .n) (K .samples) given) where
   gentle : (s : State) → Gentle (alphaOf K s)
   unfolding alphaOf
-  gentle s = both Gentle (eqb (s .stage) 4) gentle-5 gentle-3
+  gentle s = both Gentle (eqb (s .rec .stage) 4) gentle-5 gentle-3
 
   drawn-dealt : (s : State) → Dealt (K .n) (s .order) → Dealt (K .n) (drawOne (cycleOf K s) .next .cards .order)
   unfolding drawOne
@@ -278,7 +278,7 @@ module _ (size : ℕ) (small : size ≤ 256) (K : Course) (given : Bool) (D : Sa
       (λ t. let l : 1 < K .job .S = ltb-true 1 (K .job .S) t in openSeeding-sound size small K (D .ready) 0 0 (fresh K seed hints) (omega arith) (omega arith) (fresh-sound seed hints h) zero-error)
       (λ t. enterGrowing-sound size small K (D .ready) (fresh K seed hints) (fresh-sound seed hints h) zero-error)
     where
-      zero-error : fresh K seed hints .error ≡ 0
+      zero-error : fresh K seed hints .rec .error ≡ 0
       zero-error = unfold fresh in refl
 
   pub start-sound : (seed : ℕ) (hints : List ℕ) → length hints ≡ K .job .T → Sound K (start K seed hints)

@@ -99,13 +99,13 @@ module _ (K : Course) (S1 : 1 ≤ K .job .S) (C1 : 1 ≤ K .job .C) where
   between (suc (suc (suc (suc (suc k))))) r l m w = past _ r l m (omega arith) w
 
   -- ---- for a state
-  pub rests→words : (s : State) → Rests K s → Words (s .stage) (s .rounds) (s .left) (s .made)
+  pub rests→words : (s : State) → Rests K s → Words (s .rec .stage) (s .rec .rounds) (s .rec .left) (s .rec .made)
   rests→words s R = fits _ _ _ _ (R .place) (λ D.
-      let z : s .left ≢ 0 = eqb-false (s .left) 0 (subst (λ (t : Bool). t && eqb (s .left) 0 ≡ false) D (R .done)) in omega arith)
+      let z : s .rec .left ≢ 0 = eqb-false (s .rec .left) 0 (subst (λ (t : Bool). t && eqb (s .rec .left) 0 ≡ false) D (R .done)) in omega arith)
 
-  pub words→rests : (s : State) → Words (s .stage) (s .rounds) (s .left) (s .made) → Rests K s
-  words→rests s w = go (between _ _ _ _ w) (decide (draws (s .stage)))
+  pub words→rests : (s : State) → Words (s .rec .stage) (s .rec .rounds) (s .rec .left) (s .rec .made) → Rests K s
+  words→rests s w = go (between _ _ _ _ w) (decide (draws (s .rec .stage)))
     where
-      go : Between (s .stage) (s .rounds) (s .left) (s .made) → (draws (s .stage) ≡ true) ⊎ (draws (s .stage) ≡ false) → Rests K s
-      go x (inl t) = record { place = x .place; done = rw (t, ne-eqb (s .left) 0 (λ (q : s .left ≡ 0). omega (arith, x .some t))) }
-      go x (inr t) = record { place = x .place; done = ap (λ (u : Bool). u && eqb (s .left) 0) t }
+      go : Between (s .rec .stage) (s .rec .rounds) (s .rec .left) (s .rec .made) → (draws (s .rec .stage) ≡ true) ⊎ (draws (s .rec .stage) ≡ false) → Rests K s
+      go x (inl t) = record { place = x .place; done = rw (t, ne-eqb (s .rec .left) 0 (λ (q : s .rec .left ≡ 0). omega (arith, x .some t))) }
+      go x (inr t) = record { place = x .place; done = ap (λ (u : Bool). u && eqb (s .rec .left) 0) t }

@@ -17,7 +17,7 @@ pub data Place (K : Course) (k r l m : ℕ) : Type 0 where
   over : 5 ≤ k → k ≤ 7 → r ≡ 0 → l ≡ 0 → m ≡ (K .job .S + K .job .C + 18) * b K → Place K k r l m
 
 abbrev pub Placed : Course → State → Type 0
-Placed K s = Place K (s .stage) (s .rounds) (s .left) (s .made)
+Placed K s = Place K (s .rec .stage) (s .rec .rounds) (s .rec .left) (s .rec .made)
 
 -- the invariant between calls: a place, and nothing due
 pub record Rests (K : Course) (s : State) : Type 0 where

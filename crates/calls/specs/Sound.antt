@@ -27,6 +27,6 @@ pub data Second (K : Course) (k e : ℕ) (p : List Float) : Type 0 where
 pub record Sound (K : Course) (s : State) : Type 0 where
   pub held : Held K (s .palette)
   pub room : length (s .least) ≡ 3 * (K .job .S * K .job .C)
-  pub second : Second K (s .stage) (s .error) (s .least)
+  pub second : Second K (s .rec .stage) (s .rec .error) (s .least)
   pub hints : length (s .hints) ≡ K .job .T
   pub dealt : Dealt (K .n) (s .order)

@@ -13,7 +13,7 @@ use Rattle.ieee.specs.Terms.{rank, over}
 use Rattle.ieee.proofs.Ranks.{yes-lt, no-lt, over-rank, within-rank}
 use Rattle.stats.specs.declared.Near.{Near}
 use Rattle.stats.specs.Stats.{leastOf}
-use Rattle.choice.proofs.Choice.{Least}
+use Rattle.choice.specs.Least.{Least}
 use Rattle.choice.proofs.Scan.{is-least}
 
 -- b is the first, by distance and then by index, of the hint and of the indexes below i

@@ -1,6 +1,5 @@
 pub mod Two
 pub mod Leading
-pub mod Choice
 pub mod Scan
 pub mod Runner
 pub mod Lesser

@@ -14,7 +14,7 @@ use Rattle.ieee.specs.Terms.{key32}
 use Rattle.ieee.proofs.Ranks.{lt-yes, lt-no, yes-lt, no-lt}
 use Rattle.stats.specs.declared.Near.{Near}
 use Rattle.stats.specs.Stats.{pickNear, stepNear, leastOf}
-use Rattle.choice.proofs.Choice.{Least}
+use Rattle.choice.specs.Least.{Least}
 
 -- ---- what holds of each distance holds of the least
 pick-all : (P : Near → Type 0) (t : Bool) (x y : Near) → P x → P y → P (pickNear t x y)

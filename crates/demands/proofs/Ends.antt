@@ -1,5 +1,4 @@
--- A run ends: each accepted advance by 1 or more and each accepted hand-in brings the finish nearer, and short of the finish one of the two is accepted.
--- (That one call ends is part of what the prover shows of every function, and the ten contracts ask nothing.) Assumes nothing.
+-- How a run ends: what brings the finish nearer, and that short of it a call is accepted. Assumes nothing.
 use Prim.Native.Nat.{ℕ, suc, _+_, _-_, _*_, _≤_, _<_}
 use mathlib.Core.Path.{_≡_, refl, sym, ap, _∙_}
 use mathlib.Core.Bool.{true, false}
@@ -40,7 +39,7 @@ module _ (size : ℕ) (small : size ≤ 256) (K : Course) where
   advance-nearer m a h = omega (arith, few-made (advanceCall size K m a .after) (advance-leaves size small K m a h), call-draws size small K m a, same)
     where
       same : handIns (getD (advanceCall size K m a .after .words) 1 0) ≡ handIns (getD (m .words) 1 0)
-      same = unfold stateOf in ap (λ (s : State). handIns (s .stage)) (advanced-state size K m a h) ∙ advance-hand-ins K a (stateOf m) (advance-opened size K m h .1)
+      same = unfold stateOf in ap (λ (s : State). handIns (s .rec .stage)) (advanced-state size K m a h) ∙ advance-hand-ins K a (stateOf m) (advance-opened size K m h .1)
 
   pub advance-draws : (m : Memory) (a : ℕ) → advanceAnswer size K m ≡ 0 → 1 ≤ advanceCall size K m (suc a) .drew
   unfolding advanceCall
@@ -59,10 +58,10 @@ module _ (size : ℕ) (small : size ≤ 256) (K : Course) where
       A = advance-leaves size small K m a h
 
       made : getD (advanceCall size K m a .after .words) 4 0 ≡ getD (m .words) 4 0 + drawsOf K a (stateOf m)
-      made = unfold stateOf in ap (λ (s : State). s .made) (advanced-state size K m a h) ∙ advance-made K a (stateOf m)
+      made = unfold stateOf in ap (λ (s : State). s .rec .made) (advanced-state size K m a h) ∙ advance-made K a (stateOf m)
 
       spent : draws (getD (advanceCall size K m a .after .words) 1 0) ≡ true → drawsOf K a (stateOf m) ≡ a
-      spent t = unfold stateOf in all-spent K a (stateOf m) (sym (ap (λ (s : State). draws (s .stage)) (advanced-state size K m a h)) ∙ t)
+      spent t = unfold stateOf in all-spent K a (stateOf m) (sym (ap (λ (s : State). draws (s .rec .stage)) (advanced-state size K m a h)) ∙ t)
 
       left : draws (getD (advanceCall size K m a .after .words) 1 0) ≡ true → getD (advanceCall size K m a .after .words) 4 0 < (K .job .S + K .job .C + 18) * b K
       left t =
@@ -73,10 +72,10 @@ module _ (size : ℕ) (small : size ≤ 256) (K : Course) where
   hand-in-nearer m reduced h = omega (arith, same, one)
     where
       same : getD (handInCall size K m reduced .after .words) 4 0 ≡ getD (m .words) 4 0
-      same = unfold stateOf in ap (λ (s : State). s .made) (handed-state size K m reduced h) ∙ handIn-made K reduced (stateOf m)
+      same = unfold stateOf in ap (λ (s : State). s .rec .made) (handed-state size K m reduced h) ∙ handIn-made K reduced (stateOf m)
 
       one : suc (handIns (getD (handInCall size K m reduced .after .words) 1 0)) ≡ handIns (getD (m .words) 1 0)
-      one = unfold stateOf in ap (λ (s : State). suc (handIns (s .stage))) (handed-state size K m reduced h) ∙ hand-in-one K reduced (stateOf m) (handIn-opened size K m reduced h .1)
+      one = unfold stateOf in ap (λ (s : State). suc (handIns (s .rec .stage))) (handed-state size K m reduced h) ∙ hand-in-one K reduced (stateOf m) (handIn-opened size K m reduced h .1)
 
   -- so no row of calls is longer than what was ahead
   pub ends : {m x : Memory} {k : ℕ} → Calls size K m k x → k + ahead K x ≤ ahead K m

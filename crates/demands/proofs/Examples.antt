@@ -2,6 +2,7 @@
 use Prim.Native.Nat.{ℕ, _+_, _*_, _/_, _≤_, _<_}
 use mathlib.Core.Path.{_≡_, refl, ap, subst⁻¹, _∙_}
 use mathlib.Core.List.{List, [], _∷_}
+use native.Mathlib.Omega.{arith}
 use lib.ListN.{length, getD}
 use lib.Dec.{lit≤, lit<}
 use lib.Ieee.{ofBits, neg, le, lt, eq}
@@ -17,18 +18,20 @@ use Rattle.extremes.proofs.Examples.{argmax-of-1-3-3, argmin-of-2-1-1}
 use Rattle.stats.specs.declared.Near.{Near}
 use Rattle.job.specs.Job.{job}
 use Rattle.job.specs.Rules.{answer}
-use Rattle.job.specs.Checks.{among, within, weightFits, tileTest, tileFits, tilesFit, countTest, countFits, partFits, tileCountsFit, countsFit, firstNot, componentFits, firstBad, plainAnswer}
+use Rattle.job.specs.Checks.{among, within, weightFits, tileTest, tileFits, tilesFit, countTest, countFits, partFits, tileCountsFit, countsFit, firstNot, componentFits, firstBad, sampleTest, sampleFits, samplesFit, plainAnswer}
 use Rattle.palette.proofs.Example.{middle-first}
 use Rattle.blend.proofs.Example.{half-way}
 use Rattle.palette_tile.specs.Tiles.{fitAt}
 use Rattle.assign_tiles.specs.Tiles.{Held, held}
 use Rattle.assign.specs.Assign.{roomFor, assignAnswer, assignDef}
 use Rattle.quantizer.specs.Course.{Course}
-use Rattle.stages.specs.Calls.{Memory}
+use Rattle.stages.specs.Calls.{Memory, coloursRoom, memoryRoom, startAnswer}
 use Rattle.stages.specs.History.{Run}
 use Rattle.calls.proofs.Follow.{run-samples, run-end}
-use Rattle.demands.proofs.Second.{assign-chooses}
-use Rattle.demands.specs.Examples.{Each-twice, Examples, Most-twice, Past, half, sheetJob, sheetPalette}
+use Rattle.demands.proofs.Second.{second-demand}
+use Rattle.demands.specs.Examples.{Each-twice, Examples, Most-twice, Past, blank, half, oneColour, sheetJob, sheetPalette}
+use Rattle.demands.specs.Ends.{Finished}
+use Rattle.demands.proofs.Finish.{run-ends}
 
 -- ---- the runs
 -- the draws of a run past its last, by the cycle
@@ -55,6 +58,25 @@ module _ (size : ℕ) (small : size ≤ 256) (K : Course) (seed : ℕ) {m : Memo
         subst⁻¹ (λ (xs : List ℕ). hits (λ i. count i xs) 1 25 ≡ 6) e (x .1),
       )
 
+-- one of each, from any seed
+module _ (seed : ℕ) where
+  ten-accepted : startAnswer 64 (oneColour 1 1 10) (blank 1 1 10) ≡ 0
+  unfolding startAnswer memoryRoom coloursRoom answer among weightFits tilesFit tileFits tileTest countsFit tileCountsFit partFits countFits countTest firstBad firstNot componentFits within samplesFit sampleFits sampleTest every sum ofBits neg le lt eq
+  ten-accepted = refl
+
+  twenty-five-accepted : startAnswer 64 (oneColour 2 2 25) (blank 2 2 25) ≡ 0
+  unfolding startAnswer memoryRoom coloursRoom answer among weightFits tilesFit tileFits tileTest countsFit tileCountsFit partFits countFits countTest firstBad firstNot componentFits within samplesFit sampleFits sampleTest every sum ofBits neg le lt eq
+  twenty-five-accepted = refl
+
+  past : (s c n : ℕ) (x : Finished 64 (oneColour s c n) seed) → Past s c n (oneColour s c n) (x .last)
+  past s c n x = record { subs = refl; colours = refl; samples = refl; stage = omega (arith, x .stage) }
+
+  there-is-20 : (x : Finished 64 (oneColour 1 1 10) seed) × Each-twice (x .samples)
+  there-is-20 = let x = run-ends 64 (lit≤ tt) (oneColour 1 1 10) .finished (blank 1 1 10) seed ten-accepted in (x, run-of-20 64 (lit≤ tt) (oneColour 1 1 10) seed (x .run) (past 1 1 10 x))
+
+  there-is-44 : (x : Finished 64 (oneColour 2 2 25) seed) × Most-twice (x .samples)
+  there-is-44 = let x = run-ends 64 (lit≤ tt) (oneColour 2 2 25) .finished (blank 2 2 25) seed twenty-five-accepted in (x, run-of-44 64 (lit≤ tt) (oneColour 2 2 25) seed (x .run) (past 2 2 25 x))
+
 -- ---- the sheet
 middle : fitAt sheetJob sheetPalette 2 1 2 ≡ record { index = 0; dist = half }
 unfolding fitAt
@@ -69,7 +91,7 @@ module _ (a c hint d w x y z : ℕ) where
   accepted = refl
 
   from-any : getD (assignDef 64 sheetJob sheetPalette lent .after .out) 2 0 ≡ 0
-  from-any = assign-chooses 64 (lit≤ tt) sheetJob sheetPalette lent accepted 2 (lit< tt) refl .1 ∙ ap (λ (b : Near). b .index) middle
+  from-any = second-demand 64 (lit≤ tt) .assign sheetJob sheetPalette .chooses lent accepted 2 (lit< tt) refl .1 ∙ ap (λ (b : Near). b .index) middle
 
 pub examples : Examples
 examples =
@@ -80,6 +102,8 @@ examples =
       tenth-of-20 = tenths .3;
       draws-20 = run-of-20;
       draws-44 = run-of-44;
+      a-run-of-20 = there-is-20;
+      a-run-of-44 = there-is-44;
       argmax-takes-last = argmax-of-1-3-3;
       argmin-takes-first = argmin-of-2-1-1;
       two-of-2-1-1 = smallest-two-of-2-1-1;

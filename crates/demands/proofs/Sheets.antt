@@ -10,17 +10,14 @@ use lib.ListN.{length}
 use borrow.Author.Tests.{eq-eqb, leb-true}
 use Rattle.bits.specs.Bits.{bits}
 use Rattle.format.specs.Format.{Res, fault, got, refused, accepted, clear, ended}
-use Rattle.sheet_format.specs.Sheet.{Sheet, edition1, sheet, readSheet}
-use Rattle.sheet.specs.Sheets.{Room, roomy, readDef}
+use Rattle.sheet_format.specs.Sheet.{Sheet, edition1, readSheet}
+use Rattle.sheet.specs.Sheets.{Room}
 use Rattle.sheet.proofs.Inverse.{read-written, written-read}
-use Rattle.demands.proofs.First.{numberOfReading, faultOf, read-sheet}
-use Rattle.sheet_format.proofs.Faults.{failed, sheet-never, misopened, sheet-misopened}
-use Rattle.demands.specs.Sheets.{Well-formed}
-
--- a field is cut short, or behind the last one there is a spare bit set, or a byte
-abbrev pub unended : Res Sheet → Bool
-unended (fault n) = eqb n 13
-unended (got x r) = not (ltb (length r) 8 && clear r)
+use Rattle.demands.specs.First.{faultOf}
+use Rattle.demands.proofs.First.{first-demand}
+use Rattle.sheet_format.specs.Opened.{misopened}
+use Rattle.sheet_format.proofs.Faults.{failed, sheet-never, sheet-misopened}
+use Rattle.demands.specs.Sheets.{Well-formed, unended, enough, number, fields, Numbers}
 
 -- ---- a number by what the fields gave
 abbrev stopped : ℕ → Res Sheet → Bool
@@ -38,21 +35,12 @@ by-fields k true false x = refl
 by-fields k false s x = refl
 
 module _ (bytes : List ℕ) (h : Room) where
-  abbrev number : ℕ
-  number = numberOfReading (readDef bytes h .answer)
+  numbered : (k : ℕ) → eqb (number bytes h) k ≡ cond (enough h) (cond (leb (length bytes) 65536) (stopped k (fields bytes)) (eqb 13 k)) (eqb 3 k)
+  numbered k = ap (λ (n : ℕ). eqb n k) (first-demand 64 .read-sheet bytes h .numbers) ∙ by-fields k (enough h) (leb (length bytes) 65536) (fields bytes)
 
-  abbrev pub enough : Bool
-  enough = roomy (length (h .tiles)) (length (h .colours)) (length (h .counts)) (length (h .palette))
-
-  abbrev fields : Res Sheet
-  fields = sheet edition1 .parse (bits bytes)
-
-  numbered : (k : ℕ) → eqb number k ≡ cond enough (cond (leb (length bytes) 65536) (stopped k fields) (eqb 13 k)) (eqb 3 k)
-  numbered k = ap (λ (n : ℕ). eqb n k) (read-sheet bytes h .numbers) ∙ by-fields k enough (leb (length bytes) 65536) fields
-
-  -- ---- 3 exactly when there is too little room
-  pub number-3 : eqb number 3 ≡ not enough
-  number-3 = numbered 3 ∙ by enough (leb (length bytes) 65536) fields (sheet-never 3 refl edition1 refl refl refl refl refl (bits bytes))
+  -- ---- 3
+  number-3 : eqb (number bytes h) 3 ≡ not (enough h)
+  number-3 = numbered 3 ∙ by (enough h) (leb (length bytes) 65536) (fields bytes) (sheet-never 3 refl edition1 refl refl refl refl refl (bits bytes))
     where
       by : (r s : Bool) (x : Res Sheet) → failed 3 x ≡ false → cond r (cond s (stopped 3 x) false) true ≡ not r
       by true true (fault n) e = e
@@ -64,9 +52,9 @@ module _ (bytes : List ℕ) (h : Room) where
       by true false x e = refl
       by false s x e = refl
 
-  -- ---- 12 exactly when, in bytes that are not too many, the opening or the edition is there and wrong
-  pub number-12 : eqb number 12 ≡ enough && (leb (length bytes) 65536 && misopened edition1 (bits bytes))
-  number-12 = numbered 12 ∙ by enough (leb (length bytes) 65536) fields ∙ ap (λ (t : Bool). enough && (leb (length bytes) 65536 && t)) (sheet-misopened edition1 (bits bytes))
+  -- ---- 12
+  number-12 : eqb (number bytes h) 12 ≡ (enough h) && (leb (length bytes) 65536 && misopened edition1 (bits bytes))
+  number-12 = numbered 12 ∙ by (enough h) (leb (length bytes) 65536) (fields bytes) ∙ ap (λ (t : Bool). (enough h) && (leb (length bytes) 65536 && t)) (sheet-misopened edition1 (bits bytes))
     where
       by : (r s : Bool) (x : Res Sheet) → cond r (cond s (stopped 12 x) false) false ≡ r && (s && failed 12 x)
       by true true (fault n) = refl
@@ -78,9 +66,9 @@ module _ (bytes : List ℕ) (h : Room) where
       by true false x = refl
       by false s x = refl
 
-  -- ---- 13 exactly when they are too many, or the first fault is a field cut short, or there is more behind the last
-  pub number-13 : eqb number 13 ≡ enough && (not (leb (length bytes) 65536) || unended fields)
-  number-13 = numbered 13 ∙ by enough (leb (length bytes) 65536) fields
+  -- ---- 13
+  number-13 : eqb (number bytes h) 13 ≡ (enough h) && (not (leb (length bytes) 65536) || unended (fields bytes))
+  number-13 = numbered 13 ∙ by (enough h) (leb (length bytes) 65536) (fields bytes)
     where
       by : (r s : Bool) (x : Res Sheet) → cond r (cond s (stopped 13 x) true) false ≡ r && (not s || unended x)
       by true true (fault n) = refl
@@ -92,27 +80,30 @@ module _ (bytes : List ℕ) (h : Room) where
       by true false x = refl
       by false s x = refl
 
-  -- ---- 0 exactly when there is room and the bytes are a sheet's
-  pub number-0 : T (areBytes bytes) → number ≡ 0 → (enough ≡ true) × Well-formed bytes
-  number-0 b e = by enough (leb (length bytes) 65536) fields refl refl refl (sheet-never 0 refl edition1 refl refl refl refl refl (bits bytes)) (sym (numbered 0) ∙ eq-eqb number 0 e)
+  -- ---- 0
+  number-0 : T (areBytes bytes) → (number bytes h) ≡ 0 → ((enough h) ≡ true) × Well-formed bytes
+  number-0 b e = by (enough h) (leb (length bytes) 65536) (fields bytes) refl refl refl (sheet-never 0 refl edition1 refl refl refl refl refl (bits bytes)) (sym (numbered 0) ∙ eq-eqb (number bytes h) 0 e)
     where
-      sheet-of : (x : Sheet) → leb (length bytes) 65536 ≡ true → ended fields ≡ accepted x → Well-formed bytes
+      sheet-of : (x : Sheet) → leb (length bytes) 65536 ≡ true → ended (fields bytes) ≡ accepted x → Well-formed bytes
       sheet-of x s d =
-          let w = written-read bytes x b (ap (λ (t : Bool). cond t (ended fields) (refused 13)) s ∙ d) in
+          let w = written-read bytes x b (ap (λ (t : Bool). cond t (ended (fields bytes)) (refused 13)) s ∙ d) in
           record { is = x; good = w .1; same = w .0; small = leb-true (length bytes) 65536 s }
 
-      by : (r s : Bool) (x : Res Sheet) → enough ≡ r → leb (length bytes) 65536 ≡ s → fields ≡ x → failed 0 x ≡ false → cond r (cond s (stopped 0 x) false) false ≡ true → (enough ≡ true) × Well-formed bytes
+      by : (r s : Bool) (x : Res Sheet) → (enough h) ≡ r → leb (length bytes) 65536 ≡ s → (fields bytes) ≡ x → failed 0 x ≡ false → cond r (cond s (stopped 0 x) false) false ≡ true → ((enough h) ≡ true) × Well-formed bytes
       by true true (fault n) er es ex f g = absurd (true≢false (sym g ∙ f))
       by true true (got x r) er es ex f g = last (ltb (length r) 8 && clear r) refl g
         where
-          last : (t : Bool) → ltb (length r) 8 && clear r ≡ t → cond t true false ≡ true → (enough ≡ true) × Well-formed bytes
+          last : (t : Bool) → ltb (length r) 8 && clear r ≡ t → cond t true false ≡ true → ((enough h) ≡ true) × Well-formed bytes
           last true q u = (er, sheet-of x es (ap ended ex ∙ ap (λ (v : Bool). cond v (accepted x) (refused 13)) q))
           last false q u = absurd (true≢false (sym u))
       by true false x er es ex f g = absurd (true≢false (sym g))
       by false s x er es ex f g = absurd (true≢false (sym g))
 
-  pub number-0-of : enough ≡ true → Well-formed bytes → number ≡ 0
+  number-0-of : (enough h) ≡ true → Well-formed bytes → (number bytes h) ≡ 0
   number-0-of r W =
-      read-sheet bytes h .numbers
+      first-demand 64 .read-sheet bytes h .numbers
       ∙ ap (λ (t : Bool). faultOf (cond t (readSheet edition1 bytes) (refused 3))) r
       ∙ ap faultOf (subst (λ (l : List ℕ). readSheet edition1 l ≡ accepted (W .is)) (W .same) (read-written (W .is) (W .good) (subst (λ (l : List ℕ). length l ≤ 65536) (sym (W .same)) (W .small))))
+
+  pub numbers : Numbers bytes h
+  numbers = record { nought = number-0; nought-of = number-0-of; three = number-3; twelve = number-12; thirteen = number-13 }

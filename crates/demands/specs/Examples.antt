@@ -1,9 +1,9 @@
 -- The examples marked P, as one table. Assumes nothing.
-use Prim.Native.Nat.{ℕ, _≤_, _<_}
+use Prim.Native.Nat.{ℕ, _*_, _≤_, _<_}
 use mathlib.Core.Path.{_≡_}
 use mathlib.Core.Bool.{false}
 use mathlib.Core.List.{List, [], _∷_}
-use lib.ListN.{length, getD}
+use lib.ListN.{length, getD, replicate}
 use lib.Ieee.{Float, inf, binary32, ofBits}
 use Rattle.lists.specs.Count.{count}
 use Rattle.lists.specs.Firsts.{hits}
@@ -16,9 +16,10 @@ use Rattle.blend.specs.Blend.{blend}
 use Rattle.palette_tile.specs.Tiles.{fitAt}
 use Rattle.assign_tiles.specs.Tiles.{held}
 use Rattle.assign.specs.Assign.{assignDef}
-use Rattle.quantizer.specs.Course.{Course}
-use Rattle.stages.specs.Calls.{Memory}
+use Rattle.quantizer.specs.Course.{Course, course}
+use Rattle.stages.specs.Calls.{Memory, memory}
 use Rattle.stages.specs.History.{Run}
+use Rattle.demands.specs.Ends.{Finished}
 
 -- ---- numbers as f32
 abbrev pub nought : Float
@@ -57,6 +58,13 @@ pub record Past (s c n : ℕ) (K : Course) (m : Memory) : Type 0 where
   pub samples : K .n ≡ n
   pub stage : 5 ≤ getD (m .words) 1 0
 
+-- n samples of a job that has one tile of one colour, and memory to start a run in
+abbrev pub oneColour : ℕ → ℕ → ℕ → Course
+oneColour s c n = course (job s c 1 one (0 ∷ 1 ∷ []) (half ∷ nought ∷ nought ∷ []) (1 ∷ [])) n (replicate (2 * n) 0)
+
+abbrev pub blank : ℕ → ℕ → ℕ → Memory
+blank s c n = memory (replicate n 0) (0 ∷ []) (replicate (3 * (s * c)) nought) (replicate (3 * (s * c)) nought) (replicate 6 0)
+
 -- 20 draws of 10 samples, each twice
 abbrev pub Each-twice : List ℕ → Type 0
 Each-twice ds = (length ds ≡ 20) × ((i : ℕ) → i < 10 → count i ds ≡ 2)
@@ -73,6 +81,9 @@ pub record Examples : Type 0 where
   pub tenth-of-20 : tenth 20 ≡ 2
   pub draws-20 : (size : ℕ) → size ≤ 256 → (K : Course) (seed : ℕ) {m : Memory} {ds : List ℕ} → Run size K seed m ds → Past 1 1 10 K m → Each-twice ds
   pub draws-44 : (size : ℕ) → size ≤ 256 → (K : Course) (seed : ℕ) {m : Memory} {ds : List ℕ} → Run size K seed m ds → Past 2 2 25 K m → Most-twice ds
+  -- there are such runs, from every seed to the finish
+  pub a-run-of-20 : (seed : ℕ) → (x : Finished 64 (oneColour 1 1 10) seed) × Each-twice (x .samples)
+  pub a-run-of-44 : (seed : ℕ) → (x : Finished 64 (oneColour 2 2 25) seed) × Most-twice (x .samples)
   pub argmax-takes-last : argmaxOf (valueAt (one ∷ three ∷ three ∷ [])) 3 ≡ 2
   pub argmin-takes-first : argminOf (valueAt (two ∷ one ∷ one ∷ [])) 3 ≡ 1
   pub two-of-2-1-1 : leastTwo (valueAt (two ∷ one ∷ one ∷ [])) 3 ≡ record { index = 1; dist = one; second = one }

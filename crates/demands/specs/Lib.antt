@@ -1,7 +1,9 @@
--- What a customer reads first: the three demands and the examples. First with Ends and Sheets is the first demand; Calls, Runners and Prefixes are
--- what they stand on. Assumes nothing.
-pub mod Ends
-pub mod Sheets
-pub mod Third
-pub mod Examples
+-- What a customer reads first, in the paper's order: First with Sheets and Ends is the first demand, Second the second, Third the third, then the examples.
+-- Calls says what the first demand asks of one call. Assumes nothing.
 pub mod Calls
+pub mod First
+pub mod Sheets
+pub mod Second
+pub mod Third
+pub mod Ends
+pub mod Examples

@@ -43,18 +43,18 @@ module _ (size : ℕ) (K : Course) (m : Memory) where
 
   pub advance-apart : (a : ℕ) → let x = advanceCall size K m a in Apart (toldRun x .answer) (x .number) (x .drew)
   advance-apart a = run-apart (advanceCall size K m a) (unfold advanceCall advanceAnswer answered in
-      both (λ (x : Outcome). x .number < 256) (eqb (advanceAnswer size K m) 0) (omega arith) (answer-small (runRules size K m (memoryRoom size K m) (draws (stateOf m .stage))) refl))
+      both (λ (x : Outcome). x .number < 256) (eqb (advanceAnswer size K m) 0) (omega arith) (answer-small (runRules size K m (memoryRoom size K m) (draws (stateOf m .rec .stage))) refl))
 
   pub hand-in-apart : (reduced : List Float) → let x = handInCall size K m reduced in Apart (toldRun x .answer) (x .number) (x .drew)
   hand-in-apart reduced = run-apart (handInCall size K m reduced) (unfold handInCall handInAnswer answered in
       both (λ (x : Outcome). x .number < 256) (eqb (handInAnswer size K m reduced) 0) (omega arith)
-      (answer-small (runRules size K m (memoryRoom size K m && coloursRoom size K reduced) (stops (stateOf m .stage)) ++ (rule 7 (componentsFit two reduced) ∷ [])) refl))
+      (answer-small (runRules size K m (memoryRoom size K m && coloursRoom size K reduced) (stops (stateOf m .rec .stage)) ++ (rule 7 (componentsFit two reduced) ∷ [])) refl))
 
   pub result-apart : (out : List Float) → let x = resultCall size K m out in Apart (toldColours x .answer) (x .number) 0
   unfolding toldColours
   result-apart out = apart (resultCall size K m out .number) 0 (unfold resultCall resultAnswer in
       both (λ (x : Copied). x .number < 256) (eqb (resultAnswer size K m out) 0) (omega arith)
-      (answer-small (runRules size K m (memoryRoom size K m && coloursRoom size K out) (eqb (stateOf m .stage) 7)) refl))
+      (answer-small (runRules size K m (memoryRoom size K m && coloursRoom size K out) (eqb (stateOf m .rec .stage) 7)) refl))
 
 pub assign-apart : (size : ℕ) (J : Job) (palette : List Float) (h : assigning.Held) → let x = assigning.assignDef size J palette h in Apart (toldTiles x .answer) (x .number) 0
 unfolding toldTiles

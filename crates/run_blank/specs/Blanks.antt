@@ -13,7 +13,7 @@ use Rattle.stages.specs.State.{State}
 unfoldable pub dealt : ℕ → ℕ → State
 dealt n seed =
     let c = after n seed 0 in
-    record { order = c .cards .order; hints = []; palette = []; least = []; generator = c .cards .state; stage = 0; rounds = 0; left = 0; made = 0; error = 0 }
+    record { order = c .cards .order; hints = []; palette = []; least = []; rec = record { generator = c .cards .state; stage = 0; rounds = 0; left = 0; made = 0; error = 0 } }
 
 -- a course that passed, and both palettes' room
 pub record Blanking (K : Course) (p l : List Float) : Type 0 where

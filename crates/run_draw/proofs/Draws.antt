@@ -24,7 +24,7 @@ pub draw-beside : (K : Course) (o h : List ℕ) (p l q : List Float) (r : Record
     → stateWith o2 h2 p2 q r2 ≡ draw K (stateWith o h p q r) → stateWith o2 h2 p2 l r2 ≡ draw K (stateWith o h p l r)
 unfolding draw drawWith subsOf haveOf alphaOf
 draw-beside K o h p l q r o2 h2 p2 r2 e =
-    ap (λ (s : State). record { order = s .order; hints = s .hints; palette = s .palette; least = l; generator = s .generator; stage = s .stage; rounds = s .rounds; left = s .left; made = s .made; error = s .error }) e
+    ap (λ (s : State). stateWith (s .order) (s .hints) (s .palette) l (s .rec)) e
 
 -- ---- a place has few rounds finished and few draws made
 module _ (K : Course) (few : K .job .S ≤ 16) (cap : K .job .C ≤ 16) (short : K .n ≤ 16384) (s : State) where
@@ -34,7 +34,7 @@ module _ (K : Course) (few : K .job .S ≤ 16) (cap : K .job .C ≤ 16) (short :
   product : (x : ℕ) → x ≤ 50 → x * b K ≤ 81950
   product x h = mul-le-mul h tenth
 
-  pub few-rounds : Placed K s → s .rounds ≤ 16
+  pub few-rounds : Placed K s → s .rec .rounds ≤ 16
   few-rounds (seeding k r l e) = omega arith
   few-rounds (growing k r l e) = omega arith
   few-rounds (replacing k r l e) = omega arith
@@ -42,11 +42,11 @@ module _ (K : Course) (few : K .job .S ≤ 16) (cap : K .job .C ≤ 16) (short :
   few-rounds (finishing k r l e) = omega arith
   few-rounds (over k past r l e) = omega arith
 
-  pub few-made : Placed K s → s .made ≤ 81950
+  pub few-made : Placed K s → s .rec .made ≤ 81950
   few-made p = omega (arith, made-few K s p, product (K .job .S + K .job .C + 18) (omega arith))
 
 -- what a draw asks holds between calls
-pub drawable : (size : ℕ) → size ≤ 256 → (K : Course) (room : Bool) → Sampled size (K .job) (K .n) (K .samples) room → (s : State) → Rests K s → Sound K s → draws (s .stage) ≡ true → Drawable K s
+pub drawable : (size : ℕ) → size ≤ 256 → (K : Course) (room : Bool) → Sampled size (K .job) (K .n) (K .samples) room → (s : State) → Rests K s → Sound K s → draws (s .rec .stage) ≡ true → Drawable K s
 drawable size small K room D s R A t =
     let few = D .ready .sizes .few in
     let cap = D .ready .sizes .cap in

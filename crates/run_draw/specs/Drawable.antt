@@ -8,5 +8,5 @@ use Rattle.stages.specs.Stages.{cycleOf, subsOf, haveOf}
 -- a course that passed, with its palette, hints and order; few rounds finished, and a draw left
 pub record Drawable (K : Course) (s : State) : Type 0 where
   pub going : Going K (cycleOf K s) (s .palette) (subsOf K s) (haveOf K s) (s .hints)
-  pub few : s .rounds ≤ 16
-  pub left : 1 ≤ s .left
+  pub few : s .rec .rounds ≤ 16
+  pub left : 1 ≤ s .rec .left

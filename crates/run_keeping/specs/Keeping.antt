@@ -12,4 +12,4 @@ keeps round e error = cond (eqb round 0) true (lt e (ofBits binary32 error))
 
 -- a palette that was seen before a round of replacing
 unfoldable pub seen : Course → ℕ → State → State
-seen K round s = cond (keeps round (errorOf K s) (s .error)) (keep K s) (noticed K (K .job .S) (K .job .C) s)
+seen K round s = cond (keeps round (errorOf K s) (s .rec .error)) (keep K s) (noticed K (K .job .S) (K .job .C) s)

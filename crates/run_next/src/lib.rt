@@ -5,7 +5,7 @@ ghost use mathlib.Core.Bool.{_&&_};
 ghost use mathlib.Core.List.{[]};
 ghost use Prim.Native.Nat.{_/_};
 ghost use lib.Dec.{eqb};
-ghost use Rattle.stages.specs.State.{stateWith, recordIn, at, draws};
+ghost use Rattle.stages.specs.State.{placed, draws};
 
 // Whether a round is to be closed.
 pub fn is_due(r: Record) -> bool
@@ -19,7 +19,7 @@ pub fn is_due(r: Record) -> bool
 
 // A round of a tenth of the n samples begins.
 pub fn open_round(r: Record, stage: u64, round: u64, n: usize) -> Record
-    ensures { λ x. ⌜ x ≡ recordIn (at (stateWith [] [] [] [] r) stage round (n / 10)) ⌝ }
+    ensures { λ x. ⌜ x ≡ placed r stage round (n / 10) ⌝ }
 {
     Record {
         generator: r.generator,
@@ -33,7 +33,7 @@ pub fn open_round(r: Record, stage: u64, round: u64, n: usize) -> Record
 
 // The final draws are one round; the next stop follows.
 pub fn end_final(r: Record) -> Record
-    ensures { λ x. ⌜ x ≡ recordIn (at (stateWith [] [] [] [] r) 5 0 0) ⌝ }
+    ensures { λ x. ⌜ x ≡ placed r 5 0 0 ⌝ }
 {
     Record {
         generator: r.generator,

@@ -6,7 +6,7 @@ use mathlib.Core.List.{[]}
 use native.Mathlib.Omega.{arith}
 use Rattle.lists.proofs.Tests.{and-l}
 use Rattle.quantizer.specs.Course.{Course, course}
-use Rattle.stages.specs.State.{State, recordIn, draws}
+use Rattle.stages.specs.State.{State, draws}
 use Rattle.stages.specs.Stages.{finishRound, due, settle}
 use Rattle.calls.proofs.Cases.{stage0, stage1, stage2, stage4}
 use Rattle.calls.specs.Place.{Placed, seeding, growing, replacing, reducing, finishing, over}
@@ -18,22 +18,22 @@ use Rattle.run_round.specs.Settles.{Standing, Ripe, seeds, grows, replac
 use Rattle.run_round.proofs.Orders.{ordered, seeding-any, growing-any, replacing-any, final-any}
 
 module _ (K : Course) (s : State) (A : Standing K s) (d : due K s ≡ true) where
-  drawing : draws (s .stage) ≡ true
-  drawing = and-l (draws (s .stage)) _ d
+  drawing : draws (s .rec .stage) ≡ true
+  drawing = and-l (draws (s .rec .stage)) _ d
 
-  ripe : Placed K s → Ripe (K .job) (recordIn s)
+  ripe : Placed K s → Ripe (K .job) (s .rec)
   ripe (seeding q l m e) = seeds q (omega arith)
   ripe (growing q l m e) = grows q (omega arith)
   ripe (replacing q l m e) = replaces q (low (A .sound .second))
     where
-      low : Second K (s .stage) (s .error) (s .least) → s .error < 0x7f800000
+      low : Second K (s .rec .stage) (s .rec .error) (s .least) → s .rec .error < 0x7f800000
       low (in2 z b f) = b
       low (out2 z b) = absurd (z q)
   ripe (reducing q l m e) = absurd (true≢false (sym drawing ∙ ap draws q))
   ripe (finishing q l m e) = finishes q
-  ripe (over q past l m e) = absurd (true≢false (sym drawing ∙ quiet (s .stage) q))
+  ripe (over q past l m e) = absurd (true≢false (sym drawing ∙ quiet (s .rec .stage) q))
 
-  few : Placed K s → s .rounds ≤ 16
+  few : Placed K s → s .rec .rounds ≤ 16
   few (seeding q l m e) = omega (arith, A .ready .sizes .few)
   few (growing q l m e) = omega (arith, A .ready .sizes .cap)
   few (replacing q l m e) = omega arith
@@ -41,7 +41,7 @@ module _ (K : Course) (s : State) (A : Standing K s) (d : due K s ≡ true) wher
   few (finishing q l m e) = omega arith
   few (over q past l m e) = omega arith
 
-  pub to-close : Closing (K .job) (s .hints) (s .palette) (s .least) (recordIn s)
+  pub to-close : Closing (K .job) (s .hints) (s .palette) (s .least) (s .rec)
   to-close =
       record {
         lent = record {
@@ -60,11 +60,11 @@ module _ (K : Course) (s : State) (A : Standing K s) (d : due K s ≡ true) wher
   unfolding finishRound
   closed x o e = by (ripe (A .place))
     where
-      by : Ripe (K .job) (recordIn s) → x ≡ finishRound K s
-      by (seeds z m) = seeding-any K s x o (e ∙ stage0 (s .stage) _ _ _ _ _ z) ∙ sym (stage0 (s .stage) _ _ _ _ _ z)
-      by (grows z m) = growing-any K s x o (e ∙ stage1 (s .stage) _ _ _ _ _ z) ∙ sym (stage1 (s .stage) _ _ _ _ _ z)
-      by (replaces z m) = replacing-any K s x o (e ∙ stage2 (s .stage) _ _ _ _ _ z) ∙ sym (stage2 (s .stage) _ _ _ _ _ z)
-      by (finishes z) = final-any K s x o (e ∙ stage4 (s .stage) _ _ _ _ _ z) ∙ sym (stage4 (s .stage) _ _ _ _ _ z)
+      by : Ripe (K .job) (s .rec) → x ≡ finishRound K s
+      by (seeds z m) = seeding-any K s x o (e ∙ stage0 (s .rec .stage) _ _ _ _ _ z) ∙ sym (stage0 (s .rec .stage) _ _ _ _ _ z)
+      by (grows z m) = growing-any K s x o (e ∙ stage1 (s .rec .stage) _ _ _ _ _ z) ∙ sym (stage1 (s .rec .stage) _ _ _ _ _ z)
+      by (replaces z m) = replacing-any K s x o (e ∙ stage2 (s .rec .stage) _ _ _ _ _ z) ∙ sym (stage2 (s .rec .stage) _ _ _ _ _ z)
+      by (finishes z) = final-any K s x o (e ∙ stage4 (s .rec .stage) _ _ _ _ _ z) ∙ sym (stage4 (s .rec .stage) _ _ _ _ _ z)
 
   pub fewer : (x : State) → x .order ≡ s .order → ordered [] x ≡ finishRound (course (K .job) (K .n) []) (ordered [] s) → togo K x < togo K s
   fewer x o e = rw (closed x o e) (togo-less K (A .ready .sizes .subs) (A .ready .sizes .some) s (A .place) d)

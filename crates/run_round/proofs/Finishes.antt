@@ -10,7 +10,7 @@ use borrow.Author.Tests.{eq-eqb, ne-eqb}
 use Rattle.job.specs.Job.{Job}
 use Rattle.quantizer.specs.Course.{Course}
 use Rattle.stages.specs.declared.Record.{Record}
-use Rattle.stages.specs.State.{State, stateWith, recordIn, at}
+use Rattle.stages.specs.State.{State, stateWith, placed}
 use Rattle.stages.specs.Stages.{finishRound}
 use Rattle.calls.proofs.Cases.{stage0, stage1, stage2, stage4}
 use Rattle.run_turns.specs.Asked.{Going}
@@ -60,7 +60,7 @@ module _ (J : Job) (h : List ℕ) (p l : List Float) (r : Record) (A : Closing J
       low (finishes z) q = absurd (n4 z)
 
 module _ (K : Course) (h : List ℕ) (p l : List Float) (r : Record) (A : Closing (K .job) h p l r) (from : ℕ) (h2 : List ℕ) (B : Sought (K .job) h p r from h2) where
-  pub ended : r .stage ≡ 4 → (r2 : Record) → r2 ≡ recordIn (at (stateWith [] [] [] [] r) 5 0 0) → stateWith [] h2 p l r2 ≡ finishRound K (stateWith [] h p l r)
+  pub ended : r .stage ≡ 4 → (r2 : Record) → r2 ≡ placed r 5 0 0 → stateWith [] h2 p l r2 ≡ finishRound K (stateWith [] h p l r)
   unfolding finishRound
   ended z r2 e =
       ap (λ (x : List ℕ). stateWith [] x p l r2) (B .idle (λ (k : r .stage ≡ 0). omega arith))

@@ -7,14 +7,14 @@ use lib.Dec.{ltb}
 use lib.Ieee.{binary32, lt, ofBits}
 use Rattle.quantizer.specs.Course.{Course, course}
 use Rattle.quantizer.specs.Seeding.{worstOf}
-use Rattle.stages.specs.State.{State, at}
+use Rattle.stages.specs.State.{State, stateWith, at}
 use Rattle.stages.specs.Stages.{noticed, openSeeding, openGrowing, openReplacing, errorOf, keep, judged, enterReplacing, enterGrowing, enterReducing, closeSeeding, closeGrowing, closeReplacing}
 use Rattle.run_round.specs.First.{firstRound}
 
 -- the state with another order
 abbrev pub ordered : List ℕ → State → State
 ordered o s =
-    record { order = o; hints = s .hints; palette = s .palette; least = s .least; generator = s .generator; stage = s .stage; rounds = s .rounds; left = s .left; made = s .made; error = s .error }
+    stateWith o (s .hints) (s .palette) (s .least) (s .rec)
 
 both-sides : (f : State → State) (t : Bool) (x y : State) → f (cond t x y) ≡ cond t (f x) (f y)
 both-sides f true x y = refl
@@ -23,17 +23,17 @@ both-sides f false x y = refl
 module _ (K : Course) (o : List ℕ) (s : State) where
   judged-ordered : ordered o (judged K s) ≡ judged K (ordered o s)
   unfolding judged keep noticed errorOf
-  judged-ordered = both-sides (ordered o) (lt (errorOf K s) (ofBits binary32 (s .error))) (keep K s) (noticed K (K .job .S) (K .job .C) s)
+  judged-ordered = both-sides (ordered o) (lt (errorOf K s) (ofBits binary32 (s .rec .error))) (keep K s) (noticed K (K .job .S) (K .job .C) s)
 
   replacing-ordered : ordered o (closeReplacing K s) ≡ closeReplacing K (ordered o s)
   unfolding closeReplacing openReplacing enterReducing
   replacing-ordered =
-      both-sides (ordered o) (ltb (s .rounds + 1) 10) (openReplacing K (s .rounds + 1) (judged K s)) (enterReducing K (judged K s))
-      ∙ ap (λ (z : State). cond (ltb (s .rounds + 1) 10) (openReplacing K (s .rounds + 1) z) (enterReducing K z)) judged-ordered
+      both-sides (ordered o) (ltb (s .rec .rounds + 1) 10) (openReplacing K (s .rec .rounds + 1) (judged K s)) (enterReducing K (judged K s))
+      ∙ ap (λ (z : State). cond (ltb (s .rec .rounds + 1) 10) (openReplacing K (s .rec .rounds + 1) z) (enterReducing K z)) judged-ordered
 
   growing-ordered : ordered o (closeGrowing K s) ≡ closeGrowing K (ordered o s)
   unfolding closeGrowing openGrowing enterReplacing openReplacing keep noticed errorOf
-  growing-ordered = both-sides (ordered o) (ltb (s .rounds + 1) (K .job .C - 1)) (openGrowing K (s .rounds + 1) s) (enterReplacing K s)
+  growing-ordered = both-sides (ordered o) (ltb (s .rec .rounds + 1) (K .job .C - 1)) (openGrowing K (s .rec .rounds + 1) s) (enterReplacing K s)
 
   entry-ordered : ordered o (enterGrowing K s) ≡ enterGrowing K (ordered o s)
   unfolding enterGrowing openGrowing enterReplacing openReplacing keep noticed errorOf
@@ -42,9 +42,9 @@ module _ (K : Course) (o : List ℕ) (s : State) where
 seeding-ordered : (K : Course) (o : List ℕ) (s : State) → ordered o (closeSeeding K s) ≡ closeSeeding K (ordered o s)
 unfolding closeSeeding openSeeding noticed
 seeding-ordered K o s =
-    let x = openSeeding K (s .rounds + 1) (worstOf (K .job) (s .palette) (s .rounds + 2)) (noticed K (s .rounds + 2) 1 s) in
-    both-sides (ordered o) (ltb (s .rounds + 1) (K .job .S - 1)) x (enterGrowing K (noticed K (s .rounds + 2) 1 s))
-    ∙ ap (cond (ltb (s .rounds + 1) (K .job .S - 1)) (ordered o x)) (entry-ordered K o (noticed K (s .rounds + 2) 1 s))
+    let x = openSeeding K (s .rec .rounds + 1) (worstOf (K .job) (s .palette) (s .rec .rounds + 2)) (noticed K (s .rec .rounds + 2) 1 s) in
+    both-sides (ordered o) (ltb (s .rec .rounds + 1) (K .job .S - 1)) x (enterGrowing K (noticed K (s .rec .rounds + 2) 1 s))
+    ∙ ap (cond (ltb (s .rec .rounds + 1) (K .job .S - 1)) (ordered o x)) (entry-ordered K o (noticed K (s .rec .rounds + 2) 1 s))
 
 first-ordered : (K : Course) (o : List ℕ) (s : State) → ordered o (firstRound K s) ≡ firstRound K (ordered o s)
 unfolding firstRound openSeeding

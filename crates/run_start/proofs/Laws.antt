@@ -46,7 +46,7 @@ module _ (size : ℕ) (small : size ≤ 256) (K : Course) (m : Memory) (seed : �
       unfolding fresh dealt
       begun =
           let n = start-opened size K m (sym e ∙ z) .1 .order in
-          ap (λ (s : State). record { order = s .order; hints = m .hints; palette = p; least = l; generator = s .generator; stage = s .stage; rounds = s .rounds; left = s .left; made = s .made; error = s .error }) (d ∙ ap (λ (k : ℕ). dealt k seed) n)
+          ap (λ (s : State). stateWith (s .order) (m .hints) p l (s .rec)) (d ∙ ap (λ (k : ℕ). dealt k seed) n)
           ∙ rw (f .0, f .1)
 
       pub beginning : Beginning K (stateWith o (m .hints) p l r)

@@ -33,12 +33,12 @@ begun K a o h p l w r e R =
     record { from = Q .fit; running = Q; far = far-start (going K) (step K) a (stateWith o h p l r) }
 
 module _ {K : Course} {a : ℕ} {first : State} {m : ℕ} {s : State} (A : Advancing K a first m s) where
-  module _ (t : Bool) (e : t ≡ (ltb m a && draws (s .stage))) where
+  module _ (t : Bool) (e : t ≡ (ltb m a && draws (s .rec .stage))) where
     pub ongoing : t ≡ true → Ongoing K s
-    ongoing h = record { running = A .running; going = and-r (ltb m a) (draws (s .stage)) (sym e ∙ h) }
+    ongoing h = record { running = A .running; going = and-r (ltb m a) (draws (s .rec .stage)) (sym e ∙ h) }
 
     pub allotted : t ≡ true → m < a
-    allotted h = ltb-true m a (and-l (ltb m a) (draws (s .stage)) (sym e ∙ h))
+    allotted h = ltb-true m a (and-l (ltb m a) (draws (s .rec .stage)) (sym e ∙ h))
 
     pub gone-on : t ≡ true → (z : State) → z ≡ step K s → Advancing K a first (m + 1) z
     gone-on h z q =
@@ -52,7 +52,7 @@ module _ {K : Course} {a : ℕ} {first : State} {m : ℕ} {s : State} (A : Advan
 
     ended : t ≡ false → (s ≡ advance K a first) × (m ≡ drawsOf K a first)
     ended h = elim (decide (ltb m a)) [
-      | inl y ↦ far-stop (going K) (step K) (A .far) (subst (λ (x : Bool). (x && draws (s .stage)) ≡ false) y (sym e ∙ h))
+      | inl y ↦ far-stop (going K) (step K) (A .far) (subst (λ (x : Bool). (x && draws (s .rec .stage)) ≡ false) y (sym e ∙ h))
       | inr n ↦ far-end (going K) (step K) (A .far) (ltb-false m a n)
     ]
 

@@ -18,4 +18,4 @@ pub record Running (K : Course) (s : State) : Type 0 where
 -- and a stage that draws
 pub record Ongoing (K : Course) (s : State) : Type 0 where
   pub running : Running K s
-  pub going : draws (s .stage) ≡ true
+  pub going : draws (s .rec .stage) ≡ true

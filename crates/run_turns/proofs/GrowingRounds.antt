@@ -12,7 +12,7 @@ use Rattle.quantizer.specs.Course.{Course}
 use Rattle.quantizer.specs.Growing.{grown, grownHints}
 use Rattle.quantizer_needs.specs.Asked.{Growing}
 use Rattle.stages.specs.declared.Record.{Record}
-use Rattle.stages.specs.State.{State, stateWith, recordIn, at}
+use Rattle.stages.specs.State.{State, stateWith, placed}
 use Rattle.stages.specs.Stages.{openGrowing}
 use Rattle.run_keeping.specs.Closing.{Lent, Judging}
 use Rattle.run_turns.specs.Asked.{Opening, Going}
@@ -31,7 +31,7 @@ can-open J hints pal least A round t =
     }
 
 pub opened-by : (K : Course) (h : List ℕ) (p : List Float) (r : Record) (round : ℕ) (h2 : List ℕ) (p2 : List Float) → p2 ≡ grown (K .job) p (round + 1) → h2 ≡ grownHints (K .job) p (round + 1) h
-    → (r2 : Record) → r2 ≡ recordIn (at (stateWith [] [] [] [] r) 1 round (K .n / 10)) → stateWith [] h2 p2 [] r2 ≡ openGrowing K round (stateWith [] h p [] r)
+    → (r2 : Record) → r2 ≡ placed r 1 round (K .n / 10) → stateWith [] h2 p2 [] r2 ≡ openGrowing K round (stateWith [] h p [] r)
 unfolding openGrowing
 opened-by K h p r round h2 p2 ep eh r2 er = rw (ep, eh, er)
 
@@ -40,7 +40,7 @@ module _ (K : Course) (h : List ℕ) (p l : List Float) (r : Record) (round : �
   open-beside : stateWith [] h2 p2 l r2 ≡ openGrowing K round (stateWith [] h p l r)
   unfolding openGrowing
   open-beside =
-      ap (λ (s : State). record { order = s .order; hints = s .hints; palette = s .palette; least = l; generator = s .generator; stage = s .stage; rounds = s .rounds; left = s .left; made = s .made; error = s .error }) e
+      ap (λ (s : State). stateWith (s .order) (s .hints) (s .palette) l (s .rec)) e
 
   pub grown-by : (turn from : ℕ) → K .job .S - 1 ≤ turn → round ≡ turn - (K .job .S - 1) → round < K .job .C - 1 → stateWith [] h2 p2 l r2 ≡ goOn K turn from (stateWith [] h p l r)
   unfolding goOn growOn

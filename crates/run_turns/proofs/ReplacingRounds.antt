@@ -9,12 +9,12 @@ use Rattle.run_keeping.specs.Keeping.{seen}
 use Rattle.quantizer.specs.Course.{Course}
 use Rattle.quantizer.specs.Replacing.{replaced, replacedHints}
 use Rattle.stages.specs.declared.Record.{Record}
-use Rattle.stages.specs.State.{State, stateWith, recordIn, at}
+use Rattle.stages.specs.State.{State, stateWith, placed}
 use Rattle.stages.specs.Stages.{openReplacing, enterReducing}
 use Rattle.run_turns.specs.Rounds.{replaceOn}
 
 pub opened-by : (K : Course) (h : List ℕ) (p : List Float) (r : Record) (round : ℕ) (h2 : List ℕ) (p2 : List Float) → p2 ≡ replaced (K .job) p → h2 ≡ replacedHints (K .job) p h
-    → (r2 : Record) → r2 ≡ recordIn (at (stateWith [] [] [] [] r) 2 round (K .n / 10)) → stateWith [] h2 p2 [] r2 ≡ openReplacing K round (stateWith [] h p [] r)
+    → (r2 : Record) → r2 ≡ placed r 2 round (K .n / 10) → stateWith [] h2 p2 [] r2 ≡ openReplacing K round (stateWith [] h p [] r)
 unfolding openReplacing
 opened-by K h p r round h2 p2 ep eh r2 er = rw (ep, eh, er)
 
@@ -23,13 +23,13 @@ open-beside : (K : Course) (h : List ℕ) (p l : List Float) (r : Record) (round
     → stateWith [] h2 p2 [] r2 ≡ openReplacing K round (stateWith [] h p [] r) → stateWith [] h2 p2 l r2 ≡ openReplacing K round (stateWith [] h p l r)
 unfolding openReplacing
 open-beside K h p l r round h2 p2 r2 e =
-    ap (λ (s : State). record { order = s .order; hints = s .hints; palette = s .palette; least = l; generator = s .generator; stage = s .stage; rounds = s .rounds; left = s .left; made = s .made; error = s .error }) e
+    ap (λ (s : State). stateWith (s .order) (s .hints) (s .palette) l (s .rec)) e
 
 end-beside : (K : Course) (h : List ℕ) (p l : List Float) (r : Record) (p2 l2 : List Float) (r2 : Record)
     → stateWith [] [] p2 l2 r2 ≡ enterReducing (sized (K .job .S) (K .job .C) (K .n)) (stateWith [] [] p l r) → stateWith [] h p2 l2 r2 ≡ enterReducing K (stateWith [] h p l r)
 unfolding enterReducing
 end-beside K h p l r p2 l2 r2 e =
-    ap (λ (s : State). record { order = s .order; hints = h; palette = s .palette; least = s .least; generator = s .generator; stage = s .stage; rounds = s .rounds; left = s .left; made = s .made; error = s .error }) e
+    ap (λ (s : State). stateWith (s .order) h (s .palette) (s .least) (s .rec)) e
 
 -- ---- after the look
 module _ (K : Course) (h : List ℕ) (p l : List Float) (r : Record) (round : ℕ) (h2 : List ℕ) (l2 : List Float) (r2 : Record) (e : stateWith [] h2 p l2 r2 ≡ seen K round (stateWith [] h p l r)) where

@@ -12,7 +12,7 @@ use Rattle.quantizer.specs.Course.{Course}
 use Rattle.quantizer.specs.Seeding.{duplicated}
 use Rattle.quantizer.proofs.Bounds.{row-in}
 use Rattle.stages.specs.declared.Record.{Record}
-use Rattle.stages.specs.State.{State, stateWith, recordIn, at}
+use Rattle.stages.specs.State.{State, stateWith, placed}
 use Rattle.stages.specs.Stages.{openSeeding}
 use Rattle.run_record.specs.Sized.{sized}
 use Rattle.run_turns.specs.Asked.{Doubling, Going}
@@ -23,7 +23,7 @@ pub rows : (s c : ℕ) (p : List Float) (round from : ℕ) → Doubling s c p ro
 rows s c p round from D = (D .some, (row-in (sized s c 0 .job) p (D .size) from (D .source), row-in (sized s c 0 .job) p (D .size) (round + 1) (D .more)))
 
 pub opened-by : (K : Course) (p : List Float) (r : Record) (round from : ℕ) (p2 : List Float) → p2 ≡ subCopied p (K .job .C) 1 from (round + 1)
-    → (r2 : Record) → r2 ≡ recordIn (at (stateWith [] [] [] [] r) 0 round (K .n / 10)) → stateWith [] [] p2 [] r2 ≡ openSeeding K round from (stateWith [] [] p [] r)
+    → (r2 : Record) → r2 ≡ placed r 0 round (K .n / 10) → stateWith [] [] p2 [] r2 ≡ openSeeding K round from (stateWith [] [] p [] r)
 unfolding openSeeding duplicated
 opened-by K p r round from p2 ep r2 er = rw (ep, er)
 
@@ -38,4 +38,4 @@ pub seeded-by : (K : Course) (h : List ℕ) (p l : List Float) (r : Record) (tur
 unfolding goOn openSeeding duplicated
 seeded-by K h p l r turn from p2 r2 e t =
     rw (lt-ltb turn (K .job .S - 1) t)
-    (ap (λ (s : State). record { order = s .order; hints = h; palette = s .palette; least = l; generator = s .generator; stage = s .stage; rounds = s .rounds; left = s .left; made = s .made; error = s .error }) e)
+    (ap (λ (s : State). stateWith (s .order) h (s .palette) l (s .rec)) e)

@@ -33,21 +33,21 @@ module _ (K : Course) (s : State) where
           let none : 0 - (K .job .C - 1) ≡ 0 = omega arith in
           rw (le-ltb 1 (K .job .C) t, le-ltb 0 (K .job .C - 1) (omega arith)) (ap (λ (k : ℕ). replaceOn K k s) none ∙ first-replaced)
 
-  grown-after : s .rounds + 1 ≤ K .job .C - 1 → growOn K (s .rounds + 1) s ≡ closeGrowing K s
+  grown-after : s .rec .rounds + 1 ≤ K .job .C - 1 → growOn K (s .rec .rounds + 1) s ≡ closeGrowing K s
   unfolding growOn closeGrowing
-  grown-after few = by (lt-or-ge (s .rounds + 1) (K .job .C - 1))
+  grown-after few = by (lt-or-ge (s .rec .rounds + 1) (K .job .C - 1))
     where
-      by : (s .rounds + 1 < K .job .C - 1) ⊎ (K .job .C - 1 ≤ s .rounds + 1) → growOn K (s .rounds + 1) s ≡ closeGrowing K s
-      by (inl t) = rw (lt-ltb (s .rounds + 1) (K .job .C - 1) t)
+      by : (s .rec .rounds + 1 < K .job .C - 1) ⊎ (K .job .C - 1 ≤ s .rec .rounds + 1) → growOn K (s .rec .rounds + 1) s ≡ closeGrowing K s
+      by (inl t) = rw (lt-ltb (s .rec .rounds + 1) (K .job .C - 1) t)
       by (inr t) =
-          let none : (s .rounds + 1) - (K .job .C - 1) ≡ 0 = omega arith in
-          rw (le-ltb (s .rounds + 1) (K .job .C - 1) t) (ap (λ (k : ℕ). replaceOn K k s) none ∙ first-replaced)
+          let none : (s .rec .rounds + 1) - (K .job .C - 1) ≡ 0 = omega arith in
+          rw (le-ltb (s .rec .rounds + 1) (K .job .C - 1) t) (ap (λ (k : ℕ). replaceOn K k s) none ∙ first-replaced)
 
-  replaced-after : 1 ≤ K .job .C → growOn K (K .job .C + s .rounds) s ≡ closeReplacing K s
+  replaced-after : 1 ≤ K .job .C → growOn K (K .job .C + s .rec .rounds) s ≡ closeReplacing K s
   unfolding growOn replaceOn closeReplacing
   replaced-after some =
-      let next : (K .job .C + s .rounds) - (K .job .C - 1) ≡ s .rounds + 1 = omega arith in
-      rw (le-ltb (K .job .C + s .rounds) (K .job .C - 1) (omega arith), next, later-seen (s .rounds))
+      let next : (K .job .C + s .rec .rounds) - (K .job .C - 1) ≡ s .rec .rounds + 1 = omega arith in
+      rw (le-ltb (K .job .C + s .rec .rounds) (K .job .C - 1) (omega arith), next, later-seen (s .rec .rounds))
 
 -- ---- what follows each round
 pub first-turn : (K : Course) (s : State) → 1 ≤ K .job .S → 1 ≤ K .job .C → goOn K 0 0 s ≡ cond (ltb 1 (K .job .S)) (openSeeding K 0 0 s) (enterGrowing K s)
@@ -60,26 +60,26 @@ first-turn K s subs some = by (lt-or-ge 1 (K .job .S))
         let none : 0 - (K .job .S - 1) ≡ 0 = omega arith in
         rw (le-ltb 1 (K .job .S) t, le-ltb 0 (K .job .S - 1) (omega arith)) (ap (λ (k : ℕ). growOn K k s) none ∙ entered K s some)
 
-pub seeded-on : (K : Course) (s x : State) → x ≡ noticed K (s .rounds + 2) 1 s → s .rounds + 2 ≤ K .job .S → 1 ≤ K .job .C → goOn K (s .rounds + 1) (worstOf (K .job) (s .palette) (s .rounds + 2)) x ≡ closeSeeding K s
+pub seeded-on : (K : Course) (s x : State) → x ≡ noticed K (s .rec .rounds + 2) 1 s → s .rec .rounds + 2 ≤ K .job .S → 1 ≤ K .job .C → goOn K (s .rec .rounds + 1) (worstOf (K .job) (s .palette) (s .rec .rounds + 2)) x ≡ closeSeeding K s
 unfolding goOn closeSeeding
-seeded-on K s x e few some = by (lt-or-ge (s .rounds + 1) (K .job .S - 1))
+seeded-on K s x e few some = by (lt-or-ge (s .rec .rounds + 1) (K .job .S - 1))
   where
     from : ℕ
-    from = worstOf (K .job) (s .palette) (s .rounds + 2)
+    from = worstOf (K .job) (s .palette) (s .rec .rounds + 2)
 
-    by : (s .rounds + 1 < K .job .S - 1) ⊎ (K .job .S - 1 ≤ s .rounds + 1) → goOn K (s .rounds + 1) from x ≡ closeSeeding K s
-    by (inl t) = rw (lt-ltb (s .rounds + 1) (K .job .S - 1) t) (ap (openSeeding K (s .rounds + 1) from) e)
+    by : (s .rec .rounds + 1 < K .job .S - 1) ⊎ (K .job .S - 1 ≤ s .rec .rounds + 1) → goOn K (s .rec .rounds + 1) from x ≡ closeSeeding K s
+    by (inl t) = rw (lt-ltb (s .rec .rounds + 1) (K .job .S - 1) t) (ap (openSeeding K (s .rec .rounds + 1) from) e)
     by (inr t) =
-        let none : (s .rounds + 1) - (K .job .S - 1) ≡ 0 = omega arith in
-        rw (le-ltb (s .rounds + 1) (K .job .S - 1) t) (ap (λ (k : ℕ). growOn K k x) none ∙ entered K x some ∙ ap (enterGrowing K) e)
+        let none : (s .rec .rounds + 1) - (K .job .S - 1) ≡ 0 = omega arith in
+        rw (le-ltb (s .rec .rounds + 1) (K .job .S - 1) t) (ap (λ (k : ℕ). growOn K k x) none ∙ entered K x some ∙ ap (enterGrowing K) e)
 
 module _ (K : Course) (s : State) (from : ℕ) (subs : 1 ≤ K .job .S) where
   past : (turn later : ℕ) → turn - (K .job .S - 1) ≡ later → K .job .S - 1 ≤ turn → goOn K turn from s ≡ growOn K later s
   unfolding goOn
   past turn later e t = rw (le-ltb turn (K .job .S - 1) t, e)
 
-  pub grown-on : s .rounds + 2 ≤ K .job .C → goOn K (K .job .S + s .rounds) from s ≡ closeGrowing K s
-  grown-on few = past (K .job .S + s .rounds) (s .rounds + 1) (omega arith) (omega arith) ∙ grown-after K s (omega arith)
+  pub grown-on : s .rec .rounds + 2 ≤ K .job .C → goOn K (K .job .S + s .rec .rounds) from s ≡ closeGrowing K s
+  grown-on few = past (K .job .S + s .rec .rounds) (s .rec .rounds + 1) (omega arith) (omega arith) ∙ grown-after K s (omega arith)
 
-  pub replaced-on : 1 ≤ K .job .C → goOn K (K .job .S + K .job .C + s .rounds - 1) from s ≡ closeReplacing K s
-  replaced-on some = past (K .job .S + K .job .C + s .rounds - 1) (K .job .C + s .rounds) (omega arith) (omega arith) ∙ replaced-after K s some
+  pub replaced-on : 1 ≤ K .job .C → goOn K (K .job .S + K .job .C + s .rec .rounds - 1) from s ≡ closeReplacing K s
+  replaced-on some = past (K .job .S + K .job .C + s .rec .rounds - 1) (K .job .C + s .rec .rounds) (omega arith) (omega arith) ∙ replaced-after K s some

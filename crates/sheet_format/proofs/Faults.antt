@@ -9,6 +9,7 @@ use Rattle.bits.specs.Bits.{num}
 use Rattle.format.specs.Format.{Res, fault, got, next, Format, field, checked, above, both, literal, cons, times, counted}
 use Rattle.pattern.specs.Pattern.{small, weighs}
 use Rattle.sheet_format.specs.Sheet.{Edition, component, weight, tiled, coloured, sized, whole, entry, colours, tile, dated, header, rest, sheet}
+use Rattle.sheet_format.specs.Opened.{misopened}
 
 module _ (k : ℕ) where
   -- a reading that fails with number k
@@ -111,9 +112,6 @@ module _ (k : ℕ) where
           none-of false t x h = cut
 
 -- the opening is there and another, or the edition is there and another
-abbrev pub misopened : Edition → List Bool → Bool
-misopened E l = leb 32 (length l) && (not (eqb (num (take 32 l)) 0x5446_4954) || (leb 4 (length (drop 32 l)) && not (eqb (num (take 4 (drop 32 l))) (E .number))))
-
 pub sheet-misopened : (E : Edition) (l : List Bool) → failed 12 (sheet E .parse l) ≡ misopened E l
 sheet-misopened E l =
     sheet-header 12 refl E refl refl refl l ∙ literal-failed 12 32 0x5446_4954 12 (dated E) l

@@ -11,7 +11,7 @@ use Rattle.job.specs.Rules.{Rule, rule, answer}
 use Rattle.job.specs.Checks.{componentsFit, sampledRules}
 use Rattle.quantizer.specs.Course.{Course}
 use Rattle.stages.specs.declared.Record.{Record}
-use Rattle.stages.specs.State.{State, stateWith, recordIn, draws, stops}
+use Rattle.stages.specs.State.{State, stateWith, draws, stops}
 use Rattle.stages.specs.Stages.{advance, drawsOf, start, handIn}
 use Rattle.stages.specs.Record.{stateRules}
 
@@ -38,7 +38,7 @@ unfoldable pub stateOf : Memory → State
 stateOf m = stateWith (m .order) (m .hints) (m .palette) (m .least) (recordOf (m .words))
 
 unfoldable pub memoryOf : State → Memory
-memoryOf s = memory (s .order) (s .hints) (s .palette) (s .least) (wordsOf (recordIn s))
+memoryOf s = memory (s .order) (s .hints) (s .palette) (s .least) (wordsOf (s .rec))
 
 -- ---- an outcome. Every number but 0 reports no draw and changes nothing
 pub record Outcome : Type 0 where
@@ -83,13 +83,13 @@ module _ (size : ℕ) (K : Course) where
   startAnswer m = answer (jobRules (memoryRoom m))
 
   unfoldable pub advanceAnswer : Memory → ℕ
-  advanceAnswer m = answer (runRules m (memoryRoom m) (draws (stateOf m .stage)))
+  advanceAnswer m = answer (runRules m (memoryRoom m) (draws (stateOf m .rec .stage)))
 
   unfoldable pub handInAnswer : Memory → List Float → ℕ
-  handInAnswer m reduced = answer (runRules m (memoryRoom m && coloursRoom reduced) (stops (stateOf m .stage)) ++ (rule 7 (componentsFit two reduced) ∷ []))
+  handInAnswer m reduced = answer (runRules m (memoryRoom m && coloursRoom reduced) (stops (stateOf m .rec .stage)) ++ (rule 7 (componentsFit two reduced) ∷ []))
 
   unfoldable pub resultAnswer : Memory → List Float → ℕ
-  resultAnswer m out = answer (runRules m (memoryRoom m && coloursRoom out) (eqb (stateOf m .stage) 7))
+  resultAnswer m out = answer (runRules m (memoryRoom m && coloursRoom out) (eqb (stateOf m .rec .stage) 7))
 
   -- ---- the calls
   unfoldable pub startCall : Memory → ℕ → Outcome

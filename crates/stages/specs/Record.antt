@@ -55,14 +55,14 @@ module _ (K : Course) where
 
   abbrev pub recordRules : State → List Rule
   recordRules s =
-      rule 10 (placeFits (s .stage) (s .rounds) (s .left))
-      ∷ rule 10 (eqb (s .made) (madeBy (s .stage) (s .rounds) (s .left)))
-      ∷ rule 10 (errorFits (s .stage) (s .error)) ∷ []
+      rule 10 (placeFits (s .rec .stage) (s .rec .rounds) (s .rec .left))
+      ∷ rule 10 (eqb (s .rec .made) (madeBy (s .rec .stage) (s .rec .rounds) (s .rec .left)))
+      ∷ rule 10 (errorFits (s .rec .stage) (s .rec .error)) ∷ []
 
   -- of the first palette every place is looked at
   abbrev pub stateRules : State → List Rule
   stateRules s =
       recordRules s
       ++ (rule 7 (componentsFit four (s .palette))
-      ∷ rule 7 (leastFits (s .stage) (s .least))
+      ∷ rule 7 (leastFits (s .rec .stage) (s .least))
       ∷ rule 9 (orderFits (K .n) (s .order)) ∷ [])

@@ -44,7 +44,7 @@ module _ (K : Course) where
   keep s = kept (noticed S C s) (s .palette) (toBits binary32 (errorOf s))
 
   unfoldable pub judged : State → State
-  judged s = cond (lt (errorOf s) (ofBits binary32 (s .error))) (keep s) (noticed S C s)
+  judged s = cond (lt (errorOf s) (ofBits binary32 (s .rec .error))) (keep s) (noticed S C s)
 
   -- ---- entering a stage
   unfoldable pub enterReplacing : State → State
@@ -60,38 +60,38 @@ module _ (K : Course) where
   -- ---- what closes a round, and opens the next
   unfoldable pub closeSeeding : State → State
   closeSeeding s =
-      let r = s .rounds in
+      let r = s .rec .rounds in
       cond (ltb (r + 1) (S - 1)) (openSeeding (r + 1) (worstOf (K .job) (s .palette) (r + 2)) (noticed (r + 2) 1 s)) (enterGrowing (noticed (r + 2) 1 s))
 
   unfoldable pub closeGrowing : State → State
-  closeGrowing s = cond (ltb (s .rounds + 1) (C - 1)) (openGrowing (s .rounds + 1) s) (enterReplacing s)
+  closeGrowing s = cond (ltb (s .rec .rounds + 1) (C - 1)) (openGrowing (s .rec .rounds + 1) s) (enterReplacing s)
 
   unfoldable pub closeReplacing : State → State
-  closeReplacing s = cond (ltb (s .rounds + 1) 10) (openReplacing (s .rounds + 1) (judged s)) (enterReducing (judged s))
+  closeReplacing s = cond (ltb (s .rec .rounds + 1) 10) (openReplacing (s .rec .rounds + 1) (judged s)) (enterReducing (judged s))
 
   unfoldable pub finishRound : State → State
-  finishRound s = byStage (s .stage) (closeSeeding s) (closeGrowing s) (closeReplacing s) (at s 5 0 0) s
+  finishRound s = byStage (s .rec .stage) (closeSeeding s) (closeGrowing s) (closeReplacing s) (at s 5 0 0) s
 
   -- ---- all that needs no draw. A run has S + C + 9 rounds, so the bound is never met
   abbrev pub due : State → Bool
-  due s = draws (s .stage) && eqb (s .left) 0
+  due s = draws (s .rec .stage) && eqb (s .rec .left) 0
 
   unfoldable pub settle : State → State
   settle s = whilst due finishRound (S + C + 20) s
 
   -- ---- one draw
   abbrev pub cycleOf : State → Cycle
-  cycleOf s = cycle (deck (s .order) (s .generator)) (s .made)
+  cycleOf s = cycle (deck (s .order) (s .rec .generator)) (s .rec .made)
 
   -- the subpalettes and the colours of each that are present, and how far a colour moves
   unfoldable pub subsOf : State → ℕ
-  subsOf s = cond (eqb (s .stage) 0) (s .rounds + 2) S
+  subsOf s = cond (eqb (s .rec .stage) 0) (s .rec .rounds + 2) S
 
   unfoldable pub haveOf : State → ℕ
-  haveOf s = byStage (s .stage) 1 (s .rounds + 2) C C C
+  haveOf s = byStage (s .rec .stage) 1 (s .rec .rounds + 2) C C C
 
   unfoldable pub alphaOf : State → Float
-  alphaOf s = cond (eqb (s .stage) 4) (ofBits binary32 0x3f000000) (ofBits binary32 0x3e99999a)
+  alphaOf s = cond (eqb (s .rec .stage) 4) (ofBits binary32 0x3f000000) (ofBits binary32 0x3e99999a)
 
   -- the cycle went on to d: its sample moves the palette
   unfoldable pub drawWith : Drawn → State → State
@@ -101,12 +101,7 @@ module _ (K : Course) where
         hints = movedHints (K .job) (s .palette) (subsOf s) (haveOf s) (sampleTile K (d .sample)) (s .hints);
         palette = moved (K .job) (s .palette) (subsOf s) (haveOf s) (sampleTile K (d .sample)) (samplePlace K (d .sample)) (alphaOf s);
         least = s .least;
-        generator = d .next .cards .state;
-        stage = s .stage;
-        rounds = s .rounds;
-        left = s .left - 1;
-        made = s .made + 1;
-        error = s .error;
+        rec = record { generator = d .next .cards .state; stage = s .rec .stage; rounds = s .rec .rounds; left = s .rec .left - 1; made = s .rec .made + 1; error = s .rec .error };
       }
 
   unfoldable pub draw : State → State
@@ -118,7 +113,7 @@ module _ (K : Course) where
 
   -- a run is at a stage that draws
   abbrev pub going : State → Bool
-  going s = draws (s .stage)
+  going s = draws (s .rec .stage)
 
   abbrev pub advance : ℕ → State → State
   advance a s = whilst going step a s
@@ -132,7 +127,7 @@ module _ (K : Course) where
   fresh seed hints =
       let c = after (K .n) seed 0 in
       let z = zeros (3 * (S * C)) in
-      record { order = c .cards .order; hints = hints; palette = seeded K z; least = z; generator = c .cards .state; stage = 0; rounds = 0; left = 0; made = 0; error = 0 }
+      record { order = c .cards .order; hints = hints; palette = seeded K z; least = z; rec = record { generator = c .cards .state; stage = 0; rounds = 0; left = 0; made = 0; error = 0 } }
 
   unfoldable pub start : ℕ → List ℕ → State
   start seed hints =
@@ -146,5 +141,5 @@ module _ (K : Course) where
   unfoldable pub handIn : List Float → State → State
   handIn reduced s =
       let x = painted s (s .hints) reduced in
-      cond (eqb (s .stage) 3) (settle (at x 4 0 (10 * b K)))
-      (cond (eqb (s .stage) 5) (at (refinedOnce (refinedOnce (refinedOnce (refinedOnce x)))) 6 0 0) (at x 7 0 0))
+      cond (eqb (s .rec .stage) 3) (settle (at x 4 0 (10 * b K)))
+      (cond (eqb (s .rec .stage) 5) (at (refinedOnce (refinedOnce (refinedOnce (refinedOnce x)))) 6 0 0) (at x 7 0 0))

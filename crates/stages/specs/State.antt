@@ -12,34 +12,27 @@ pub record State : Type 0 where
   pub hints : List ℕ
   pub palette : List Float
   pub least : List Float
-  -- the record's words 0 to 5
-  pub generator : ℕ
-  pub stage : ℕ
-  pub rounds : ℕ
-  pub left : ℕ
-  pub made : ℕ
-  pub error : ℕ
+  pub rec : Record
 
--- from lent lists and the record, and back to the record
 abbrev pub stateWith : List ℕ → List ℕ → List Float → List Float → Record → State
-stateWith order hints palette least r =
-    record { order = order; hints = hints; palette = palette; least = least; generator = r .generator; stage = r .stage; rounds = r .rounds; left = r .left; made = r .made; error = r .error }
+stateWith order hints palette least r = record { order = order; hints = hints; palette = palette; least = least; rec = r }
 
-abbrev pub recordIn : State → Record
-recordIn s = record { generator = s .generator; stage = s .stage; rounds = s .rounds; left = s .left; made = s .made; error = s .error }
+-- ---- a record with its place changed, and with its error
+abbrev pub placed : Record → ℕ → ℕ → ℕ → Record
+placed r stage rounds left = record { generator = r .generator; stage = stage; rounds = rounds; left = left; made = r .made; error = r .error }
+
+abbrev pub noted : Record → ℕ → Record
+noted r error = record { generator = r .generator; stage = r .stage; rounds = r .rounds; left = r .left; made = r .made; error = error }
 
 -- ---- a state with some of its fields changed
 abbrev pub at : State → ℕ → ℕ → ℕ → State
-at s stage rounds left =
-    record { order = s .order; hints = s .hints; palette = s .palette; least = s .least; generator = s .generator; stage = stage; rounds = rounds; left = left; made = s .made; error = s .error }
+at s stage rounds left = stateWith (s .order) (s .hints) (s .palette) (s .least) (placed (s .rec) stage rounds left)
 
 abbrev pub painted : State → List ℕ → List Float → State
-painted s hints palette =
-    record { order = s .order; hints = hints; palette = palette; least = s .least; generator = s .generator; stage = s .stage; rounds = s .rounds; left = s .left; made = s .made; error = s .error }
+painted s hints palette = stateWith (s .order) hints palette (s .least) (s .rec)
 
 abbrev pub kept : State → List Float → ℕ → State
-kept s least error =
-    record { order = s .order; hints = s .hints; palette = s .palette; least = least; generator = s .generator; stage = s .stage; rounds = s .rounds; left = s .left; made = s .made; error = error }
+kept s least error = stateWith (s .order) (s .hints) (s .palette) least (noted (s .rec) error)
 
 -- ---- the stages that draw; those that wait for reduced colours; and a value for each that draws and one for the rest
 abbrev pub draws : ℕ → Bool

@@ -46,9 +46,9 @@ module _ (K : Course) (P : Passed (jobRules tileSize K true)) where
   -- an advance. At a stop it is refused, and there the definition makes no draw
   gone : {m : Memory} {s : State} → Holds m s → Holds (goCall K m) (goOn K s)
   unfolding goOn
-  gone {m} {s} H = record { is = ap (goCall K) (H .is) ∙ by (decide (draws (s .stage))); fit = advance-fit tileSize few-pixels K true D all s (H .fit) }
+  gone {m} {s} H = record { is = ap (goCall K) (H .is) ∙ by (decide (draws (s .rec .stage))); fit = advance-fit tileSize few-pixels K true D all s (H .fit) }
     where
-      by : (draws (s .stage) ≡ true) ⊎ (draws (s .stage) ≡ false) → goCall K (memoryOf s) ≡ memoryOf (advance K all s)
+      by : (draws (s .rec .stage) ≡ true) ⊎ (draws (s .rec .stage) ≡ false) → goCall K (memoryOf s) ≡ memoryOf (advance K all s)
       by (inl d) =
           unfold advanceCall in
           ap (λ (x : Outcome). x .after) (done (advanceAnswer tileSize K (memoryOf s)) (memoryOf s) _ (advance K all (stateOf (memoryOf s))) (advance-closed tileSize K (memoryOf s) (holds tileSize K s P (H .fit)) (rw (held-state s) d)))
@@ -59,7 +59,7 @@ module _ (K : Course) (P : Passed (jobRules tileSize K true)) where
           ∙ ap memoryOf (sym (stays K s d))
 
   -- a hand-in at a stop
-  handed : {m : Memory} {s : State} → Holds m s → stops (s .stage) ≡ true → Holds (stopCall K m) (handCut K s)
+  handed : {m : Memory} {s : State} → Holds m s → stops (s .rec .stage) ≡ true → Holds (stopCall K m) (handCut K s)
   unfolding handCut
   handed {m} {s} H d = record { is = ap (stopCall K) (H .is) ∙ left; fit = subst (Fit K) (ap stateOf left ∙ held-state (handIn K (cut (s .palette)) s)) (handIn-leaves tileSize few-pixels K (memoryOf s) (cut (memoryOf s .palette)) taken .fit) }
     where
@@ -82,7 +82,7 @@ module _ (K : Course) (P : Passed (jobRules tileSize K true)) where
           ∙ ap (λ (x : List Float). memoryOf (handIn K (cut x) s)) same
 
   -- a turn that comes to a stop
-  turned : {m : Memory} {s : State} → Holds m s → stops (goOn K s .stage) ≡ true → Holds (turnCall K m) (turn K s)
+  turned : {m : Memory} {s : State} → Holds m s → stops (goOn K s .rec .stage) ≡ true → Holds (turnCall K m) (turn K s)
   unfolding turn turnCall
   turned H d = handed (gone H) d
 
@@ -94,7 +94,7 @@ module _ (K : Course) (P : Passed (jobRules tileSize K true)) where
     begun : State
     begun = start K 0 (m .hints)
 
-    at-reduction : goOn K begun .stage ≡ 3
+    at-reduction : goOn K begun .rec .stage ≡ 3
     unfolding begun
     at-reduction = to-reduction K (D .ready .sizes .subs) (D .ready .sizes .some) few (D .few) (m .hints)
 
@@ -102,7 +102,7 @@ module _ (K : Course) (P : Passed (jobRules tileSize K true)) where
     unfolding turnCalls begun
     reduced = turned (started m r) (ap stops at-reduction)
 
-    at-drawn : goOn K (turn K begun) .stage ≡ 5
+    at-drawn : goOn K (turn K begun) .rec .stage ≡ 5
     unfolding turn handCut
     at-drawn =
         to-drawn K (D .ready .sizes .subs) (D .ready .sizes .some) few (D .few) (turn K begun) (reduced .fit .rests)
@@ -113,10 +113,10 @@ module _ (K : Course) (P : Passed (jobRules tileSize K true)) where
     drawn = turned reduced (ap stops at-drawn)
 
     -- behind the refinements no draw is left
-    at-refined : goOn K (turn K (turn K begun)) .stage ≡ 6
-    at-refined = ap (λ (s : State). s .stage) (stays K (turn K (turn K begun)) (ap draws refined)) ∙ refined
+    at-refined : goOn K (turn K (turn K begun)) .rec .stage ≡ 6
+    at-refined = ap (λ (s : State). s .rec .stage) (stays K (turn K (turn K begun)) (ap draws refined)) ∙ refined
       where
-        refined : turn K (turn K begun) .stage ≡ 6
+        refined : turn K (turn K begun) .rec .stage ≡ 6
         refined = unfold turn handCut in handed-refined K (cut (goOn K (turn K begun) .palette)) (goOn K (turn K begun)) at-drawn
 
     finished : Holds (trainCalls K m) (trained K (m .hints))

@@ -4,23 +4,19 @@ use Prim.Native.Nat.{_<_}
 use native.Mathlib.Omega.{arith}
 use mathlib.Core.Bool.{true, not}
 use mathlib.Core.List.{List, map}
-use lib.IntN.{pos}
 use lib.Dec.{T}
 use lib.ListN.{length, getD, length-map, List·getD-map}
 use lib.Ieee.{Float, nan, lt, neg, isNan, ofBits}
-use borrow.Author.Tests.{eq-eqb}
 use Rattle.ieee.proofs.Order.{of-false}
 use Rattle.ieee.specs.Terms.{Within}
 use Rattle.ieee.proofs.Within.{neg-within}
 use Rattle.ieee.proofs.Bounds.{within-real, clamped}
 use Rattle.color.specs.Color.{Bounded}
 use Rattle.job.specs.Job.{two}
-use Rattle.job.proofs.First.{first-none}
-use Rattle.job.specs.Checks.{within, componentFits, firstBad, componentsFit}
+use Rattle.job.specs.Checks.{componentsFit}
 use Rattle.job.proofs.Ready.{two-within}
 use Rattle.calls.proofs.Cases.{by-test}
-use Rattle.lists.proofs.Loops.{every-all}
-use Rattle.calls.proofs.Limits.{fits-limit}
+use Rattle.calls.proofs.Limits.{fits-two}
 use Rattle.training.specs.Training.{cutOne, cut}
 
 pub length-cut : (xs : List Float) → length (cut xs) ≡ length xs
@@ -34,14 +30,6 @@ cut-within x r =
     by-test (λ (y : Float). Within y 2 1) (lt two x) (λ _. two-within)
     (λ h. by-test (λ (y : Float). Within y 2 1) (lt x (neg two)) (λ _. neg-within two 2 1 two-within)
     (λ g. clamped (neg two) x two 2 1 (neg-within two 2 1 two-within) two-within r (of-false g) (of-false h)))
-
-two-exact : (x : Float) → Within x 2 1 → within two x ≡ true
-unfolding ofBits
-two-exact x w = fits-limit 1 (pos 1) 2 refl x w
-
-pub fits-two : (xs : List Float) → Bounded xs 2 → componentsFit two xs ≡ true
-unfolding firstBad componentFits
-fits-two xs B = eq-eqb (firstBad two xs) (length xs) (sym (first-none (componentFits two xs) (length xs) (every-all (componentFits two xs) (length xs) (λ i l. two-exact (getD xs i nan) (B i l)))))
 
 cut-nan : cutOne nan ≡ nan
 unfolding cutOne ofBits lt neg

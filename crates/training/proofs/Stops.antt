@@ -37,44 +37,44 @@ drawn-out k e d = let (l, h) = two-left k e in omega (arith, still)
 
 module _ (K : Course) where
   -- where no draw is to be made, none is
-  pub stays : (s : State) → draws (s .stage) ≡ false → goOn K s ≡ s
+  pub stays : (s : State) → draws (s .rec .stage) ≡ false → goOn K s ≡ s
   unfolding goOn
   stays s d = whilst-stop (going K) (step K) all s d
 
-  pub handed-late : (reduced : List Float) (s : State) → s .stage ≡ 3 → handIns (handIn K reduced s .stage) ≡ 2
+  pub handed-late : (reduced : List Float) (s : State) → s .rec .stage ≡ 3 → handIns (handIn K reduced s .rec .stage) ≡ 2
   handed-late reduced s e = omega (arith, hand-in-one K reduced s (ap stops e), ap handIns e ∙ three)
     where
       three : handIns 3 ≡ 3
       three = unfold handIns in refl
 
-  pub handed-refined : (reduced : List Float) (s : State) → s .stage ≡ 5 → handIn K reduced s .stage ≡ 6
+  pub handed-refined : (reduced : List Float) (s : State) → s .rec .stage ≡ 5 → handIn K reduced s .rec .stage ≡ 6
   unfolding handIn refinedOnce
-  handed-refined reduced s e = rw (ne-eqb (s .stage) 3 (λ (q : s .stage ≡ 3). omega arith), eq-eqb (s .stage) 5 e)
+  handed-refined reduced s e = rw (ne-eqb (s .rec .stage) 3 (λ (q : s .rec .stage ≡ 3). omega arith), eq-eqb (s .rec .stage) 5 e)
 
-  pub handed-last : (reduced : List Float) (s : State) → s .stage ≡ 6 → handIn K reduced s .palette ≡ reduced
+  pub handed-last : (reduced : List Float) (s : State) → s .rec .stage ≡ 6 → handIn K reduced s .palette ≡ reduced
   unfolding handIn
-  handed-last reduced s e = rw (ne-eqb (s .stage) 3 (λ (q : s .stage ≡ 3). omega arith), ne-eqb (s .stage) 5 (λ (q : s .stage ≡ 5). omega arith))
+  handed-last reduced s e = rw (ne-eqb (s .rec .stage) 3 (λ (q : s .rec .stage ≡ 3). omega arith), ne-eqb (s .rec .stage) 5 (λ (q : s .rec .stage ≡ 5). omega arith))
 
 module _ (K : Course) (S1 : 1 ≤ K .job .S) (C1 : 1 ≤ K .job .C) (few : K .job .S + K .job .C ≤ 32) (n : K .n ≤ 16384) where
   -- a run's draws are few
   enough : (k : ℕ) → k ≤ 50 → k * b K ≤ all
   enough k l = le-trans (mul-le-mul l (le-trans (div-le-self (K .n) 10) n)) (omega arith)
 
-  pub to-reduction : (hints : List ℕ) → goOn K (start K 0 hints) .stage ≡ 3
+  pub to-reduction : (hints : List ℕ) → goOn K (start K 0 hints) .rec .stage ≡ 3
   unfolding goOn
   to-reduction hints =
       reaches K S1 C1 all (start K 0 hints) (start-rests K S1 C1 0 hints) (start-early K 0 hints)
       (omega (arith, enough (K .job .S + K .job .C + 8) (omega arith)))
 
-  pub to-drawn : (s : State) → Rests K s → handIns (s .stage) ≡ 2 → goOn K s .stage ≡ 5
+  pub to-drawn : (s : State) → Rests K s → handIns (s .rec .stage) ≡ 2 → goOn K s .rec .stage ≡ 5
   unfolding goOn
-  to-drawn s R h = elim (decide (draws (s .stage))) [
+  to-drawn s R h = elim (decide (draws (s .rec .stage))) [
     | inl d ↦ go (advance K all s) refl (advance-rests K S1 C1 all s R) (advance-hand-ins K all s d ∙ h)
-    | inr d ↦ ap (λ (x : State). x .stage) (stays K s d) ∙ drawn-out (s .stage) h d
+    | inr d ↦ ap (λ (x : State). x .rec .stage) (stays K s d) ∙ drawn-out (s .rec .stage) h d
   ]
     where
-      go : (z : State) → z ≡ advance K all s → Rests K z → handIns (advance K all s .stage) ≡ 2 → advance K all s .stage ≡ 5
-      go z q Z k = elim (decide (draws (z .stage))) [
-        | inl t ↦ absurd (omega (arith, some-left K z Z t, made-few K z (Z .place), enough (K .job .S + K .job .C + 18) (omega arith), ap (λ (x : State). x .made) q, advance-made K all s, all-spent K all s (ap (λ (x : State). draws (x .stage)) (sym q) ∙ t)))
-        | inr t ↦ drawn-out (advance K all s .stage) k (ap (λ (x : State). draws (x .stage)) (sym q) ∙ t)
+      go : (z : State) → z ≡ advance K all s → Rests K z → handIns (advance K all s .rec .stage) ≡ 2 → advance K all s .rec .stage ≡ 5
+      go z q Z k = elim (decide (draws (z .rec .stage))) [
+        | inl t ↦ absurd (omega (arith, some-left K z Z t, made-few K z (Z .place), enough (K .job .S + K .job .C + 18) (omega arith), ap (λ (x : State). x .rec .made) q, advance-made K all s, all-spent K all s (ap (λ (x : State). draws (x .rec .stage)) (sym q) ∙ t)))
+        | inr t ↦ drawn-out (advance K all s .rec .stage) k (ap (λ (x : State). draws (x .rec .stage)) (sym q) ∙ t)
       ]

@@ -1,0 +1,180 @@
+-- A draw of a run is what demand 2 says of it, and an accepted advance is such draws. Assumes nothing.
+use Prim.Native.Nat.{ℕ, zero, suc, _-_, _/_, _≤_, _<_}
+use mathlib.Core.Path.{_≡_, refl, sym, ap, subst, subst⁻¹, _∙_}
+use mathlib.Core.Bool.{Bool, true, false, cond, _&&_}
+use mathlib.Core.Logic.{inl, inr}
+use mathlib.Core.List.{List, [], _∷_}
+use native.Mathlib.Omega.{arith}
+use lib.Dec.{eqb}
+use lib.ListN.{length, getD}
+use lib.Seq.{getD-set-same, getD-set-other}
+use lib.Ieee.{Float}
+use borrow.Author.Tests.{ne-eqb}
+use Rattle.color.specs.declared.Oklab.{Oklab}
+use Rattle.color.specs.Color.{colourAt, sqdistOf}
+use Rattle.color.proofs.Puts.{put-here, put-elsewhere}
+use Rattle.color.proofs.Sizes.{sized-real, bounded-finite}
+use Rattle.blend.specs.Blend.{nudged}
+use Rattle.stats.specs.declared.Near.{Near}
+use Rattle.job.specs.Gives.{Sampled}
+use Rattle.choice.specs.Least.{Least}
+use Rattle.choice.proofs.Scan.{least-has}
+use Rattle.palette.specs.Palette.{subOf, gap, nearestOf}
+use Rattle.palette.proofs.Sums.{gap-good}
+use Rattle.palette_edit.proofs.Kept.{sub-colour}
+use Rattle.palette_tile.specs.Tiles.{fitAt, Shown}
+use Rattle.palette_tile.proofs.Present.{winner-below, part-colours, part-bounded}
+use Rattle.quantizer.specs.Course.{Course, sampleTile, samplePlace, sampleColour}
+use Rattle.quantizer.specs.Drawing.{targetOf, moved, movedHints}
+use Rattle.quantizer.proofs.Bounds.{sample-sized}
+use Rattle.quantizer.proofs.Indexes.{target-in}
+use Rattle.quantizer.proofs.Lengths.{length-moved, length-moved-hints}
+use Rattle.stages.specs.State.{State, draws}
+use Rattle.stages.specs.Stages.{due, subsOf, haveOf, alphaOf, draw, drawWith, going, step, advance, drawsOf}
+use Rattle.stages.specs.Calls.{Memory, stateOf, Outcome, advanceAnswer, advanceCall}
+use Rattle.stages.specs.History.{sampleAt, sampled}
+use Rattle.calls.proofs.Cases.{decide}
+use Rattle.calls.proofs.Whilsts.{whilst-zero, whilst-step, whilst-stop, times-zero, times-step, times-stop}
+use Rattle.calls.proofs.Split.{settle-idle}
+use Rattle.calls.proofs.Presence.{draw-shown}
+use Rattle.calls.proofs.Sound.{sample-in}
+use Rattle.calls.specs.Fit.{Fit}
+use Rattle.calls.proofs.Fit.{step-fit}
+use Rattle.calls.specs.Accepted.{Accepted}
+use Rattle.calls.proofs.Accepted.{job-passed}
+use Rattle.calls.proofs.Answers.{advance-opened}
+use Rattle.calls.proofs.Next.{done, advanced-state}
+use Rattle.demands.specs.Second.{gaps, Chosen, Moves, Draws, none, drawn}
+use Rattle.demands.proofs.Fits.{chosen}
+
+-- distances that agree below n have one least
+least-by : (d e : ℕ → Float) (n : ℕ) (b : Near) → ((j : ℕ) → j < n → d j ≡ e j) → Least d n b → Least e n b
+least-by d e n b f L =
+    record {
+      within = L .within;
+      dist = L .dist ∙ f (b .index) (L .within);
+      none-less = λ j l. rw (sym (f j l)) (L .none-less j l);
+      first = λ j l. rw (sym (f j (omega (arith, L .within)))) (L .first j l);
+    }
+
+module _ (size : ℕ) (small : size ≤ 256) (K : Course) (given : Bool) (D : Sampled size (K .job) (K .n) (K .samples) given) where
+  module _ (s : State) (F : Fit K s) where
+    abbrev i : ℕ
+    i = sampleAt K s
+
+    abbrev t : ℕ
+    t = sampleTile K i
+
+    below : i < K .n
+    below = sample-in size small K given D s (F .sound .dealt)
+
+    shown : Shown (K .job) (s .palette) (subsOf K s) (haveOf K s)
+    shown = draw-shown size small K (D .ready) s (F .rests .place) (F .sound .held .size) (F .sound .held .bound)
+
+    abbrev sub : Near
+    sub = fitAt (K .job) (s .palette) (subsOf K s) (haveOf K s) t
+
+    sub-in : sub .index < subsOf K s
+    sub-in = winner-below (K .job) (s .palette) (subsOf K s) (haveOf K s) shown t
+
+    abbrev part : List Float
+    part = subOf (s .palette) (K .job .C) (haveOf K s) (sub .index)
+
+    abbrev colour : Near
+    colour = nearestOf part (sampleColour K i) (K .job .weight)
+
+    nearest : Least (gaps (K .job) (s .palette) (sub .index) (sampleColour K i)) (haveOf K s) colour
+    nearest =
+        least-by (gap part (sampleColour K i) (K .job .weight)) (gaps (K .job) (s .palette) (sub .index) (sampleColour K i)) (haveOf K s) colour
+        (λ j l. unfold gap in ap (λ (c : Oklab). sqdistOf c (sampleColour K i) (K .job .weight)) (sub-colour (s .palette) (K .job .C) (haveOf K s) (sub .index) j l))
+        (subst (λ (k : ℕ). Least (gap part (sampleColour K i) (K .job .weight)) k colour) many
+        (least-has (gap part (sampleColour K i) (K .job .weight)) (length part / 3) (omega (arith, many, shown .some))
+        (gap-good part (K .job .weight) (bounded-finite part 4 (part-bounded (K .job) (s .palette) (subsOf K s) (haveOf K s) shown (sub .index) sub-in)) (D .ready .weight)
+        (sampleColour K i) (sized-real (sampleColour K i) 2 (sample-sized size K given D i below)))))
+      where
+        many : length part / 3 ≡ haveOf K s
+        many = part-colours (K .job) (s .palette) (subsOf K s) (haveOf K s) shown (sub .index) sub-in
+
+    pub fit-moves : Moves K i s (draw K s)
+    unfolding draw drawWith moved movedHints targetOf sampleColour
+    fit-moves =
+        let place = targetOf (K .job) (s .palette) (subsOf K s) (haveOf K s) t (samplePlace K i) in
+        let x = nudged (alphaOf K s) (colourAt (s .palette) place) (sampleColour K i) in
+        record {
+          sub = sub;
+          colour = colour;
+          fits = chosen (K .job) (s .palette) (subsOf K s) (haveOf K s) shown t (D .tile i below) .least;
+          nearest = nearest;
+          moves = put-here (s .palette) place x (target-in (K .job) (s .palette) (subsOf K s) (haveOf K s) shown t (samplePlace K i));
+          stays = λ p n. put-elsewhere (s .palette) place x p n;
+          size = length-moved (K .job) (s .palette) (subsOf K s) (haveOf K s) t (samplePlace K i) (alphaOf K s);
+          second = refl;
+          hint = getD-set-same (s .hints) t (sub .index) 0 (omega (arith, D .tile i below, F .sound .hints));
+          hints-stay = λ u n. getD-set-other (s .hints) t u (sub .index) 0 n;
+          hints = length-moved-hints (K .job) (s .palette) (s .hints) (subsOf K s) (haveOf K s) t;
+          made = refl;
+          one-less = refl;
+          order = refl;
+          generator = refl;
+          stage = refl;
+          rounds = refl;
+          error = refl;
+        }
+
+  fit-draws : (a : ℕ) (s : State) → Fit K s → Draws K s (sampled K a s) (advance K a s)
+  unfolding sampled step
+  fit-draws zero s F = subst⁻¹ (λ (z : State). Draws K s [] z) (whilst-zero (going K) (step K) s) none
+  fit-draws (suc a) s F = elim (decide (going K s)) [
+    | inl d ↦
+        subst⁻¹ (λ (b : Bool). Draws K s (cond b (sampleAt K s ∷ sampled K a (step K s)) []) (advance K (suc a) s)) d
+        (subst⁻¹ (λ (z : State). Draws K s (sampleAt K s ∷ sampled K a (step K s)) z) (whilst-step (going K) (step K) a s d)
+        (drawn (fit-moves s F) (fit-draws a (step K s) (step-fit size small K given D s F d))))
+    | inr d ↦
+        subst⁻¹ (λ (b : Bool). Draws K s (cond b (sampleAt K s ∷ sampled K a (step K s)) []) (advance K (suc a) s)) d
+        (subst⁻¹ (λ (z : State). Draws K s [] z) (whilst-stop (going K) (step K) (suc a) s d) none)
+  ]
+
+-- as many samples as draws are counted
+sampled-many : (K : Course) (a : ℕ) (s : State) → length (sampled K a s) ≡ drawsOf K a s
+unfolding sampled
+sampled-many K zero s = sym (times-zero (going K) (step K) s)
+sampled-many K (suc a) s = elim (decide (going K s)) [
+  | inl d ↦ ap (λ (b : Bool). length (cond b (sampleAt K s ∷ sampled K a (step K s)) [])) d ∙ ap suc (sampled-many K a (step K s)) ∙ sym (times-step (going K) (step K) a s d)
+  | inr d ↦ ap (λ (b : Bool). length (cond b (sampleAt K s ∷ sampled K a (step K s)) [])) d ∙ sym (times-stop (going K) (step K) (suc a) s d)
+]
+
+module _ (size : ℕ) (small : size ≤ 256) (K : Course) (m : Memory) where
+  pub tiles-chosen : Accepted size K m → (t : ℕ) → t < K .job .T → Chosen (K .job) (stateOf m .palette) (subsOf K (stateOf m)) (haveOf K (stateOf m)) t
+  tiles-chosen A t l =
+      chosen (K .job) (stateOf m .palette) (subsOf K (stateOf m)) (haveOf K (stateOf m))
+      (draw-shown size small K (job-passed size K true (A .passed) .ready) (stateOf m) (A .fit .rests .place) (A .fit .sound .held .size) (A .fit .sound .held .bound)) t l
+
+  -- the next draw of an accepted memory
+  pub draw-moves : Accepted size K m → Moves K (sampleAt K (stateOf m)) (stateOf m) (draw K (stateOf m))
+  draw-moves A = fit-moves size small K true (job-passed size K true (A .passed)) (stateOf m) (A .fit)
+
+  -- an accepted advance is as many draws as it reports
+  pub advance-moves : (a : ℕ) → advanceAnswer size K m ≡ 0 → Draws K (stateOf m) (sampled K a (stateOf m)) (stateOf (advanceCall size K m a .after))
+  advance-moves a h =
+      let A = advance-opened size K m h .0 in
+      subst⁻¹ (Draws K (stateOf m) (sampled K a (stateOf m))) (advanced-state size K m a h) (fit-draws size small K true (job-passed size K true (A .passed)) a (stateOf m) (A .fit))
+
+  pub advance-many : (a : ℕ) → advanceAnswer size K m ≡ 0 → length (sampled K a (stateOf m)) ≡ advanceCall size K m a .drew
+  unfolding advanceCall
+  advance-many a h = sampled-many K a (stateOf m) ∙ sym (ap (λ (x : Outcome). x .drew) (done (advanceAnswer size K m) m (drawsOf K a (stateOf m)) (advance K a (stateOf m)) h))
+
+  -- by one draw inside a round nothing else is due: memory before and after
+  pub one-draw : advanceAnswer size K m ≡ 0 → 2 ≤ getD (m .words) 3 0 → stateOf (advanceCall size K m 1 .after) ≡ draw K (stateOf m)
+  one-draw h l =
+      let A = advance-opened size K m h in
+      advanced-state size K m 1 h ∙ whilst-step (going K) (step K) 0 (stateOf m) (A .1) ∙ whilst-zero (going K) (step K) (step K (stateOf m)) ∙ (unfold step in settle-idle K (draw K (stateOf m)) idle)
+    where
+      idle : due K (draw K (stateOf m)) ≡ false
+      idle = unfold draw drawWith stateOf in more (draws (getD (m .words) 1 0)) (getD (m .words) 3 0) l
+        where
+          more : (t : Bool) (n : ℕ) → 2 ≤ n → t && eqb (n - 1) 0 ≡ false
+          more true n h = ne-eqb (n - 1) 0 (λ (e : n - 1 ≡ 0). omega arith)
+          more false n h = refl
+
+  pub one-moves : advanceAnswer size K m ≡ 0 → 2 ≤ getD (m .words) 3 0 → Moves K (sampleAt K (stateOf m)) (stateOf m) (stateOf (advanceCall size K m 1 .after))
+  one-moves h l = subst⁻¹ (Moves K (sampleAt K (stateOf m)) (stateOf m)) (one-draw h l) (draw-moves (advance-opened size K m h .0))

@@ -1,0 +1,209 @@
+-- The choice for a tile, and the calls that answer with it. Assumes nothing.
+use Prim.Native.Nat.{ℕ, _≤_, _<_}
+use mathlib.Core.Path.{_≡_, refl, sym, ap, _∙_}
+use mathlib.Core.Bool.{Bool, true, false, not, cond}
+use mathlib.Core.Logic.{_≢_}
+use mathlib.Core.List.{List, [], _∷_}
+use native.Mathlib.Nat.{le-of-eq}
+use native.Mathlib.Omega.{arith}
+use lib.Dec.{eqb}
+use lib.ListN.{length, getD, set}
+use lib.Ieee.{Float, binary32, lt}
+use borrow.Author.Tests.{eqb-true, eq-eqb}
+use Rattle.lists.proofs.Tests.{and-l, and-r}
+use Rattle.ieee.specs.Terms.{Good}
+use Rattle.stats.specs.declared.Near.{Near}
+use Rattle.stats.specs.Stats.{nextOf}
+use Rattle.stats.proofs.Seconds.{next-below, next-other, second-at}
+use Rattle.job.specs.Job.{Job, isEmpty}
+use Rattle.job.specs.Rules.{rule, answer, numbered}
+use Rattle.job.proofs.Passing.{goes, fails, both-pass}
+use Rattle.job.specs.Checks.{plainAnswer}
+use Rattle.job.specs.Gives.{Plain}
+use Rattle.job.proofs.Ready.{plain-ready}
+use Rattle.choice.specs.Least.{Least}
+use Rattle.choice.proofs.Scan.{least-has}
+use Rattle.choice.proofs.Two.{firstOf, two-first}
+use Rattle.palette.proofs.Sums.{dist-good}
+use Rattle.palette_tile.specs.Tiles.{tileAt, presentIn, fitAt, winner, twoAt, Shown}
+use Rattle.palette_tile.proofs.Present.{shown-present, tile-counted}
+use Rattle.fits_outcome.specs.Fits.{singleOutcome, singleDef}
+use Rattle.fits_outcome.specs.Pairs.{pairOutcome, pairDef}
+use Rattle.fits_check.specs.One.{oneRules, oneAnswer, singleAnswer}
+use Rattle.fits_outcome.specs.declared.Single.the-variants as single
+use Rattle.fits_outcome.specs.declared.Pair.the-variants as pair
+use Rattle.fits_two.proofs.Empty.{empty-one, empty-many}
+use Rattle.fits.proofs.Shown.{shown}
+use Rattle.fits_check.proofs.Passes.{one-tile, one-plain}
+use Rattle.assign_tiles.specs.Tiles.{Held, held, assigned, subpaletteOf, subpalettes, hintOf}
+use Rattle.assign.specs.Assign.{Outcome, outcome, roomFor, assignAnswer, assignDef}
+use Rattle.assign.proofs.Reading.{subpalette-at, hint-at}
+use Rattle.demands.specs.Second.{distances, Chosen, Single-fit, Best-two, Assign}
+use Rattle.demands.proofs.Runners.{second-least}
+
+-- ---- the choice, in every call and at every moment of a run
+module _ (J : Job) (palette : List Float) (n have : ℕ) (P : Shown J palette n have) (t : ℕ) (l : t < J .T) where
+  good : (i : ℕ) → i < n → Good binary32 (distances J palette n have t i)
+  good = dist-good (presentIn J palette n have) (tileAt J t) (J .weight) (shown-present J palette n have P) (tile-counted J palette n have P t l) (P .ready .weight)
+
+  least : Least (distances J palette n have t) n (fitAt J palette n have t)
+  unfolding fitAt
+  least = least-has (distances J palette n have t) n (P .subs) good
+
+  first-of-two : firstOf (twoAt J palette n have t) ≡ fitAt J palette n have t
+  unfolding twoAt fitAt
+  first-of-two = two-first (distances J palette n have t) n
+
+  second-of-two : 2 ≤ n
+      → (other : ℕ) × (other < n) × (other ≢ twoAt J palette n have t .index) × (twoAt J palette n have t .second ≡ distances J palette n have t other)
+  unfolding twoAt
+  second-of-two h =
+      let d = distances J palette n have t in
+      (nextOf d n, next-below d n h good, next-other d n h good, second-at d n h good)
+
+  none-before-second : (j : ℕ) → j < n → j ≢ twoAt J palette n have t .index → lt (distances J palette n have t j) (twoAt J palette n have t .second) ≡ false
+  unfolding twoAt
+  none-before-second = second-least (distances J palette n have t) n good (P .subs) (omega (arith, P .most, P .ready .sizes .few))
+
+  pub chosen : Chosen J palette n have t
+  chosen =
+      record {
+        least = least;
+        first = ap (λ (x : Near). x .index) first-of-two;
+        first-dist = ap (λ (x : Near). x .dist) first-of-two;
+        second = second-of-two;
+        none-before-second = none-before-second;
+      }
+
+-- ---- the single fit and best_two
+-- an answer that goes by the hints' number alone is one answer, whatever the hints and what is left in them
+any-hint : {R O : Type 0} (make : R → List ℕ → O) (told : O → R) → ((r : R) (x : List ℕ) → told (make r x) ≡ r) → (number : ℕ → ℕ) (best : R) (refusal : ℕ → R) (left : List ℕ → List ℕ) (h k : List ℕ) → length h ≡ length k
+    → told (cond (eqb (number (length h)) 0) (make best (left h)) (make (refusal (number (length h))) h)) ≡ told (cond (eqb (number (length k)) 0) (make best (left k)) (make (refusal (number (length k))) k))
+any-hint {R} make told same number best refusal left h k e = by h (eqb (number (length h)) 0) ∙ ap (λ (n : ℕ). cond (eqb (number n) 0) best (refusal (number n))) e ∙ sym (by k (eqb (number (length k)) 0))
+  where
+    by : (x : List ℕ) (t : Bool) → told (cond t (make best (left x)) (make (refusal (number (length x))) x)) ≡ cond t best (refusal (number (length x)))
+    by x true = same best (left x)
+    by x false = same (refusal (number (length x))) x
+
+module _ (size : ℕ) (small : size ≤ 256) (J : Job) (palette : List Float) where
+  -- a tile that passed is answered with its choice, which becomes its hint
+  single-chooses : (hints : List ℕ) → singleAnswer size J palette (length hints) ≡ 0
+      → Chosen J palette (J .S) (J .C) 0
+      × (singleDef size J palette hints ≡ singleOutcome (single.Best (fitAt J palette (J .S) (J .C) 0)) (set hints 0 (winner J palette (J .S) (J .C) 0)))
+  single-chooses hints z =
+      let first : oneAnswer size J palette (length hints) ≡ 0 = unfold singleAnswer oneAnswer numbered in both-pass (oneRules size J palette (length hints)) (rule 15 (not (isEmpty J 0)) ∷ []) refl z .0 in (
+        chosen J palette (J .S) (J .C) (shown size J palette _ small (one-plain size J palette (length hints) first)) 0 (le-of-eq (sym (one-tile size J palette (length hints) first))),
+        (unfold singleDef in rw (eq-eqb (singleAnswer size J palette (length hints)) 0 z)),
+      )
+
+  pair-chooses : (hints : List ℕ) → oneAnswer size J palette (length hints) ≡ 0
+      → Chosen J palette (J .S) (J .C) 0
+      × (pairDef size J palette hints ≡ pairOutcome (pair.Best (twoAt J palette (J .S) (J .C) 0)) (set hints 0 (winner J palette (J .S) (J .C) 0)))
+  pair-chooses hints z =
+      let present = shown size J palette _ small (one-plain size J palette (length hints) z) in
+      let first : 0 < J .T = le-of-eq (sym (one-tile size J palette (length hints) z)) in
+      let c = chosen J palette (J .S) (J .C) present 0 first in
+      let answered : pairDef size J palette hints ≡ pairOutcome (pair.Best (twoAt J palette (J .S) (J .C) 0)) (set hints 0 (twoAt J palette (J .S) (J .C) 0 .index)) =
+      unfold pairDef in rw (eq-eqb (oneAnswer size J palette (length hints)) 0 z) in (
+        c,
+        answered ∙ ap (λ (k : ℕ). pairOutcome (pair.Best (twoAt J palette (J .S) (J .C) 0)) (set hints 0 k)) (c .first),
+      )
+
+  -- whatever the hint: any two give one answer
+  single-any-hint : (h k : List ℕ) → length h ≡ length k → singleDef size J palette h .answer ≡ singleDef size J palette k .answer
+  unfolding singleDef
+  single-any-hint = any-hint singleOutcome (λ o. o .answer) (λ r x. refl) (singleAnswer size J palette) (single.Best (fitAt J palette (J .S) (J .C) 0)) single.Refused (λ x. set x 0 (winner J palette (J .S) (J .C) 0))
+
+  pair-any-hint : (h k : List ℕ) → length h ≡ length k → pairDef size J palette h .answer ≡ pairDef size J palette k .answer
+  unfolding pairDef
+  pair-any-hint = any-hint pairOutcome (λ o. o .answer) (λ r x. refl) (oneAnswer size J palette) (pair.Best (twoAt J palette (J .S) (J .C) 0)) pair.Refused (λ x. set x 0 (twoAt J palette (J .S) (J .C) 0 .index))
+
+  -- an empty tile, where all else passed: the single fit answers 15, and best_two as `empty-one` and `empty-many` say
+  single-empty : (hints : List ℕ) → oneAnswer size J palette (length hints) ≡ 0 → isEmpty J 0 ≡ true → singleAnswer size J palette (length hints) ≡ 15
+  unfolding singleAnswer oneAnswer numbered
+  single-empty hints z e =
+      sym (goes (oneRules size J palette (length hints)) (rule 15 (not (isEmpty J 0)) ∷ []) (answer (oneRules size J palette (length hints))) 15 refl refl z (fails 15 (not (isEmpty J 0)) [] (rw e)))
+
+-- ---- assign
+-- whatever the hints: any two lists of them give one number, and each tile one subpalette
+assign-any-hints : (size : ℕ) (J : Job) (palette : List Float) (out h k : List ℕ) → length h ≡ length k
+    → (assignDef size J palette (held h out) .number ≡ assignDef size J palette (held k out) .number)
+    × (assignDef size J palette (held h out) .after .out ≡ assignDef size J palette (held k out) .after .out)
+assign-any-hints size J palette out h k e = (number h ∙ ap (λ (n : ℕ). cond (eqb (table n) 0) 0 (table n)) e ∙ sym (number k), left h ∙ ap (λ (n : ℕ). cond (eqb (table n) 0) all out) e ∙ sym (left k))
+  where
+    table : ℕ → ℕ
+    table n = plainAnswer size J palette (roomFor (J .T) n (length out))
+
+    all : List ℕ
+    all = subpalettes J palette out (J .T)
+
+    number-by : (t : Bool) (n : ℕ) (x y : Held) → cond t (outcome 0 x) (outcome n y) .number ≡ cond t 0 n
+    number-by true n x y = refl
+    number-by false n x y = refl
+
+    left-by : (t : Bool) (n : ℕ) (x y : Held) → cond t (outcome 0 x) (outcome n y) .after .out ≡ cond t (x .out) (y .out)
+    left-by true n x y = refl
+    left-by false n x y = refl
+
+    number : (x : List ℕ) → assignDef size J palette (held x out) .number ≡ cond (eqb (table (length x)) 0) 0 (table (length x))
+    number x = unfold assignDef assignAnswer in number-by (eqb (table (length x)) 0) (table (length x)) (assigned J palette (held x out) (J .T)) (held x out)
+
+    left : (x : List ℕ) → assignDef size J palette (held x out) .after .out ≡ cond (eqb (table (length x)) 0) all out
+    left x = unfold assignDef assignAnswer assigned in left-by (eqb (table (length x)) 0) (table (length x)) (assigned J palette (held x out) (J .T)) (held x out)
+
+module _ (size : ℕ) (small : size ≤ 256) (J : Job) (palette : List Float) (h : Held) (z : assignAnswer size J palette h ≡ 0) where
+  plain : Plain size J palette (roomFor (J .T) (length (h .hints)) (length (h .out)))
+  unfolding assignAnswer
+  plain = plain-ready size J palette (roomFor (J .T) (length (h .hints)) (length (h .out))) z
+
+  done : assignDef size J palette h ≡ outcome 0 (assigned J palette h (J .T))
+  unfolding assignDef
+  done = rw (eq-eqb (assignAnswer size J palette h) 0 z)
+
+  room : (length (h .hints) ≡ J .T) × (length (h .out) ≡ J .T)
+  unfolding roomFor
+  room =
+      let r = plain .roomy in
+      (eqb-true _ _ (and-l (eqb (length (h .hints)) (J .T)) (eqb (length (h .out)) (J .T)) r), eqb-true _ _ (and-r (eqb (length (h .hints)) (J .T)) (eqb (length (h .out)) (J .T)) r))
+
+  module _ (t : ℕ) (l : t < J .T) where
+    out-at : getD (assignDef size J palette h .after .out) t 0 ≡ subpaletteOf J palette t
+    out-at = ap (λ (x : Outcome). getD (x .after .out) t 0) done ∙ (unfold assigned in subpalette-at J palette (h .out) (J .T) t (le-of-eq (sym (room .1))) l)
+
+    hint-left : getD (assignDef size J palette h .after .hints) t 0 ≡ hintOf J palette (h .hints) t
+    hint-left = ap (λ (x : Outcome). getD (x .after .hints) t 0) done ∙ (unfold assigned in hint-at J palette (h .hints) (J .T) t (le-of-eq (sym (room .0))) l)
+
+    -- each tile that is not empty gets its choice, whatever its hint was, and it becomes the hint
+    assign-chooses : isEmpty J t ≡ false
+        → Chosen J palette (J .S) (J .C) t
+        × (getD (assignDef size J palette h .after .out) t 0 ≡ winner J palette (J .S) (J .C) t)
+        × (getD (assignDef size J palette h .after .hints) t 0 ≡ winner J palette (J .S) (J .C) t)
+    unfolding subpaletteOf
+    assign-chooses e = (chosen J palette (J .S) (J .C) (shown size J palette _ small plain) t l, out-at ∙ rw e, hint-left ∙ rw e)
+
+    -- an empty one gets 0, and keeps its hint
+    assign-empty : isEmpty J t ≡ true → (getD (assignDef size J palette h .after .out) t 0 ≡ 0) × (getD (assignDef size J palette h .after .hints) t 0 ≡ getD (h .hints) t 0)
+    unfolding subpaletteOf
+    assign-empty e = (out-at ∙ rw e, hint-left ∙ rw e)
+
+-- ---- the three calls
+module _ (size : ℕ) (small : size ≤ 256) (J : Job) (palette : List Float) where
+  pub single-fits : Single-fit size J palette
+  single-fits = record { chooses = single-chooses size small J palette; any-hint = single-any-hint size small J palette; empty = single-empty size small J palette }
+
+  pub both-fit : Best-two size J palette
+  both-fit =
+      record {
+        chooses = pair-chooses size small J palette;
+        any-hint = pair-any-hint size small J palette;
+        empty-one = empty-one size J palette;
+        empty-many = empty-many size J palette;
+      }
+
+  pub assigns : Assign size J palette
+  assigns =
+      record {
+        chooses = assign-chooses size small J palette;
+        any-hints = assign-any-hints size J palette;
+        empty = assign-empty size small J palette;
+      }

@@ -1,0 +1,120 @@
+-- Two runs of the same calls on memories that differ in their hints alone leave memories that differ in their hints alone. Assumes nothing.
+use Prim.Native.Nat.{ℕ, _≤_}
+use mathlib.Core.Path.{_≡_, refl, sym, ap, _∙_}
+use mathlib.Core.Bool.{Bool, true, false, cond, _&&_}
+use mathlib.Core.List.{List, [], _∷_, _++_}
+use lib.Dec.{eqb}
+use lib.ListN.{length}
+use lib.Ieee.{Float}
+use borrow.Author.Tests.{eqb-true}
+use Rattle.job.specs.Job.{two}
+use Rattle.job.specs.Rules.{Rule, rule, answer}
+use Rattle.job.specs.Checks.{componentsFit}
+use Rattle.quantizer.specs.Course.{Course}
+use Rattle.stages.specs.State.{State, draws, stops}
+use Rattle.stages.specs.Stages.{advance as advances, drawsOf, start as starts, handIn}
+use Rattle.stages.specs.Record.{stateRules}
+use Rattle.stages.specs.Calls.{Memory, wordsOf, stateOf, memoryOf, outcome, answered, copiedTo, coloursRoom, memoryRoom, jobRules, runRules, startAnswer, advanceAnswer, handInAnswer, resultAnswer, startCall, advanceCall, handInCall, resultCall}
+use Rattle.calls.proofs.Hintless.{Alike, advance-alike, draws-alike, sampled-alike, start-alike, handIn-alike}
+use Rattle.calls.specs.Accepted.{Accepted}
+use Rattle.calls.proofs.Next.{started-state, advanced-state, handed-state, start-leaves, advance-leaves, handIn-leaves}
+use Rattle.demands.specs.Second.{Hints-apart, Same-but-hints, Request, start, advance, hand-in, called, left, Whatever-hints}
+
+-- ---- states and memories
+states : (m x : Memory) → Hints-apart m x → Alike (stateOf m) (stateOf x)
+unfolding stateOf
+states m x h = record { rest = cc }
+
+memories : (s z : State) → Alike s z → length (s .hints) ≡ length (z .hints) → Hints-apart (memoryOf s) (memoryOf z)
+unfolding memoryOf
+memories s z e many =
+    record {
+      order = ap (λ (y : State). y .order) (e .rest);
+      palette = ap (λ (y : State). y .palette) (e .rest);
+      least = ap (λ (y : State). y .least) (e .rest);
+      words = ap (λ (y : State). wordsOf (y .rec)) (e .rest);
+      many = many;
+    }
+
+-- ---- an answered call
+answers-alike : (e f : ℕ) (m x : Memory) (d c : ℕ) (s z : State) → e ≡ f → Hints-apart m x → d ≡ c → Alike s z → (e ≡ 0 → length (s .hints) ≡ length (z .hints))
+    → Same-but-hints (answered e m d s) (answered f x c z)
+unfolding answered
+answers-alike e f m x d c s z q h p a many = rw (sym q) (by (eqb e 0) refl)
+  where
+    by : (t : Bool) → eqb e 0 ≡ t → Same-but-hints (cond t (outcome 0 d (memoryOf s)) (outcome e 0 m)) (cond t (outcome 0 c (memoryOf z)) (outcome e 0 x))
+    by true k = record { number = refl; drew = p; after = memories s z a (many (eqb-true e 0 k)) }
+    by false k = record { number = refl; drew = refl; after = h }
+
+module _ (size : ℕ) (small : size ≤ 256) (K : Course) where
+  -- an accepted call leaves a hint for each tile
+  kept : {z : Memory} {s : State} → Accepted size K z → stateOf z ≡ s → length (s .hints) ≡ K .job .T
+  kept A e = ap (λ (y : State). length (y .hints)) (sym e) ∙ A .fit .sound .hints
+
+  module _ (m x : Memory) (h : Hints-apart m x) where
+    room : memoryRoom size K m ≡ memoryRoom size K x
+    unfolding memoryRoom coloursRoom
+    room = cc
+
+    -- the rules of a call on a run at its moment
+    rules : (r q : Bool) (moment : ℕ → Bool) → r ≡ q → runRules size K m r (moment (stateOf m .rec .stage)) ≡ runRules size K x q (moment (stateOf x .rec .stage))
+    rules r q moment e =
+        ap (λ (t : Bool). runRules size K m t (moment (stateOf m .rec .stage))) e
+        ∙ ap (λ (s : State). jobRules size K q ++ (stateRules K s ++ (rule 11 (moment (s .rec .stage)) ∷ []))) (states m x h .rest)
+
+    starts-same : startAnswer size K m ≡ startAnswer size K x
+    unfolding startAnswer
+    starts-same = ap (λ (t : Bool). answer (jobRules size K t)) room
+
+    advances-same : advanceAnswer size K m ≡ advanceAnswer size K x
+    unfolding advanceAnswer
+    advances-same = ap answer (rules (memoryRoom size K m) (memoryRoom size K x) draws room)
+
+    hand-ins-same : (reduced : List Float) → handInAnswer size K m reduced ≡ handInAnswer size K x reduced
+    unfolding handInAnswer
+    hand-ins-same reduced =
+        ap (λ (rs : List Rule). answer (rs ++ (rule 7 (componentsFit two reduced) ∷ [])))
+        (rules (memoryRoom size K m && coloursRoom size K reduced) (memoryRoom size K x && coloursRoom size K reduced) stops (ap (λ (t : Bool). t && coloursRoom size K reduced) room))
+
+    results-same : (out : List Float) → resultAnswer size K m out ≡ resultAnswer size K x out
+    unfolding resultAnswer
+    results-same out =
+        ap answer (rules (memoryRoom size K m && coloursRoom size K out) (memoryRoom size K x && coloursRoom size K out) (λ k. eqb k 7) (ap (λ (t : Bool). t && coloursRoom size K out) room))
+
+    -- ---- one call
+    call-same : (c : Request) → Same-but-hints (called size K m c) (called size K x c)
+    unfolding called
+    call-same (start seed) =
+        unfold startCall in
+        answers-alike (startAnswer size K m) (startAnswer size K x) m x 0 0 (starts K seed (m .hints)) (starts K seed (x .hints)) starts-same h refl (start-alike K seed (m .hints) (x .hints))
+        (λ e. kept (start-leaves size small K m seed e) (started-state size K m seed e) ∙ sym (kept (start-leaves size small K x seed (sym starts-same ∙ e)) (started-state size K x seed (sym starts-same ∙ e))))
+    call-same (advance a) =
+        unfold advanceCall in
+        answers-alike (advanceAnswer size K m) (advanceAnswer size K x) m x (drawsOf K a (stateOf m)) (drawsOf K a (stateOf x)) (advances K a (stateOf m)) (advances K a (stateOf x)) advances-same h
+        (draws-alike K a (stateOf m) (stateOf x) (states m x h)) (advance-alike K a (stateOf m) (stateOf x) (states m x h))
+        (λ e. kept (advance-leaves size small K m a e) (advanced-state size K m a e) ∙ sym (kept (advance-leaves size small K x a (sym advances-same ∙ e)) (advanced-state size K x a (sym advances-same ∙ e))))
+    call-same (hand-in reduced) =
+        unfold handInCall in
+        answers-alike (handInAnswer size K m reduced) (handInAnswer size K x reduced) m x 0 0 (handIn K reduced (stateOf m)) (handIn K reduced (stateOf x)) (hand-ins-same reduced) h refl
+        (handIn-alike K reduced (stateOf m) (stateOf x) (states m x h))
+        (λ e. kept (handIn-leaves size small K m reduced e) (handed-state size K m reduced e) ∙ sym (kept (handIn-leaves size small K x reduced (sym (hand-ins-same reduced) ∙ e)) (handed-state size K x reduced (sym (hand-ins-same reduced) ∙ e))))
+
+    result-same : (out : List Float) → resultCall size K m out ≡ resultCall size K x out
+    unfolding resultCall
+    result-same out =
+        ap (λ (e : ℕ). cond (eqb e 0) (copiedTo 0 (m .palette)) (copiedTo e out)) (results-same out)
+        ∙ ap (λ (p : List Float). cond (eqb (resultAnswer size K x out) 0) (copiedTo 0 p) (copiedTo (resultAnswer size K x out) out)) (h .palette)
+
+  -- ---- calls in a row
+  rows : (cs : List Request) (m x : Memory) → Hints-apart m x → Hints-apart (left size K cs m) (left size K cs x)
+  unfolding left
+  rows [] m x h = h
+  rows (c ∷ cs) m x h = rows cs (called size K m c .after) (called size K x c .after) (call-same m x h c .after)
+
+  pub whatever-hints : (m x : Memory) → Hints-apart m x → Whatever-hints size K m x
+  whatever-hints m x h =
+      record {
+        calls = λ cs c. call-same (left size K cs m) (left size K cs x) (rows cs m x h) c;
+        samples = λ cs a. sampled-alike K a (stateOf (left size K cs m)) (stateOf (left size K cs x)) (states (left size K cs m) (left size K cs x) (rows cs m x h));
+        results = λ cs out. result-same (left size K cs m) (left size K cs x) (rows cs m x h) out;
+      }
