@@ -1,6 +1,6 @@
 -- The draws that a place implies, and that no sum of theirs wraps. Assumes nothing.
 use Prim.Native.Nat.{ℕ, _+_, _-_, _*_, _/_, _≤_, _<_}
-use mathlib.Core.Path.{_≡_}
+use mathlib.Core.Path.{_≡_, ap, _∙_}
 use mathlib.Core.Bool.{Bool, true, false, cond, _&&_}
 use native.Mathlib.Nat.{mul-le-mul, div-le-of-le-mul}
 use native.Mathlib.Omega.{arith}
@@ -75,9 +75,9 @@ module _ (K : Course) (k r l : ℕ) where
   unfolding madeBy
   made-quiet d e y x h = rw (← e, y) h
 
-  pub made-drawing : (d : Bool) → d ≡ draws k → d ≡ true → (x q : ℕ) → x ≡ before K k → q ≡ drawsIn K k → x + r * b K + (q - l) ≡ madeBy K k r l
+  pub made-drawing : (d : Bool) → d ≡ draws k → d ≡ true → (x e q : ℕ) → x ≡ before K k → e ≡ b K → q ≡ drawsIn K k → x + r * e + (q - l) ≡ madeBy K k r l
   unfolding madeBy
-  made-drawing d e y x q h g = rw (← e, y, ← h, ← g)
+  made-drawing d i y x e q h f g = rw (← i, y, ← h, ← f, ← g)
 
 module _ (s c n k : ℕ) (Z : Sized s c n) where
   tenth : n / 10 ≤ 1639
@@ -102,14 +102,22 @@ module _ (s c n k : ℕ) (Z : Sized s c n) where
       by true = omega (arith, tenth)
       by false = omega (arith, tenth)
 
-  pub product-small : (x : ℕ) → x ≤ 50 → x * (n / 10) ≤ 81950
-  product-small x h = mul-le-mul h tenth
+  -- rounds of e draws each
+  module _ (e : ℕ) (E : e ≡ n / 10) where
+    pub drawn-before : (x : ℕ) → Earlier s c n k x → x * e ≡ before (sized s c n) k
+    drawn-before x p = ap (λ (y : ℕ). x * y) E ∙ p .rounds
 
-  pub product-fits : (x : ℕ) → x ≤ 50 → Fits w64 (x * (n / 10))
-  product-fits x h = fits-le (product-small x h) (fits-lit {n = 81950} tt)
+    few : e ≤ 1639
+    few = rw E tenth
 
-  pub sum-fits : (x y : ℕ) → x ≤ 50 → y ≤ 50 → Fits w64 (x * (n / 10) + y * (n / 10))
-  sum-fits x y h g = fits-le (let p = product-small x h in let q = product-small y g in omega arith) (fits-lit {n = 163900} tt)
+    product-small : (x : ℕ) → x ≤ 50 → x * e ≤ 81950
+    product-small x h = mul-le-mul h few
 
-  pub all-fits : (x y z : ℕ) → x ≤ 50 → y ≤ 50 → z ≤ 16390 → Fits w64 (x * (n / 10) + y * (n / 10) + z)
-  all-fits x y z h g i = fits-le (let p = product-small x h in let q = product-small y g in omega arith) (fits-lit {n = 180290} tt)
+    pub product-fits : (x : ℕ) → x ≤ 50 → Fits w64 (x * e)
+    product-fits x h = fits-le (product-small x h) (fits-lit {n = 81950} tt)
+
+    pub sum-fits : (x y : ℕ) → x ≤ 50 → y ≤ 50 → Fits w64 (x * e + y * e)
+    sum-fits x y h g = fits-le (let p = product-small x h in let q = product-small y g in omega arith) (fits-lit {n = 163900} tt)
+
+    pub all-fits : (x y z : ℕ) → x ≤ 50 → y ≤ 50 → z ≤ 16390 → Fits w64 (x * e + y * e + z)
+    all-fits x y z h g i = fits-le (let p = product-small x h in let q = product-small y g in omega arith) (fits-lit {n = 180290} tt)

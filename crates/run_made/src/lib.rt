@@ -39,7 +39,7 @@ fn made_by(s: usize, c: usize, n: usize, stage: u64, rounds: u64, left: u64) -> 
     requires { ⌜ Sized s c n × (placeFits (sized s c n) stage rounds left ≡ true) ⌝ }
     ensures { λ r. ⌜ r ≡ madeBy (sized s c n) stage rounds left ⌝ }
 {
-    let b = n as u64 / 10;
+    let b = sample_cycle::base_iterations(n);
     let earlier = rounds_before(s, c, n, stage) * b;
     if !run_record::makes_draws(stage) {
         return earlier;

@@ -1,10 +1,10 @@
 -- The sizes that the record's rules read, as a course of no tiles: the rules of any course are those of its sizes. Definitions only. Assumes nothing.
-use Prim.Native.Nat.{ℕ, _*_, _/_, _≤_}
+use Prim.Native.Nat.{ℕ, _*_, _≤_}
 use mathlib.Core.Path.{_≡_}
 use mathlib.Core.List.{List, []}
 use lib.Ieee.{nan}
 use Rattle.job.specs.Job.{job, mostSubpalettes, mostColours, mostSamples}
-use Rattle.quantizer.specs.Course.{Course, course}
+use Rattle.quantizer.specs.Course.{Course, course, b}
 use Rattle.stages.specs.Record.{before}
 
 -- S, C and n
@@ -18,7 +18,7 @@ pub record Sized (s c n : ℕ) : Type 0 where
   pub cap : c ≤ mostColours
   pub short : n ≤ mostSamples
 
--- r rounds of a tenth of the samples lie before the stage
+-- r rounds of b draws lie before the stage
 pub record Earlier (s c n stage r : ℕ) : Type 0 where
-  pub rounds : r * (n / 10) ≡ before (sized s c n) stage
+  pub rounds : r * b (sized s c n) ≡ before (sized s c n) stage
   pub bound : r ≤ 50

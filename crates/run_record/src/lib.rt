@@ -72,7 +72,7 @@ pub fn draws_in(s: usize, c: usize, n: usize, stage: u64) -> u64
     requires { ⌜ Sized s c n ⌝ }
     ensures { λ r. ⌜ r ≡ drawsIn (sized s c n) stage ⌝ }
 {
-    let b = n as u64 / 10;
+    let b = sample_cycle::base_iterations(n);
     if stage == 4 {
         return 10 * b;
     }

@@ -1,20 +1,19 @@
--- `quantizer_seed::seed_mean` meets its contract. The loop's invariant: the first i samples are summed. Assumes nothing.
+-- `quantizer_seed::mean_oklab` meets its contract. The loop's invariant: the first i samples are summed. Assumes nothing.
 use Prim.Native.Nat.{_-_, _≤_}
 use mathlib.Core.Path.{_≡_}
 use native.Mathlib.Omega.{arith}
 use borrow.Author.Needs.{needs}
 use Rattle.color.specs.Color.{sumOf}
-use Rattle.job.specs.Job.{job}
-use Rattle.quantizer.specs.Course.{course, sampleColour}
-use Rattle.quantizer_seed.proofs.Averages.{sum-none, sum-more, mean-done}
-use Rattle.quantizer_seed.proofs.seed_mean.Statement.{statement}
-use Rattle.quantizer_seed.proofs.seed_mean.Tie as tie
+use Rattle.color.proofs.Steps.{sum-none, sum-more, mean-done}
+use Rattle.quantizer_seed.specs.Seeds.{toldColour}
+use Rattle.quantizer_seed.proofs.mean_oklab.Statement.{statement}
+use Rattle.quantizer_seed.proofs.mean_oklab.Tie as tie
 
 abbrev Inv-loop : tie.InvT-loop
-Inv-loop s c t n weight tiles colours counts samples sum₀ i₀ sum i = (i ≤ n) × (sum ≡ sumOf (sampleColour (course (job s c t weight tiles colours counts) n samples)) i)
+Inv-loop tiles colours samples n sum₀ i₀ sum i = (i ≤ n) × (sum ≡ sumOf (toldColour tiles colours samples) i)
 
 abbrev μ-loop : tie.MeasureT-loop
-μ-loop s c t n weight tiles colours counts samples sum₀ i₀ sum i = n - i
+μ-loop tiles colours samples n sum₀ i₀ sum i = n - i
 
 loop-holds : tie.Need-loop-holds Inv-loop μ-loop
 loop-holds c = (omega arith, sum-none _)
@@ -22,7 +21,7 @@ loop-holds c = (omega arith, sum-none _)
 sample-colour-requires : tie.Need-sample-colour-requires Inv-loop μ-loop
 sample-colour-requires c κs =
     let v = c .before in
-    let z = v .before .before .before .before .before in
+    let z = v .before .before .before .before in
     z .pre .told (v .loop .i) (c .loop-test .taken)
 
 plus-requires : tie.Need-plus-requires Inv-loop μ-loop
@@ -43,16 +42,16 @@ loop-again c =
 over-requires : tie.Need-over-requires Inv-loop μ-loop
 over-requires c κs =
     let v = c .before in
-    let z = v .before .before .before .before .before in
+    let z = v .before .before .before .before in
     z .pre .few
 
 returns : tie.Need-returns Inv-loop μ-loop
 returns c =
     let v = c .before .before in
-    mean-done _ _ (v .loop .inv .0) (c .before .loop-test .left) _ _ (v .loop .inv .1) (c .over .ensures)
+    mean-done _ _ _ _ _ (v .loop .inv .0) (c .before .loop-test .left) (v .loop .inv .1) (c .over .ensures)
 
-pub seed-mean-spec : {M : Type 1} → statement M
-seed-mean-spec =
+pub mean-oklab-spec : {M : Type 1} → statement M
+mean-oklab-spec =
     tie.close
     (tie.spec
     Inv-loop
