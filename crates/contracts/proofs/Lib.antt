@@ -1,2 +1,4 @@
 pub mod Keeps
 pub mod Contracts
+pub mod First
+pub mod Second

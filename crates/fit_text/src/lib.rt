@@ -51,8 +51,7 @@ fn put_job(
 
 // What `fit` prints for these bytes, into `out`, and how many bytes that is: none where `out` has too little room for any sheet.
 pub fn fit(bytes: &[u8], out: &mut [u8]) -> usize
-    ensures { λ r. ⌜ fitOutcome r (now (out .exit)) ≡ fitDef (now (bytes .entry)) (now (out .entry)) ⌝ }
-    ensures { λ r. ⌜ Counts r (now (out .exit)) ⌝ }
+    ensures { λ r. ⌜ (fitOutcome r (now (out .exit)) ≡ fitDef (now (bytes .entry)) (now (out .entry))) × Counts r (now (out .exit)) ⌝ }
 {
     if out.len() < MOST_TEXT {
         return 0;

@@ -44,8 +44,7 @@ fn put_sheet(
 
 // What `train` writes for these bytes, into `out`, and how many bytes that is: none where `out` has too little room for any sheet.
 pub fn train(bytes: &[u8], out: &mut [u8]) -> usize
-    ensures { λ r. ⌜ trainOutcome r (now (out .exit)) ≡ trainDef (now (bytes .entry)) (now (out .entry)) ⌝ }
-    ensures { λ r. ⌜ Counts r (now (out .exit)) ⌝ }
+    ensures { λ r. ⌜ (trainOutcome r (now (out .exit)) ≡ trainDef (now (bytes .entry)) (now (out .entry))) × Counts r (now (out .exit)) ⌝ }
 {
     if out.len() < MOST_BYTES {
         return 0;
