@@ -1,4 +1,4 @@
--- Those that choose or draw keep the second demand, and an advance reports its draws, which is of the third. Assumes nothing.
+-- Those that choose or draw keep the second demand. Assumes nothing.
 use Prim.Native.Nat.{ℕ}
 use mathlib.Core.Path.{_≡_, sym, _∙_}
 use mathlib.Core.List.{List}
@@ -16,12 +16,11 @@ use Rattle.assign.specs.Assign.{assignAnswer, assignDef}
 use Rattle.calls.proofs.Accepted.{few-pixels}
 use Rattle.demands.proofs.First.{first-demand}
 use Rattle.demands.proofs.Second.{second-demand}
-use Rattle.demands.proofs.Third.{third-demand}
 use Rattle.contracts.specs.Advance as advance
 use Rattle.contracts.specs.SingleFit as single-fit
 use Rattle.contracts.specs.BestTwo as best-two
 use Rattle.contracts.specs.Assign as assign
-use Rattle.contracts.specs.Contracts.{Second-kept, Reported}
+use Rattle.contracts.specs.Contracts.{Second-kept}
 use Rattle.contracts.proofs.Keeps.{keeps}
 use Rattle.contracts.proofs.Contracts.{contracts}
 
@@ -76,8 +75,3 @@ second-kept =
           let allotment = advance.allotment-given κs a in
           S .advance K m allotment (advance-accepted K m allotment h)) (contracts .advance);
     }
-
-pub reported : Reported
-reported =
-    keeps advance.compiled advance.defined advance.reports
-    (λ κs a. third-demand tileSize few-pixels (advance.course-given κs a) .reported (advance.memory-lent κs a) (advance.allotment-given κs a)) (contracts .advance)

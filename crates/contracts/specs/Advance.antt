@@ -1,5 +1,5 @@
 -- advance and its export: what they are given, what a caller sees, what is defined of it, and what the demands say of that. Definitions only. Assumes nothing.
-use Prim.Native.Nat.{ℕ, _+_}
+use Prim.Native.Nat.{ℕ, _+_, _/_}
 use mathlib.Core.Path.{_≡_}
 use lib.ListN.{getD}
 use contract.Lifetimes.{Lfts}
@@ -70,6 +70,10 @@ module _ (κs : Lfts (function.signature .lifetimes)) (a : Args function.signatu
 
   abbrev pub export-answers : Told Memory → Type 0
   export-answers = Tells Memory (answer (advanceRules tileSize course-given memory-lent)) memory-lent
+
+  -- what a host takes for the draws, the quotient by 256, is what the record has more
+  abbrev pub export-reports : Told Memory → Type 0
+  export-reports x = getD (x .after .words) 4 0 ≡ getD (memory-lent .words) 4 0 + x .answer / 256
 
 abbrev pub compiled : Compiled Outcome
 compiled = record { ended = function.ended; seen = seen; code = symbol.routine }

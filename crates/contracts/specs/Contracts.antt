@@ -68,5 +68,6 @@ pub record Second-kept : Type 2 where
   pub advance : Keeps advance.compiled advance.draws
 
 -- and an advance, of the third, that it reports the draws that its record has more
-abbrev pub Reported : Type 2
-Reported = Keeps advance.compiled advance.reports
+pub record Reported : Type 2 where
+  pub called : Keeps advance.compiled advance.reports
+  pub told : Keeps advance.exported advance.export-reports
