@@ -1,6 +1,7 @@
 pub mod Calls
 pub mod First
 pub mod Sheets
+pub mod Trained
 pub mod Runners
 pub mod Fits
 pub mod Draws

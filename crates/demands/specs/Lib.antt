@@ -3,6 +3,7 @@
 pub mod Calls
 pub mod First
 pub mod Sheets
+pub mod Trained
 pub mod Second
 pub mod Third
 pub mod Ends

@@ -1,6 +1,6 @@
 -- A sheet that was read, with another palette that passes: it is a sheet that the reader accepts, the same but for its palette. Assumes nothing.
 use Prim.Native.Nat.{ℕ, zero, suc}
-use mathlib.Core.Path.{_≡_, refl, ap, _∙_}
+use mathlib.Core.Path.{_≡_, ap, subst⁻¹, _∙_}
 use mathlib.Core.Bool.{true}
 use mathlib.Core.List.{List, [], _∷_}
 use lib.Dec.{T}
@@ -41,22 +41,9 @@ singles-all [] = singles-floats []
 singles-all (x ∷ v) = singles-append (tileFloats x) (allFloats v) (singles-tile x) (singles-all v)
 
 -- ---- the sheet repainted
--- y is x but for its palette, which is q
-pub record Repainted (x y : Sheet) (q : List Float) : Type 0 where
-  pub subs : y .subs ≡ x .subs
-  pub each : y .each ≡ x .each
-  pub tiles : y .tiles ≡ x .tiles
-  pub weight : y .weight ≡ x .weight
-  pub content : y .content ≡ x .content
-  pub job : jobOf y ≡ jobOf x
-  pub palette : floats (y .palette) ≡ q
-
 module _ (b : List ℕ) (x : Sheet) (h : T (areBytes b)) (e : readSheet edition1 b ≡ accepted x) (q : List Float) (Q : Singles q) (ok : plainAnswer tileSize (jobOf x) q true ≡ 0) where
   passed : Plain tileSize (jobOf x) q true
   passed = plain-ready tileSize (jobOf x) q true ok
-
-  pub near : Bounded q 2
-  near = passed .lent .near
 
   weighed : T (fits binary32 (jobOf x .weight))
   weighed = ofBits-fits binary32 (x .weight)
@@ -66,18 +53,21 @@ module _ (b : List ℕ) (x : Sheet) (h : T (areBytes b)) (e : readSheet edition1
       read-written (sheetOf (jobOf x) q) (sheet-good (jobOf x) (passed .ready) (singles-all (x .content)) weighed q (passed .lent) Q)
       (still-writable (jobOf x) (floats (x .palette)) q (writable b x h e) ok .small)
 
-  pub repainted : Repainted x (sheetOf (jobOf x) q) q
-  repainted =
-      let same = sheet-again x (written-read b x h e .1) in
-      record {
-        subs = refl;
-        each = refl;
-        tiles = refl;
-        weight = ap (λ (y : Sheet). y .weight) same;
-        content = ap (λ (y : Sheet). y .content) same;
-        job = job-back (jobOf x) (passed .ready) (singles-all (x .content)) weighed q (passed .lent) Q;
-        palette = palette-back (jobOf x) (passed .ready) (singles-all (x .content)) weighed q (passed .lent) Q;
-      }
+  -- patterns and tiles are those that were read, the job is the same, and the palette the other
+  pub same-weight : sheetOf (jobOf x) q .weight ≡ x .weight
+  same-weight = ap (λ (y : Sheet). y .weight) (sheet-again x (written-read b x h e .1))
+
+  pub same-content : sheetOf (jobOf x) q .content ≡ x .content
+  same-content = ap (λ (y : Sheet). y .content) (sheet-again x (written-read b x h e .1))
+
+  pub same-job : jobOf (sheetOf (jobOf x) q) ≡ jobOf x
+  same-job = job-back (jobOf x) (passed .ready) (singles-all (x .content)) weighed q (passed .lent) Q
+
+  pub its-palette : floats (sheetOf (jobOf x) q .palette) ≡ q
+  its-palette = palette-back (jobOf x) (passed .ready) (singles-all (x .content)) weighed q (passed .lent) Q
+
+  pub its-bound : Bounded (floats (sheetOf (jobOf x) q .palette)) 2
+  its-bound = subst⁻¹ (λ (v : List Float). Bounded v 2) its-palette (passed .lent .near)
 
   -- in as many bytes
   pub repainted-long : length (encode (sheet edition1) (sheetOf (jobOf x) q)) ≡ length b
