@@ -1,7 +1,6 @@
 pub mod Calls
 pub mod First
 pub mod Sheets
-pub mod Trained
 pub mod Runners
 pub mod Fits
 pub mod Draws
@@ -12,4 +11,5 @@ pub mod Division
 pub mod Third
 pub mod Ends
 pub mod Finish
+pub mod Trained
 pub mod Examples
