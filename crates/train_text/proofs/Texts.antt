@@ -1,31 +1,29 @@
 -- What is written for a job, by the number of its samples. Assumes nothing.
 use Prim.Native.Nat.{ℕ, _*_, _/_, _≤_}
-use mathlib.Core.Path.{_≡_, refl, sym, ap, ap₂, subst, subst⁻¹, _∙_}
+use mathlib.Core.Path.{_≡_, sym, ap, ap₂, subst, subst⁻¹, _∙_}
 use native.Mathlib.Omega.{arith}
-use mathlib.Core.Bool.{Bool, true, cond}
+use mathlib.Core.Bool.{true}
 use mathlib.Core.Logic.{_≢_}
 use mathlib.Core.List.{List}
-use lib.ListN.{length, take, replicate, length-replicate}
+use lib.ListN.{length, take}
 use lib.Ieee.{Float}
-use borrow.Author.Tests.{eq-eqb, ne-eqb}
 use Rattle.format.specs.Format.{encode}
 use Rattle.job.specs.Job.{Job, tileSize, mostSamples}
 use Rattle.quantizer.specs.Course.{Course, course}
 use Rattle.job.specs.Rules.{Passed}
-use Rattle.stages.specs.Calls.{Memory, memory, jobRules}
-use Rattle.calls.specs.Accepted.{Roomy}
+use Rattle.stages.specs.Calls.{jobRules}
 use Rattle.sheet_format.specs.Sheet.{edition1, sheet}
 use Rattle.sheet_pack.specs.Packed.{sheetOf}
 use Rattle.sheet.proofs.Inverse.{sets-front}
 use Rattle.sheet_parts.specs.Begins.{Writable}
 use Rattle.fit_lines.specs.Lines.{Stored, refusedLine}
-use Rattle.training.proofs.ByCalls.{trained-fits}
 use Rattle.train_refusal.specs.Refusal.{refusalOf}
 use Rattle.train_refusal.proofs.Accepted.{not-refused}
 use Rattle.train_samples.specs.Samples.{samplesTo, unitsTo}
 use Rattle.train_samples.proofs.Numbers.{length-samples}
 use Rattle.train_text.specs.Trained.{courseOf, trainedPalette, trainedFile, jobText, Drawable}
-use Rattle.train_text.proofs.Rules.{palette-long, repainted, run-passed}
+use Rattle.train_text.proofs.Rules.{palette-long}
+use Rattle.train_text.proofs.Trains.{text-refused, text-sheet, run-taken, trained-passes}
 use Rattle.sheet_parts.proofs.Files.{still-writable}
 
 -- ---- the samples stored
@@ -47,9 +45,7 @@ module _ (J : Job) (p : List Float) (W : Writable J p) (samples after : List ℕ
     by-text x e t = subst (λ (y : List ℕ). Stored out written 0 r y) e t
 
     pub refused-text : (k : ℕ) → k ≡ refusalOf (m / 2) → k ≢ 0 → Stored out written 0 r (refusedLine k) → Stored out written 0 r (jobText J)
-    refused-text k e z t =
-        by-text (refusedLine (refusalOf n)) (unfold jobText courseOf in sym (ap (λ (b : Bool). cond b (trainedFile J) (refusedLine (refusalOf n))) (ne-eqb (refusalOf n) 0 (λ (q : refusalOf n ≡ 0). z (e ∙ ap refusalOf half ∙ q)))))
-        (subst (λ (i : ℕ). Stored out written 0 r (refusedLine i)) (e ∙ ap refusalOf half) t)
+    refused-text k e z t = by-text (refusedLine k) (sym (text-refused J k (e ∙ ap refusalOf half) z)) t
 
   -- ---- as many as a run takes
   module _ (k : ℕ) (e : k ≡ refusalOf (m / 2)) (z : k ≡ 0) where
@@ -77,26 +73,19 @@ module _ (J : Job) (p : List Float) (W : Writable J p) (samples after : List ℕ
 
       pub drawable : Drawable (course J (m / 2) (take m after)) p
       drawable = record {
-        passed = subst⁻¹ (λ (K : Course). Passed (jobRules tileSize K true)) is (unfold courseOf in run-passed J p (W .passed) some few);
+        passed = subst⁻¹ (λ (K : Course). Passed (jobRules tileSize K true)) is (run-taken J p (W .passed) some few);
         long = palette-long J p (W .passed);
       }
 
-      any-memory : Memory
-      any-memory = memory (replicate (m / 2) 0) (replicate (J .T) 0) p p (replicate 6 0)
-
-      its-room : Roomy K any-memory
-      unfolding any-memory
-      its-room = record { order = length-replicate (m / 2) 0; hints = length-replicate (J .T) 0; palette = drawable .long; least = drawable .long; words = refl }
-
       -- the palette that they train can be written, and its sheet is what is written for the job
       module _ (x : List Float) (t : x ≡ trainedPalette (course J (m / 2) (take m after))) where
+        same : x ≡ trainedPalette (courseOf J)
+        same = t ∙ ap trainedPalette is
+
         pub trained-writable : Writable J x
-        unfolding trainedPalette any-memory
-        trained-writable =
-            let f = trained-fits K (drawable .passed) any-memory its-room in
-            subst⁻¹ (Writable J) t (still-writable J p (trainedPalette K) W (repainted J p (W .passed) (trainedPalette K) (f .0) (f .1)))
+        trained-writable = subst⁻¹ (Writable J) same (still-writable J p (trainedPalette (courseOf J)) W (trained-passes J p (W .passed) some few))
 
         pub trained-text : (out written : List ℕ) (r : ℕ) → Stored out written 0 r (encode (sheet edition1) (sheetOf J x)) → Stored out written 0 r (jobText J)
         trained-text out written r f =
-            by-text out written r (trainedFile J) (unfold jobText courseOf in sym (ap (λ (b : Bool). cond b (trainedFile J) (refusedLine (refusalOf n))) (eq-eqb (refusalOf n) 0 (sym (e ∙ ap refusalOf half) ∙ z))))
-            (unfold trainedFile in subst (λ (y : List Float). Stored out written 0 r (encode (sheet edition1) (sheetOf J y))) (t ∙ ap trainedPalette is) f)
+            by-text out written r (trainedFile J) (sym (text-sheet J some few))
+            (unfold trainedFile in subst (λ (y : List Float). Stored out written 0 r (encode (sheet edition1) (sheetOf J y))) same f)
