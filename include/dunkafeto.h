@@ -86,7 +86,7 @@ enum dunkafeto_numbers {
     DUNKAFETO_SIZES = 2,         /* S, C or T is outside its range, or n is above 16,384 */
     DUNKAFETO_LENGTHS = 3,       /* a slice is longer or shorter than the sizes ask */
     DUNKAFETO_WEIGHT = 4,        /* the weight is not above 0, is above 16, or is NaN */
-    DUNKAFETO_TILES = 5,         /* tiles leave a gap or overlap, one has more than 64 colours, or all have more than 16,384 or not as many as are lent */
+    DUNKAFETO_TILES = 5,         /* tiles leave a gap or overlap, one has above 64 colours, or all above 16,384 or not as many as are lent */
     DUNKAFETO_COUNTS = 6,        /* a colour counted 0 times, or a tile more than 64 */
     DUNKAFETO_COMPONENTS = 7,    /* a component given is above 2 in magnitude, or one that a run holds above 4, or either is not finite */
     DUNKAFETO_SAMPLES = 8,       /* a sample's tile is not there, or has no such colour */
