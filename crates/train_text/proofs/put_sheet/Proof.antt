@@ -3,10 +3,10 @@ use Prim.Native.Nat.{ℕ, _+_, _*_}
 use mathlib.Core.Path.{ap₂}
 use native.Mathlib.Omega.{arith}
 use Rattle.sheet_parts.proofs.Parts.{few-colours, tiles-long, colours-long, counts-long, palette-long, front-long}
-use Rattle.train.proofs.Lists.{parts-writable, parts-written}
+use Rattle.train_text.proofs.Lists.{parts-writable, parts-written}
 use borrow.Author.Needs.{needs}
-use Rattle.train.proofs.text.put_sheet.Statement.{statement}
-use Rattle.train.proofs.text.put_sheet.Tie as tie
+use Rattle.train_text.proofs.put_sheet.Statement.{statement}
+use Rattle.train_text.proofs.put_sheet.Tie as tie
 
 sub-last : tie.Need-sub-last
 sub-last c = search needs

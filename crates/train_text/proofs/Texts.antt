@@ -24,8 +24,8 @@ use Rattle.train_refusal.specs.Refusal.{refusalOf}
 use Rattle.train_refusal.proofs.Accepted.{not-refused}
 use Rattle.train_samples.specs.Samples.{samplesTo, unitsTo}
 use Rattle.train_samples.proofs.Numbers.{length-samples}
-use Rattle.train.specs.Trained.{courseOf, trainedPalette, trainedFile, jobText, Drawable}
-use Rattle.train.proofs.Rules.{palette-long, repainted, run-passed}
+use Rattle.train_text.specs.Trained.{courseOf, trainedPalette, trainedFile, jobText, Drawable}
+use Rattle.train_text.proofs.Rules.{palette-long, repainted, run-passed}
 use Rattle.sheet_parts.proofs.Files.{still-writable}
 
 -- ---- the samples stored

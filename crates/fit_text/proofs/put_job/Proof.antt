@@ -3,10 +3,10 @@ use Prim.Native.Nat.{ℕ, _+_, _*_}
 use mathlib.Core.Path.{sym, ap₂}
 use native.Mathlib.Omega.{arith}
 use Rattle.sheet_parts.proofs.Parts.{few-tiles, tiles-long, few-colours, colours-long, counts-long, palette-long, front-long}
-use Rattle.fit.proofs.Lists.{shown-parts, parts-printed}
+use Rattle.fit_text.proofs.Lists.{shown-parts, parts-printed}
 use borrow.Author.Needs.{needs}
-use Rattle.fit.proofs.text.put_job.Statement.{statement}
-use Rattle.fit.proofs.text.put_job.Tie as tie
+use Rattle.fit_text.proofs.put_job.Statement.{statement}
+use Rattle.fit_text.proofs.put_job.Tie as tie
 
 no-hints-requires : tie.Need-no-hints-requires
 no-hints-requires c κs = search needs

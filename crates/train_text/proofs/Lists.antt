@@ -8,7 +8,7 @@ use Rattle.job.specs.Job.{Job, job, firstOf, sizeOf}
 use Rattle.sheet_parts.specs.Begins.{Writable, Begins}
 use Rattle.sheet_parts.proofs.Parts.{parts-say, lists-say}
 use Rattle.fit_lines.specs.Lines.{Stored}
-use Rattle.train.specs.Trained.{jobText}
+use Rattle.train_text.specs.Trained.{jobText}
 
 module _ (s c t : ℕ) (w : Float) (tiles : List ℕ) (colours : List Float) (counts : List ℕ) (palette : List Float) (tb : List ℕ) (f : List Float) (cs : List ℕ) (p : List Float)
     (B : Begins tiles colours counts palette (job s c t w tb f cs) p) (n : ℕ) (e : n ≡ firstOf tiles (t - 1) + sizeOf tiles (t - 1)) where

@@ -1,10 +1,13 @@
 // What `train` writes for a sheet: a refusal's line, or the sheet with the palette that its tiles train. Assumes nothing.
+mod run;
+mod trained;
+
 ghost use mathlib.Core.Path.{_≡_};
 ghost use Prim.Native.Nat.{_≤_};
 ghost use lib.ListN.{length};
 ghost use Rattle.io.specs.Counts.{Counts};
 ghost use Rattle.sheet_parts.specs.Begins.{Holds};
-ghost use Rattle.train.specs.Train.{trainOutcome, trainDef, Writes};
+ghost use Rattle.train_text.specs.Train.{trainOutcome, trainDef, Writes};
 
 // The bytes that any sheet takes, at most.
 const MOST_BYTES: usize = 65536;
@@ -26,7 +29,7 @@ fn put_sheet(
 {
     let last = t - 1;
     let n = job::first_of(tiles, last) + job::size_of(tiles, last);
-    crate::trained::put_job(
+    trained::put_job(
         s,
         c,
         t,

@@ -2,11 +2,11 @@
 use native.Mathlib.Omega.{arith}
 use Rattle.sheet_parts.proofs.Parts.{front-long}
 use Rattle.fit_tiles.proofs.Lengths.{refused-most}
-use Rattle.train.proofs.Rules.{countable}
-use Rattle.train.proofs.Texts.{refused-text, taken, drawable, trained-writable, trained-text}
+use Rattle.train_text.proofs.Rules.{countable}
+use Rattle.train_text.proofs.Texts.{refused-text, taken, drawable, trained-writable, trained-text}
 use borrow.Author.Needs.{needs}
-use Rattle.train.proofs.trained.put_job.Statement.{statement}
-use Rattle.train.proofs.trained.put_job.Tie as tie
+use Rattle.train_text.proofs.trained.put_job.Statement.{statement}
+use Rattle.train_text.proofs.trained.put_job.Tie as tie
 
 samples-room-requires : tie.Need-samples-room-requires
 samples-room-requires c κs = tt

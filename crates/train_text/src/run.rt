@@ -7,7 +7,7 @@ ghost use Rattle.job.specs.Job.{job};
 ghost use Rattle.quantizer.specs.Course.{course};
 ghost use Rattle.stages.specs.Calls.{memory};
 ghost use Rattle.training.specs.Training.{turnCalls};
-ghost use Rattle.train.specs.Trained.{trainedPalette, Drawable};
+ghost use Rattle.train_text.specs.Trained.{trainedPalette, Drawable};
 
 const SEED: u64 = 0;
 

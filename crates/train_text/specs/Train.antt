@@ -12,7 +12,7 @@ use Rattle.fit_lines.specs.Lines.{Stored, refusedLine}
 use Rattle.sheet_format.specs.Sheet.{Sheet, edition1, readSheet}
 use Rattle.sheet.specs.Sheets.{jobOf}
 use Rattle.sheet_parts.specs.Begins.{Begins}
-use Rattle.train.specs.Trained.{jobText}
+use Rattle.train_text.specs.Trained.{jobText}
 
 -- a refusal's line, or what is written for the job that the sheet holds
 abbrev pub textOf : Answer Sheet → List ℕ

@@ -15,8 +15,8 @@ use Rattle.calls.specs.Accepted.{Roomy}
 use Rattle.calls.proofs.Accepted.{job-passed}
 use Rattle.training.specs.Training.{trained, turnCalls}
 use Rattle.train_parts.proofs.Hints.{no-hint}
-use Rattle.train.proofs.Joined.{run-joined}
-use Rattle.train.specs.Trained.{trainedPalette, Drawable}
+use Rattle.train_text.proofs.Joined.{run-joined}
+use Rattle.train_text.specs.Trained.{trainedPalette, Drawable}
 
 module _ (K : Course) (p : List Float) (D : Drawable K p) where
   checked : Sampled tileSize (K .job) (K .n) (K .samples) true

@@ -3,10 +3,10 @@ use native.Mathlib.Omega.{arith}
 use Rattle.sheet.specs.Sheets.{room}
 use Rattle.sheet_parts.proofs.Readings.{are-bytes}
 use Rattle.fit_tiles.proofs.Lengths.{refused-most}
-use Rattle.train.proofs.Sheets.{no-place, printed, refusal-is, holds, text-is, counts}
+use Rattle.train_text.proofs.Sheets.{no-place, printed, refusal-is, holds, text-is, counts}
 use borrow.Author.Needs.{needs}
-use Rattle.train.proofs.text.train.Statement.{statement}
-use Rattle.train.proofs.text.train.Tie as tie
+use Rattle.train_text.proofs.train.Statement.{statement}
+use Rattle.train_text.proofs.train.Tie as tie
 
 returns : tie.Need-returns
 returns c = (no-place (c .before .before .before .args .bytes .now) (c .before .before .before .args .out .now) (c .if1 .taken), counts 0 (c .before .before .before .args .out .now) (omega arith))

@@ -1,10 +1,10 @@
 -- `train_palette` meets its contract: the memory that it lends has the run's lengths, and its hints are 0. Assumes nothing.
 use Prim.Native.Nat.{_*_}
 use Rattle.sheet_parts.proofs.Parts.{front-long}
-use Rattle.train.proofs.Rooms.{samples-fit, tiles-fit, numbers-fit, palette-fits, trained-there}
+use Rattle.train_text.proofs.Rooms.{samples-fit, tiles-fit, numbers-fit, palette-fits, trained-there}
 use borrow.Author.Needs.{needs}
-use Rattle.train.proofs.run.train_palette.Statement.{statement}
-use Rattle.train.proofs.run.train_palette.Tie as tie
+use Rattle.train_text.proofs.run.train_palette.Statement.{statement}
+use Rattle.train_text.proofs.run.train_palette.Tie as tie
 
 order-room-requires : tie.Need-order-room-requires
 order-room-requires c κs = tt

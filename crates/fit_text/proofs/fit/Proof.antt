@@ -2,11 +2,11 @@
 use native.Mathlib.Omega.{arith}
 use Rattle.sheet.specs.Sheets.{room}
 use Rattle.sheet_parts.proofs.Readings.{are-bytes}
-use Rattle.fit.proofs.Sheets.{no-place, printed, refusal-is, holds, within, text-is, counts}
+use Rattle.fit_text.proofs.Sheets.{no-place, printed, refusal-is, holds, within, text-is, counts}
 use Rattle.fit_tiles.proofs.Lengths.{refused-most}
 use borrow.Author.Needs.{needs}
-use Rattle.fit.proofs.text.fit.Statement.{statement}
-use Rattle.fit.proofs.text.fit.Tie as tie
+use Rattle.fit_text.proofs.fit.Statement.{statement}
+use Rattle.fit_text.proofs.fit.Tie as tie
 
 returns : tie.Need-returns
 returns c = (

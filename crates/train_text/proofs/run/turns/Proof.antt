@@ -5,9 +5,9 @@ use Rattle.job.specs.Job.{job}
 use Rattle.quantizer.specs.Course.{course}
 use Rattle.stages.specs.Calls.{memory}
 use Rattle.sheet_parts.proofs.Parts.{front-long}
-use Rattle.train.proofs.Joined.{Turned, none-turned, one-more, next-fits, nearer, all-turned}
-use Rattle.train.proofs.run.turns.Statement.{statement}
-use Rattle.train.proofs.run.turns.Tie as tie
+use Rattle.train_text.proofs.Joined.{Turned, none-turned, one-more, next-fits, nearer, all-turned}
+use Rattle.train_text.proofs.run.turns.Statement.{statement}
+use Rattle.train_text.proofs.run.turns.Tie as tie
 
 abbrev Inv-loop : tie.InvT-loop
 Inv-loop s c t n weight tiles colours counts samples order₀ hints₀ palette₀ least₀ words₀ passed₀ order hints palette least words passed =

@@ -5,7 +5,7 @@ ghost use Prim.Native.Nat.{_≤_};
 ghost use lib.ListN.{length};
 ghost use Rattle.io.specs.Counts.{Counts};
 ghost use Rattle.sheet_parts.specs.Begins.{Holds};
-ghost use Rattle.fit.specs.Fit.{fitOutcome, fitDef, Prints};
+ghost use Rattle.fit_text.specs.Fit.{fitOutcome, fitDef, Prints};
 
 // The bytes that any sheet's lines take, at most.
 const MOST_TEXT: usize = 34060;

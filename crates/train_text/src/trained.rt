@@ -5,7 +5,7 @@ ghost use lib.ListN.{length};
 ghost use Rattle.job.specs.Job.{job};
 ghost use Rattle.sheet_parts.specs.Begins.{Writable};
 ghost use Rattle.fit_lines.specs.Lines.{Stored};
-ghost use Rattle.train.specs.Trained.{jobText};
+ghost use Rattle.train_text.specs.Trained.{jobText};
 
 // What is written for a job: its sheet trained, or a refusal's line. The palette is lent to the run.
 pub fn put_job(
