@@ -4,7 +4,7 @@ use mathlib.Core.Path.{_≡_}
 use mathlib.Core.Logic.{_≢_}
 use Rattle.told.specs.Packed.{Told, told}
 
--- `table` is the number that the paper's table gives; `refusal k` is number k with nothing reported and nothing written
+-- `table` is the number that the table of docs/SCOPE.md gives; `refusal k` is number k with nothing reported and nothing written
 pub record Answers (O : Type 0) (number : O → ℕ) (table : ℕ) (refusal : ℕ → O) (x : O) : Type 0 where
   pub numbered : number x ≡ table
   pub refuses : table ≢ 0 → x ≡ refusal table
