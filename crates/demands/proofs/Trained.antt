@@ -1,15 +1,15 @@
 -- What `train` writes is a sheet that the reader accepts, or the line of a refusal. Assumes nothing.
 use Prim.Native.Nat.{ℕ, _≤_, _<_}
-use mathlib.Core.Path.{_≡_, refl, ap, _∙_}
+use mathlib.Core.Path.{_≡_, refl, sym, ap, subst, _∙_}
+use native.Mathlib.Nat.{zero-add}
 use native.Mathlib.Omega.{arith}
-use mathlib.Core.Bool.{Bool, true, cond}
+use mathlib.Core.Bool.{true}
 use mathlib.Core.List.{List}
 use lib.Dec.{T}
 use lib.Pow.{areBytes}
 use lib.ListN.{length, take}
 use lib.Seq.{sets}
 use lib.Ieee.{Float}
-use borrow.Author.Tests.{le-leb}
 use Rattle.format.specs.Format.{Answer, refused, accepted, encode}
 use Rattle.job.specs.Job.{tileSize}
 use Rattle.job.specs.Checks.{plainAnswer}
@@ -26,16 +26,16 @@ use Rattle.training.proofs.Singles.{trained-singles}
 use Rattle.train_refusal.proofs.Accepted as refusals
 use Rattle.train_text.specs.Trained.{courseOf, trainedPalette, trainedFile}
 use Rattle.train_text.specs.Train.{textOf, TrainOutcome, trainOutcome, trainDef}
+use Rattle.train_text.proofs.Sheets.{no-place, printed}
 use Rattle.train_text.proofs.Trains.{text-refused, text-sheet, trained-passes}
 use Rattle.demands.specs.Trained.{samples, written, Trained-as, Read-back, Line, Trained}
 
 module _ (bytes room : List ℕ) (enough : 65536 ≤ length room) where
   -- what is stored, by what the reader says
   stored : (a : Answer Sheet) (text : List ℕ) → readSheet edition1 bytes ≡ a → textOf a ≡ text → trainDef bytes room ≡ trainOutcome (length text) (sets room 0 text)
-  unfolding trainDef
   stored a text e t =
-      ap (λ (b : Bool). cond b (trainOutcome (length (textOf (readSheet edition1 bytes))) (sets room 0 (textOf (readSheet edition1 bytes)))) (trainOutcome 0 room)) (le-leb 65536 (length room) enough)
-      ∙ ap (λ (l : List ℕ). trainOutcome (length l) (sets room 0 l)) (ap textOf e ∙ t)
+      subst (λ (l : List ℕ). trainDef bytes room ≡ trainOutcome (length l) (sets room 0 l)) (ap textOf e ∙ t)
+      (sym (printed bytes room _ _ enough (record { text = refl; place = sym (zero-add _) })))
 
   module _ (x : Sheet) (e : readSheet edition1 bytes ≡ accepted x) where
     line-1 : samples x ≡ 0 → Line bytes room 1
@@ -86,10 +86,13 @@ module _ (bytes room : List ℕ) (enough : 65536 ≤ length room) where
         long = ap length whole ∙ long;
       }
 
-pub train-writes : (bytes room : List ℕ) → T (areBytes bytes) → 65536 ≤ length room → Trained bytes room
-train-writes bytes room b enough = record {
-  sheet = λ x e some few. read-back bytes room enough x e b some few;
-  none = λ x e z. line-1 bytes room enough x e z;
-  many = λ x e l. line-2 bytes room enough x e l;
-  no-sheet = λ n e. stored bytes room enough (refused n) (refusedLine n) e refl;
+pub train-writes : Trained
+train-writes = record {
+  writes = λ bytes room b enough. record {
+    sheet = λ x e some few. read-back bytes room enough x e b some few;
+    none = λ x e z. line-1 bytes room enough x e z;
+    many = λ x e l. line-2 bytes room enough x e l;
+    no-sheet = λ n e. stored bytes room enough (refused n) (refusedLine n) e refl;
+  };
+  no-room = λ bytes room h. sym (no-place bytes room h);
 }

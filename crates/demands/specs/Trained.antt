@@ -3,6 +3,8 @@
 use Prim.Native.Nat.{ℕ, _≤_, _<_}
 use mathlib.Core.Path.{_≡_}
 use mathlib.Core.List.{List}
+use lib.Dec.{T}
+use lib.Pow.{areBytes}
 use lib.ListN.{length, take}
 use lib.Seq.{sets}
 use Rattle.color.specs.Color.{Bounded}
@@ -49,9 +51,14 @@ module _ (bytes room : List ℕ) where
   abbrev pub Line : ℕ → Type 0
   Line n = trainDef bytes room ≡ trainOutcome (length (refusedLine n)) (sets room 0 (refusedLine n))
 
-  pub record Trained : Type 0 where
+  -- a sheet with some samples and not too many is trained; a sheet with none, one with more, and what is no sheet get their number
+  pub record Writes : Type 0 where
     pub sheet : (x : Sheet) → readSheet edition1 bytes ≡ accepted x → 1 ≤ samples x → samples x ≤ 16384 → Read-back x
-    -- no samples, too many, and no sheet
     pub none : (x : Sheet) → readSheet edition1 bytes ≡ accepted x → samples x ≡ 0 → Line 1
     pub many : (x : Sheet) → readSheet edition1 bytes ≡ accepted x → 16384 < samples x → Line 2
     pub no-sheet : (n : ℕ) → readSheet edition1 bytes ≡ refused n → Line n
+
+-- for all bytes, in room for any sheet; in less room nothing is written
+pub record Trained : Type 0 where
+  pub writes : (bytes room : List ℕ) → T (areBytes bytes) → 65536 ≤ length room → Writes bytes room
+  pub no-room : (bytes room : List ℕ) → length room < 65536 → trainDef bytes room ≡ trainOutcome 0 room
