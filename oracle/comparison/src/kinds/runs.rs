@@ -10,6 +10,7 @@ use terms::{Colour, Job, Ran, Sample, Steps, Tile};
 use super::{Kind, kind};
 use crate::call::{Ask, Call, Memory, Outcome};
 use crate::damage::runs as damage;
+use crate::lent::nans;
 use crate::reading::run::outcome;
 use crate::tally::Tally;
 use crate::{ours, saved};
@@ -20,16 +21,24 @@ pub const KINDS: &[Kind] = &[
     kind("largest run", 1, 20, largest),
 ];
 
-/// Every call on one memory.
+/// Every call on one memory, and now and then once more with no number in its palettes.
 fn calls(rng: &mut Rng, _: u64, tally: &mut Tally) {
     let mut call = damage::good(rng);
     let mut asks = damage::asks(rng, &call);
     damage::damaged(rng, &mut call, &mut asks);
-    for ask in &asks {
-        let right = outcome(&call, ask);
+    asked(&call, &asks, tally);
+    if rng.once_in(4) {
+        asked(&call.without_numbers(), &asks, tally);
+    }
+}
+
+fn asked(call: &Call, asks: &[Ask], tally: &mut Tally) {
+    for ask in asks {
+        let right = outcome(call, ask);
         tally.answered(ask.name(), right.number);
         tally.add("draws", right.draws);
-        tally.same(ours::answer(&call, ask), right, || format!("{ask:?} {call:?}"));
+        tally.left(right.floats());
+        tally.same(ours::answer(call, ask), right, || format!("{ask:?} {call:?}"));
     }
 }
 
@@ -167,7 +176,7 @@ impl Whole {
         }
         let stage = if rng.once_in(30) { rng.below(8) as u64 } else { call.stage() };
         match stage {
-            7 => Ask::Result(vec![f32::NAN; call.memory.palette.len()]),
+            7 => Ask::Result(nans(call.memory.palette.len())),
             3 | 5 | 6 => Ask::HandIn(self.reduction.reduced(rng, &self.job, &call.memory.palette)),
             _ => Ask::Advance(allotment(rng, call.n as u64 / 10)),
         }
