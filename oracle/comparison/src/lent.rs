@@ -55,8 +55,8 @@ pub fn bits(values: &[f32]) -> Vec<u32> {
     values.iter().map(|x| x.to_bits()).collect()
 }
 
-/// NaNs of which no two have the same bits: quiet and signalling, of both signs, none of them one that arithmetic makes. A contract
-/// cannot tell them apart, so memory that has to stay is full of them.
+/// NaNs of which no two have the same bits: quiet and signalling, of both signs, none of them one that arithmetic makes of numbers. A
+/// contract cannot tell them apart, so memory that has to stay is full of them.
 pub fn nans(n: usize) -> Vec<f32> {
     let nan = |k: u32| {
         // an odd factor spreads the payloads over their 22 bits and keeps them apart, and from 0

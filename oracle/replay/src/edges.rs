@@ -11,7 +11,7 @@ use crate::calls::{self, Entries, Job, Memory};
 use crate::leaves::digested;
 use crate::list::{List, Read};
 
-/// What stands in lent memory before a call: as a float it is a NaN that no arithmetic makes.
+/// What stands in lent memory before a call: as a float it is a signalling NaN.
 const FOUND: u32 = 0x7fa5_a5a5;
 /// The numbers of a palette, tile entries and counts that a reading has room for.
 const ROOM: [usize; 3] = [768, 2048, 5140];

@@ -101,7 +101,7 @@ fn example(_: &mut Rng, _: u64, tally: &mut Tally) {
     tally.same(fitted, lines.join("\n").into_bytes(), || "the example's lines".to_string());
 }
 
-/// NaNs are lent that differ from each other and from those that arithmetic makes; whichever becomes one of these, it is seen.
+/// NaNs are lent that differ from each other and from those that arithmetic makes of numbers; whichever becomes one of these, it is seen.
 fn replaced(rng: &mut Rng, _: u64, tally: &mut Tally) {
     const MADE: [u32; 2] = [0x7fc0_0000, 0xffc0_0000];
     let all = nans(15_420);

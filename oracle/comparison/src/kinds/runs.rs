@@ -121,6 +121,10 @@ impl Whole {
         let mut stops = Vec::new();
         let mut finished = false;
         while !finished {
+            if self.call.stage() != 2 && rng.once_in(3) {
+                // nobody looks there, and nobody writes
+                self.call.memory.least = nans(self.call.memory.least.len());
+            }
             let leg = self.leg(rng);
             let asks: Vec<Ask> = leg.iter().map(|planned| planned.ask.clone()).collect();
             let ours = if leaves && rng.once_in(3) {
@@ -161,7 +165,12 @@ impl Whole {
             };
             call.memory = right.memory.clone();
             let ended = matches!(ask, Ask::Result(_)) && accepted;
-            leg.push(Planned { ask, right, rusts: (draws, Memory::standing(&self.job, &self.steps.held())) });
+            let mut rusts = Memory::standing(&self.job, &self.steps.held());
+            if call.stage() != 2 {
+                // the Rust has no second palette then
+                rusts.least = right.memory.least.clone();
+            }
+            leg.push(Planned { ask, right, rusts: (draws, rusts) });
             if ended {
                 break;
             }
@@ -186,6 +195,7 @@ impl Whole {
         let Planned { ask, right, rusts } = planned;
         tally.answered(ask.name(), right.number);
         tally.add("draws", right.draws);
+        tally.left(right.floats());
         let shown = || format!("{ask:?} of seed {:x}, {:?}", self.seed, self.job);
         tally.same((right.draws, right.memory.clone()), rusts, shown);
         tally.same(ours, right, shown);
