@@ -2,6 +2,7 @@
 
 use terms::{Held, Job, Palette};
 
+use crate::lent::nans;
 use crate::table::Given;
 use crate::tally::Same;
 
@@ -55,8 +56,8 @@ impl Call {
             memory: Memory {
                 order: vec![u32::MAX; n],
                 hints: vec![u32::MAX; job.tiles.len()],
-                palette: vec![f32::NAN; places],
-                least: vec![f32::NAN; places],
+                palette: nans(places),
+                least: nans(places),
                 record: vec![u64::MAX; 6],
             },
         }
@@ -69,6 +70,13 @@ impl Call {
 
     pub fn stage(&self) -> u64 {
         self.memory.record[1]
+    }
+
+    /// The same with no number in either palette: only a start is accepted then.
+    pub fn without_numbers(&self) -> Self {
+        let mut call = self.clone();
+        [&mut call.memory.palette, &mut call.memory.least].into_iter().for_each(|floats| *floats = nans(floats.len()));
+        call
     }
 }
 
@@ -122,6 +130,11 @@ impl Outcome {
     pub fn unchanged(number: u32, call: &Call, ask: &Ask) -> Self {
         let colours = ask.colours().unwrap_or_default().to_vec();
         Outcome { number, draws: 0, memory: call.memory.clone(), colours, kept: true }
+    }
+
+    /// All floats that are lent to be written, as they are left.
+    pub fn floats(&self) -> impl Iterator<Item = &f32> {
+        [&self.memory.palette, &self.memory.least, &self.colours].into_iter().flatten()
     }
 }
 

@@ -5,6 +5,7 @@ pub mod sheets;
 
 use terms::rng::Rng;
 
+use crate::lent::nans;
 use crate::table::Given;
 
 /// A length, a number or an entry that is wrong, or only at its limit.
@@ -23,7 +24,8 @@ pub fn damage(rng: &mut Rng, given: &mut Given, palette: &mut Vec<f32>) {
         7 | 8 => component(rng, &mut given.colours, 2.0),
         9 => component(rng, palette, 2.0),
         10 => colour_more(rng, given),
-        _ => {}
+        _ if rng.once_in(2) => given.colours = nans(given.colours.len()),
+        _ => *palette = nans(palette.len()),
     }
 }
 
@@ -123,7 +125,8 @@ pub fn component(rng: &mut Rng, numbers: &mut [f32], limit: f32) {
     if numbers.is_empty() {
         return;
     }
-    let size = rng.pick(&[limit, limit.next_up(), limit.next_down(), f32::NAN, f32::INFINITY, f32::MAX, 0.0, 2.5]);
+    let nan = rng.pick(&nans(64));
+    let size = rng.pick(&[limit, limit.next_up(), limit.next_down(), nan, f32::INFINITY, f32::MAX, 0.0, 2.5]);
     let place = rng.below(numbers.len());
     numbers[place] = if rng.once_in(2) { -size } else { size };
 }

@@ -44,6 +44,28 @@ impl<T: Copy + Same> Lent<T> {
     }
 }
 
+impl Lent<f32> {
+    /// The values by their bits, in which one NaN is not another.
+    pub fn bits(&self) -> Vec<u32> {
+        bits(self.values())
+    }
+}
+
+pub fn bits(values: &[f32]) -> Vec<u32> {
+    values.iter().map(|x| x.to_bits()).collect()
+}
+
+/// NaNs of which no two have the same bits: quiet and signalling, of both signs, none of them one that arithmetic makes of numbers. A
+/// contract cannot tell them apart, so memory that has to stay is full of them.
+pub fn nans(n: usize) -> Vec<f32> {
+    let nan = |k: u32| {
+        // an odd factor spreads the payloads over their 22 bits and keeps them apart, and from 0
+        let (sign, quiet, payload) = (k & 1, k >> 1 & 1, (k / 4 + 1).wrapping_mul(0x1_0041) & 0x3f_ffff);
+        f32::from_bits(sign << 31 | 0x7f80_0000 | quiet << 22 | payload)
+    };
+    (0..n as u32).map(nan).collect()
+}
+
 pub fn floats(values: &[f32]) -> Lent<f32> {
     Lent::new(values, f32::from_bits(0xa5a5_a5a5))
 }

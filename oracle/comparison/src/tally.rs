@@ -43,6 +43,11 @@ impl Tally {
         }
     }
 
+    /// Of the floats that a call has to leave: how many are NaNs, which stay bit for bit.
+    pub fn left<'a>(&mut self, floats: impl IntoIterator<Item = &'a f32>) {
+        self.add("NaNs left", floats.into_iter().filter(|x| x.is_nan()).count() as u64);
+    }
+
     /// Lines that say what was counted.
     pub fn counted(&self) -> Vec<String> {
         let counts: Vec<String> = self.counts.iter().map(|(name, number)| format!("{name} {number}")).collect();

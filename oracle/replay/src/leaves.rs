@@ -83,7 +83,7 @@ fn outputs(list: &mut List) -> Read<()> {
     list.same_double(state)
 }
 
-fn digested(digest: u64, n: u64) -> u64 {
+pub fn digested(digest: u64, n: u64) -> u64 {
     ours::next(digest ^ n).0
 }
 

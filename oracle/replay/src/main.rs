@@ -2,6 +2,8 @@
 //! how many values there are to compare. The status is 0 where none differs, 1 where one does, 2 where the list is refused, 3 where there
 //! is none to replay. ../README.md has more.
 
+mod calls;
+mod edges;
 mod leaves;
 mod list;
 mod palette;
@@ -11,7 +13,7 @@ use std::process::ExitCode;
 
 use list::{Case, Tally};
 
-const USE: &str = "use: replay leaves|palette|runs LIST COUNT";
+const USE: &str = "use: replay leaves|palette|runs|edges LIST COUNT";
 
 fn main() -> ExitCode {
     let (case, bytes, count) = match read_arguments() {
@@ -45,6 +47,7 @@ fn read_arguments() -> Result<(Case, Vec<u8>, u64), String> {
         "leaves" => leaves::case,
         "palette" => palette::case,
         "runs" => runs::case,
+        "edges" => edges::case,
         _ => return Err(USE.into()),
     };
     let bytes = std::fs::read(path).map_err(|why| format!("{path}: {why}"))?;

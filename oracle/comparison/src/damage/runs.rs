@@ -5,6 +5,7 @@ use terms::rng::Rng;
 
 use super::{component, damage, length};
 use crate::call::{Ask, Call, Memory};
+use crate::lent::nans;
 use crate::reading::record::{before, round, waits};
 use crate::table::{self, Given};
 
@@ -23,9 +24,14 @@ pub fn good(rng: &mut Rng) -> Call {
     };
     if call.stage() != 2 && rng.once_in(2) {
         // outside stage 2 anything may stand in the second palette
-        call.memory.least.iter_mut().for_each(|x| *x = f32::from_bits(rng.word()));
+        call.memory.least = anything(rng, 3 * s * c);
     }
     call
+}
+
+/// Floats of any bits, or no number among them.
+fn anything(rng: &mut Rng, n: usize) -> Vec<f32> {
+    if rng.once_in(2) { nans(n) } else { (0..n).map(|_| f32::from_bits(rng.word())).collect() }
 }
 
 fn record(rng: &mut Rng, given: &Given, n: usize) -> Vec<u64> {
@@ -50,7 +56,7 @@ pub fn asks(rng: &mut Rng, call: &Call) -> [Ask; 4] {
     let (s, c) = (call.given.s, call.given.c);
     let allotment = rng.pick(&[0, 1, 2, 5, 40, u64::MAX]);
     let reduced = jobs::reduced(rng, s, c).as_flattened().to_vec();
-    let room = (0..3 * s * c).map(|_| f32::from_bits(rng.word())).collect();
+    let room = anything(rng, 3 * s * c);
     [Ask::Start(rng.bits()), Ask::Advance(allotment), Ask::HandIn(reduced), Ask::Result(room)]
 }
 

@@ -72,6 +72,11 @@ impl Call {
         table::subs(&self.given, &self.palette)
     }
 
+    /// All floats that are lent, none of them to be written.
+    fn floats(&self) -> impl Iterator<Item = &f32> {
+        self.given.colours.iter().chain(&self.palette)
+    }
+
     fn lent(&self) -> ours::Job {
         ours::Job::lent(&self.given)
     }
@@ -112,6 +117,7 @@ pub fn fitted(call: &Call, tally: &mut Tally) -> u32 {
     let (answer, index, dist) = ours::single_fit(&job, &palette, &mut hints);
     let kept = job.untouched() && palette.untouched() && hints.guarded();
     tally.answered("single fit", number);
+    tally.left(call.floats());
     tally.same((answer, (index, dist), hints.values().to_vec(), kept), right, || format!("{call:?}"));
     number
 }
@@ -133,6 +139,7 @@ pub fn paired(call: &Call, tally: &mut Tally) -> u32 {
     let (answer, index, dist, second) = ours::public_best_two(&job, &palette, &mut hints);
     let kept = job.untouched() && palette.untouched() && hints.guarded();
     tally.answered("best_two", number);
+    tally.left(call.floats());
     tally.same((answer, (index, dist, second), hints.values().to_vec(), kept), right, || format!("{call:?}"));
     number
 }
@@ -188,6 +195,7 @@ pub fn assigned(call: &Call, tally: &mut Tally) -> u32 {
     let answer = ours::assign(&job, &palette, &mut hints, &mut out);
     let kept = job.untouched() && palette.untouched() && hints.guarded() && out.guarded();
     tally.answered("assign", number);
+    tally.left(call.floats());
     tally.same((answer, hints.values().to_vec(), out.values().to_vec(), kept), right, || format!("{call:?}"));
     number
 }

@@ -9,6 +9,7 @@ mod sheets;
 use terms::{Job, Sample, Tile};
 
 use super::{Kind, whole};
+use crate::lent::nans;
 use crate::tally::Tally;
 
 pub const KINDS: &[Kind] = &[
@@ -52,11 +53,11 @@ fn job(s: usize, c: usize, tiles: Vec<Tile>, n: usize) -> Job {
     Job { s, c, weight: 2.15, tiles, samples: vec![Sample { tile: 0, place: 0 }; n] }
 }
 
-/// A magnitude's limit, the next float above it, and both below zero, with the number of each.
-fn around(limit: f32, number: u32) -> [(f32, u32); 7] {
+/// A magnitude's limit, the next float above it, and both below zero, with the number of each; what is no magnitude.
+fn around(limit: f32, number: u32) -> Vec<(f32, u32)> {
     let over = limit.next_up();
-    let none = [(f32::NAN, number), (f32::INFINITY, number), (f32::NEG_INFINITY, number)];
-    [(limit, 0), (-limit, 0), (over, number), (-over, number), none[0], none[1], none[2]]
+    let none = [f32::NAN, f32::INFINITY, f32::NEG_INFINITY].into_iter().chain(nans(4));
+    [(limit, 0), (-limit, 0), (over, number), (-over, number)].into_iter().chain(none.map(|x| (x, number))).collect()
 }
 
 /// Weights at their limits, with the number of each.

@@ -7,7 +7,7 @@ use terms::jobs::Colours;
 use terms::rng::Rng;
 
 use super::{Kind, kind};
-use crate::lent::{self, Lent};
+use crate::lent::{self, Lent, nans};
 use crate::ours;
 use crate::tally::Tally;
 use crate::{damage, table};
@@ -44,7 +44,7 @@ impl Call {
             oklab: Vec::new(),
             zero: rng.once_in(2).then(|| bytes(rng)).map(|[r, g, b, _]| [r, g, b]),
             entry_bytes: (0..4 * p).map(|_| rng.word() as u8).collect(),
-            entry_oklab: (0..3 * p).map(|_| rng.unit()).collect(),
+            entry_oklab: nans(3 * p),
             entry_counts: (0..p).map(|_| rng.word()).collect(),
             index: (0..p).map(|_| rng.word()).collect(),
         };
@@ -52,6 +52,12 @@ impl Call {
             let pixel = bytes(rng);
             call.pixels.extend(pixel);
             call.oklab.extend(named.entry(pixel).or_insert_with(|| colours.one(rng, 2.0)).iter());
+        }
+        if rng.once_in(2) {
+            // what a pixel that is not kept has for its Oklab is not looked at
+            let none = nans(3 * p);
+            let aside: Vec<usize> = (0..p).filter(|&k| !call.kept(k)).collect();
+            aside.iter().for_each(|k| call.oklab[3 * k..3 * k + 3].copy_from_slice(&none[3 * k..3 * k + 3]));
         }
         call
     }
@@ -166,12 +172,14 @@ pub fn grouped(call: &Call, tally: &mut Tally) -> u32 {
     };
     let answer = ours::group(call.p, &pixels, &oklab, call.zero, &mut room);
     let left = (
-        (room.bytes.values().to_vec(), room.oklab.values().to_vec()),
+        (room.bytes.values().to_vec(), room.oklab.bits()),
         (room.counts.values().to_vec(), room.index.values().to_vec()),
         guarded(&pixels, &oklab, &room),
     );
-    let right = ((after.entry_bytes, after.entry_oklab), (after.entry_counts, after.index), true);
     tally.answered("grouping", number);
+    tally.left(call.oklab.iter().chain(&after.entry_oklab));
+    let oklab = lent::bits(&after.entry_oklab);
+    let right = ((after.entry_bytes, oklab), (after.entry_counts, after.index), true);
     tally.same((answer, left), ((number, entries), right), || format!("{call:?}"));
     number
 }

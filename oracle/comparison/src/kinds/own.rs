@@ -1,5 +1,5 @@
 //! The oracle held to itself: its copies of the Rust to the unchanged files, its run in steps to the whole run, its reading of the
-//! sheet to the example of docs/SCOPE.md.
+//! sheet to document 01's example; that one NaN in another's place is seen.
 
 use answers::requests::flat;
 use answers::{probed, rust};
@@ -8,13 +8,16 @@ use terms::rng::Rng;
 use terms::{Colour, Job, Ran};
 
 use super::{Kind, kind, whole};
+use crate::call::{Ask, Call, Outcome};
+use crate::lent::{self, nans};
 use crate::sheet;
-use crate::tally::Tally;
+use crate::tally::{Same, Tally};
 
 pub const KINDS: &[Kind] = &[
     kind("oracle copies", 150, 1_500, copies),
     kind("oracle steps", 150, 1_500, steps),
     whole("oracle sheet", 1, example),
+    whole("oracle NaNs", 1, replaced),
 ];
 
 struct Case {
@@ -96,4 +99,27 @@ fn example(_: &mut Rng, _: u64, tally: &mut Tally) {
     ];
     let fitted = sheet::fitted::fitted(&bytes).into_bytes();
     tally.same(fitted, lines.join("\n").into_bytes(), || "the example's lines".to_string());
+}
+
+/// NaNs are lent that differ from each other and from those that arithmetic makes of numbers; whichever becomes one of these, it is seen.
+fn replaced(rng: &mut Rng, _: u64, tally: &mut Tally) {
+    const MADE: [u32; 2] = [0x7fc0_0000, 0xffc0_0000];
+    let all = nans(15_420);
+    let mut bits = [lent::bits(&all), MADE.to_vec()].concat();
+    bits.sort_unstable();
+    bits.dedup();
+    let alike = (all.len() + MADE.len() - bits.len(), all.iter().filter(|x| !x.is_nan()).count());
+    tally.same(alike, (0, 0), || "NaNs with the same bits, numbers among them".to_string());
+    let call = Call::of(&jobs::job(rng, 60));
+    let places = call.memory.palette.len();
+    let left = Outcome::unchanged(7, &call, &Ask::Result(nans(places)));
+    for (k, made) in (0..places).flat_map(|k| MADE.map(|made| (k, f32::from_bits(made)))) {
+        let mut memory = lent::floats(&all[..places]);
+        unsafe { *memory.pointer_mut().add(k) = made };
+        let mut changed = [left.clone(), left.clone(), left.clone()];
+        (changed[0].memory.palette[k], changed[1].memory.least[k], changed[2].colours[k]) = (made, made, made);
+        let unseen = memory.untouched() || memory.bits() == lent::bits(&all[..places]);
+        let unseen = unseen || changed.iter().any(|changed| changed.same(&left));
+        tally.same(unseen, false, || format!("place {k} of {places}"));
+    }
 }

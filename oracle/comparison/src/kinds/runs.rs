@@ -10,6 +10,7 @@ use terms::{Colour, Job, Ran, Sample, Steps, Tile};
 use super::{Kind, kind};
 use crate::call::{Ask, Call, Memory, Outcome};
 use crate::damage::runs as damage;
+use crate::lent::nans;
 use crate::reading::run::outcome;
 use crate::tally::Tally;
 use crate::{ours, saved};
@@ -20,16 +21,24 @@ pub const KINDS: &[Kind] = &[
     kind("largest run", 1, 20, largest),
 ];
 
-/// Every call on one memory.
+/// Every call on one memory, and now and then once more with no number in its palettes.
 fn calls(rng: &mut Rng, _: u64, tally: &mut Tally) {
     let mut call = damage::good(rng);
     let mut asks = damage::asks(rng, &call);
     damage::damaged(rng, &mut call, &mut asks);
-    for ask in &asks {
-        let right = outcome(&call, ask);
+    asked(&call, &asks, tally);
+    if rng.once_in(4) {
+        asked(&call.without_numbers(), &asks, tally);
+    }
+}
+
+fn asked(call: &Call, asks: &[Ask], tally: &mut Tally) {
+    for ask in asks {
+        let right = outcome(call, ask);
         tally.answered(ask.name(), right.number);
         tally.add("draws", right.draws);
-        tally.same(ours::answer(&call, ask), right, || format!("{ask:?} {call:?}"));
+        tally.left(right.floats());
+        tally.same(ours::answer(call, ask), right, || format!("{ask:?} {call:?}"));
     }
 }
 
@@ -112,6 +121,10 @@ impl Whole {
         let mut stops = Vec::new();
         let mut finished = false;
         while !finished {
+            if self.call.stage() != 2 && rng.once_in(3) {
+                // nobody looks there, and nobody writes
+                self.call.memory.least = nans(self.call.memory.least.len());
+            }
             let leg = self.leg(rng);
             let asks: Vec<Ask> = leg.iter().map(|planned| planned.ask.clone()).collect();
             let ours = if leaves && rng.once_in(3) {
@@ -152,7 +165,12 @@ impl Whole {
             };
             call.memory = right.memory.clone();
             let ended = matches!(ask, Ask::Result(_)) && accepted;
-            leg.push(Planned { ask, right, rusts: (draws, Memory::standing(&self.job, &self.steps.held())) });
+            let mut rusts = Memory::standing(&self.job, &self.steps.held());
+            if call.stage() != 2 {
+                // the Rust has no second palette then
+                rusts.least = right.memory.least.clone();
+            }
+            leg.push(Planned { ask, right, rusts: (draws, rusts) });
             if ended {
                 break;
             }
@@ -167,7 +185,7 @@ impl Whole {
         }
         let stage = if rng.once_in(30) { rng.below(8) as u64 } else { call.stage() };
         match stage {
-            7 => Ask::Result(vec![f32::NAN; call.memory.palette.len()]),
+            7 => Ask::Result(nans(call.memory.palette.len())),
             3 | 5 | 6 => Ask::HandIn(self.reduction.reduced(rng, &self.job, &call.memory.palette)),
             _ => Ask::Advance(allotment(rng, call.n as u64 / 10)),
         }
@@ -177,6 +195,7 @@ impl Whole {
         let Planned { ask, right, rusts } = planned;
         tally.answered(ask.name(), right.number);
         tally.add("draws", right.draws);
+        tally.left(right.floats());
         let shown = || format!("{ask:?} of seed {:x}, {:?}", self.seed, self.job);
         tally.same((right.draws, right.memory.clone()), rusts, shown);
         tally.same(ours, right, shown);

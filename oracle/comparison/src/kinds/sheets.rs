@@ -6,6 +6,7 @@ use terms::rng::Rng;
 
 use super::{Kind, kind, whole};
 use crate::damage::sheets::{added, damages};
+use crate::lent::{bits as bits_of, nans};
 use crate::ours::{self, Job};
 use crate::sheet::{self, Sheet};
 use crate::table::Given;
@@ -146,10 +147,10 @@ pub fn read_into(bytes: &[u8], room: [usize; 4], tally: &mut Tally) -> u32 {
         t: 79,
         weight: 80.0,
         tiles: vec![0x5a5a_5a5a; room[0]],
-        colours: vec![-7.5; room[1]],
+        colours: nans(room[1]),
         counts: vec![0x5a5a_5a5a; room[2]],
     };
-    let found_palette = vec![-8.5; room[3]];
+    let found_palette = nans(room[3]);
     let enough = room.iter().zip(ROOM).all(|(has, needs)| *has >= needs);
     let read = if enough { sheet::read(bytes) } else { Err(3) };
     let (mut right, mut right_palette) = (found.clone(), found_palette.clone());
@@ -167,13 +168,15 @@ pub fn read_into(bytes: &[u8], room: [usize; 4], tally: &mut Tally) -> u32 {
     let (lent_bytes, mut job, mut palette) = (lent::bytes(bytes), Job::lent(&found), lent::floats(&found_palette));
     let number = ours::sheet_read(&lent_bytes, &mut job, &mut palette);
     tally.answered("sheet reader", right_number);
+    tally.left(right.colours.iter().chain(&right_palette));
     let kept = lent_bytes.untouched() && job.guarded() && palette.guarded();
     let sizes = (job.s, job.c, job.t, job.weight);
-    let ours = (job.tiles.values().to_vec(), job.colours.values().to_vec(), job.counts.values().to_vec());
+    let ours = (job.tiles.values().to_vec(), job.colours.bits(), job.counts.values().to_vec());
     let right_sizes = (right.s, right.c, right.t, right.weight);
+    let (right_colours, right_palette) = (bits_of(&right.colours), bits_of(&right_palette));
     tally.same(
-        (number, sizes, ours, palette.values().to_vec(), kept),
-        (right_number, right_sizes, (right.tiles, right.colours, right.counts), right_palette, true),
+        (number, sizes, ours, palette.bits(), kept),
+        (right_number, right_sizes, (right.tiles, right_colours, right.counts), right_palette, true),
         || format!("{bytes:02x?}"),
     );
     right_number
@@ -220,6 +223,7 @@ pub fn written_into(given: &Given, numbers: &[f32], found: &[u8], tally: &mut Ta
     let answer = ours::sheet_write(&job, &palette, &mut dst);
     let kept = job.untouched() && palette.untouched() && dst.guarded();
     tally.answered("sheet writer", number);
+    tally.left(given.colours.iter().chain(numbers));
     tally.same((answer, dst.values().to_vec(), kept), ((number, bytes.len()), right, true), || {
         format!("{given:?} {numbers:?}")
     });

@@ -4,6 +4,7 @@ use terms::{Job, Sample};
 
 use super::{around, colours_in_all, component, counted, job, listed, tiles, weights};
 use crate::call::{Ask, Call};
+use crate::lent::nans;
 use crate::ours;
 use crate::reading::record::{before, round};
 use crate::reading::run::outcome;
@@ -25,7 +26,10 @@ pub fn standing(job: &Job, stage: u64) -> Call {
     let (n, places) = (call.n, call.memory.palette.len());
     call.memory.order = (0..n as u32).rev().collect();
     call.memory.palette = (0..places).map(|k| k as f32 / 1024.0).collect();
-    call.memory.least = vec![0.5; places];
+    // outside stage 2 the second palette holds what it was found with
+    if stage == 2 {
+        call.memory.least = vec![0.5; places];
+    }
     let left = round(&call.given, n, stage).0;
     let error = if stage == 2 { 1f32.to_bits().into() } else { 0 };
     call.memory.record = vec![77, stage, 0, left, before(&call.given, n, stage), error];
@@ -34,16 +38,28 @@ pub fn standing(job: &Job, stage: u64) -> Call {
 
 /// What each of the four calls is given.
 pub fn asks(call: &Call) -> [Ask; 4] {
-    let colours = vec![0.25; call.memory.palette.len()];
-    [Ask::Start(9), Ask::Advance(3), Ask::HandIn(colours.clone()), Ask::Result(colours)]
+    let places = call.memory.palette.len();
+    [Ask::Start(9), Ask::Advance(3), Ask::HandIn(vec![0.25; places]), Ask::Result(nans(places))]
 }
 
-/// The call and all lent memory, beside the reading, whose number is beside the one that is listed.
+/// The call and all lent memory, beside the reading, whose number is beside the one that is listed. A start, which finds nothing of use,
+/// and what is refused are asked once more with no number in the palettes.
 pub fn ask(tally: &mut Tally, what: &str, call: &Call, ask: &Ask, number: u32) {
+    let right = asked(tally, what, call, ask);
+    listed(tally, what, ask.name(), right, number);
+    if number != 0 || matches!(ask, Ask::Start(_)) {
+        asked(tally, what, &call.without_numbers(), ask);
+    }
+}
+
+/// Gives the number by the reading.
+fn asked(tally: &mut Tally, what: &str, call: &Call, ask: &Ask) -> u32 {
     let right = outcome(call, ask);
-    tally.answered(ask.name(), right.number);
-    listed(tally, what, ask.name(), right.number, number);
+    let number = right.number;
+    tally.answered(ask.name(), number);
+    tally.left(right.floats());
     tally.same(ours::answer(call, ask), right, || format!("{what}: {}", ask.name()));
+    number
 }
 
 /// The four calls, after an edit of the memory at their moment and of what they are given.

@@ -1,0 +1,219 @@
+#!/usr/bin/env python3
+"""edges.py ORACLE: writes edges and edges.count beside it. Numbers and sheets are document 01's; what an accepted call answers and leaves
+is from the answers of the program `oracle` (oracle/README.md). How jobs are made stands in replay/src/edges.rs."""
+import os
+import struct
+import subprocess
+import sys
+
+oracle = sys.argv[1]
+words, cases, compared = [], 0, 0
+FOUND, MASK = 0x7fa5a5a5, 2 ** 64 - 1
+TWO, ABOVE, MINUS = 0x40000000, 0x40000001, 0x80000000
+DONE, SIZE, COUNT, COMPONENT = 0, 2, 6, 7
+START, ADVANCE, HAND_IN, RESULT = 0, 1, 2, 3
+
+
+def bits(x):
+    return struct.unpack(">I", struct.pack(">f", x))[0]
+
+
+def ask(name, numbers):
+    line = name + " " + " ".join("%x" % n for n in numbers)
+    answer = subprocess.run([oracle], input=line + "\n", capture_output=True, text=True, check=True).stdout.split()
+    assert answer and answer[0][0] != "?", (line[:200], answer)
+    return [int(n, 16) for n in answer]
+
+
+def double(x):
+    return [x >> 32, x & 0xffffffff]
+
+
+def digest(numbers):
+    """Each number changes the digest to SplitMix64's output from the digest xor the number."""
+    state = 0
+    for n in numbers:
+        state = ((state ^ n) + 0x9e3779b97f4a7c15) & MASK
+        state = (state ^ state >> 30) * 0xbf58476d1ce4e5b9 & MASK
+        state = (state ^ state >> 27) * 0x94d049bb133111eb & MASK
+        state ^= state >> 31
+    return state
+
+
+def put(numbers):
+    """A case's first words."""
+    global cases
+    cases += 1
+    words.extend(numbers)
+
+
+def refused(number):
+    """The number, and that nothing was written."""
+    global compared
+    compared += 2
+    words.append(number)
+
+
+def done(told, left):
+    """The number 0, what is answered, and the digest of what is left."""
+    global compared
+    compared += 2 + len(told)
+    words.extend([DONE] + [x for n in told + [digest(left)] for x in double(n)])
+
+
+class Job:
+    def __init__(self, s, c, t, each, total, component, weight=2.15):
+        self.s, self.c, self.t, self.weight = s, c, t, bits(weight)
+        self.numbers = [s, c, t, each, total, component, bits(weight)]
+        counts = [1] * (each - 1) + [total + 1 - each]
+        self.tiles = [[([bits(k / 64), bits(i / 64), bits(-(k / 128))], counts[k]) for k in range(each)] for i in range(t)]
+        self.tiles[-1][-1][0][1] = component
+        self.hints = [i % (s + 1) for i in range(t)]
+
+    def palette(self, component):
+        colours = [[bits(k / 256), bits(-(k / 256)), bits(0.25)] for k in range(self.s * self.c)]
+        colours[-1][2] = component
+        return [x for colour in colours for x in colour]
+
+    def asked_tiles(self):
+        return [x for tile in self.tiles for x in [len(tile)] + [n for colour, count in tile for n in colour + [count]]]
+
+    def lists(self):
+        """The tile table, the counts, the colours."""
+        table = [x for i, tile in enumerate(self.tiles) for x in (i * len(tile), len(tile))]
+        flat = [pair for tile in self.tiles for pair in tile]
+        return table, [count for _, count in flat], [x for colour, _ in flat for x in colour]
+
+
+def run(job, n, seed, calls):
+    """Calls in a row, each with its number; a hand-in's component stands after it."""
+    each = len(job.tiles[0])
+    put([1] + job.numbers + [n] + double(seed) + [len(calls)])
+    states = held(job, n, seed, each, calls)
+    for call, number in calls:
+        words.extend(call)
+        if number != DONE:
+            refused(number)
+            continue
+        before, state = states.pop(0)
+        room = state[-6 * job.s * job.c:-3 * job.s * job.c] if call == [RESULT] else []
+        done([state[4] - before[4]], state + room)
+
+
+def held(job, n, seed, each, calls):
+    """The states before and after each accepted call, by the Rust's run in steps; a result leaves its own."""
+    accepted = [call for call, number in calls if number == DONE]
+    if not accepted:
+        return []
+    handed = [x for call in accepted if call[0] == HAND_IN for x in job.palette(call[1])]
+    request = [job.weight, job.s, job.c, seed, job.t] + job.hints + job.asked_tiles()
+    request += [n] + [x for j in range(n) for x in (j % job.t, j // job.t % each)]
+    answer = ask("steps", request + handed + [MASK] * (len(accepted) - 1))
+    size = 6 + n + job.t + 6 * job.s * job.c
+    states = [answer[i:i + size] for i in range(0, len(answer), size)]
+    assert states[-1][1] == 7 and len(states) == len(accepted) - 1, [x[:6] for x in states]
+    return list(zip(states[:1] + states, states + states[-1:]))
+
+
+def sheet(job, palette):
+    """Document 01's fit sheet."""
+    fields = [(0x54464954, 32), (1, 4), (job.s - 1, 4), (job.c - 1, 4), (job.t - 1, 10), (job.weight, 32)]
+    fields += [(x, 32) for x in palette]
+    for tile in job.tiles:
+        fields.append((len(tile), 7))
+        for colour, count in tile:
+            fields += [(count - 1, 6)] + [(x, 32) for x in colour]
+    text = "".join(format(value, "0%db" % width) for value, width in fields)
+    text += "0" * (-len(text) % 8)
+    return [int(text[i:i + 8], 2) for i in range(0, len(text), 8)]
+
+
+def fits(job, component, number):
+    """`assign`, single fit, `best_two` and the writer; the fits take one tile."""
+    palette = job.palette(component)
+    put([2] + job.numbers + [component])
+    if number != DONE:
+        for of_call in (number, number, number, number):
+            refused(of_call)
+        return
+    shown = [job.s, job.c] + palette
+    answer = ask("assign", [job.weight] + shown + [job.t] + job.hints + job.asked_tiles())
+    done([], answer[job.t:] + answer[:job.t])
+    for name in ("best_fit", "best_two"):
+        *told, hint = ask(name, [job.weight, job.hints[0]] + shown + job.asked_tiles())
+        done(told, [hint])
+    written = sheet(job, palette)
+    done([len(written)], written + [FOUND & 255] * (4096 - len(written)))
+
+
+def read(job, component, number):
+    palette = job.palette(component)
+    written = sheet(job, palette)
+    padded = bytes(written + [0] * (-len(written) % 4))
+    put([3, len(written)] + list(struct.unpack(">%dI" % (len(padded) // 4), padded)))
+    if number != DONE:
+        return refused(number)
+    left = []
+    for part, room in zip(job.lists() + (palette,), (2048, 5140, 15420, 768)):
+        left += part + [FOUND] * (room - len(part))
+    done([job.s, job.c, job.t, job.weight], left)
+
+
+def group(pixels, number):
+    p = len(pixels)
+    put([4, p] + [x for rgba, colour in pixels for x in [rgba] + colour])
+    if number != DONE:
+        return refused(number)
+    count, *rest = ask("group", [0, p] + [x for rgba, colour in pixels for x in [rgba] + colour])
+    entries = [rest[5 * i:5 * i + 5] for i in range(count)]
+    spare = p - count
+    left = [byte for entry in entries for byte in entry[0].to_bytes(4, "big")] + [FOUND & 255] * 4 * spare
+    left += [entry[4] for entry in entries] + [FOUND] * spare + rest[5 * count:]
+    done([count], left + [x for entry in entries for x in entry[1:4]] + [FOUND] * 3 * spare)
+
+
+def every(number):
+    """The four calls of a run, refused alike."""
+    return [([START], number), ([ADVANCE], number), ([HAND_IN, TWO], number), ([RESULT], number)]
+
+
+def whole(first, *others):
+    """A run to its end; the first stop is handed what is refused before what is not."""
+    stops = [([HAND_IN, x], COMPONENT) for x in others] + [([HAND_IN, first], DONE)]
+    ends = [([ADVANCE], DONE), ([HAND_IN, first], DONE), ([HAND_IN, first], DONE), ([RESULT], DONE)]
+    return [([START], DONE), ([ADVANCE], DONE)] + stops + ends
+
+
+def small(t=1, total=64, component=TWO):
+    return Job(2, 2, t, 2, total, component)
+
+
+# samples
+run(Job(2, 2, 4, 4, 16, TWO), 16384, 7, whole(TWO, ABOVE, ABOVE | MINUS))
+run(Job(2, 2, 4, 4, 16, TWO), 16385, 7, every(SIZE))
+# counts
+run(small(t=3), 20, 8, whole(TWO | MINUS))
+run(small(t=3, total=65), 20, 8, every(COUNT))
+fits(small(), TWO, DONE)
+fits(small(total=65), TWO, COUNT)
+read(small(), TWO, DONE)
+read(small(total=65), TWO, COUNT)
+# components: of the tiles, of the palette, of a pixel
+for sign in (0, MINUS):
+    run(small(t=2, component=TWO | sign), 10, 9, whole(TWO))
+    run(small(t=2, component=ABOVE | sign), 10, 9, every(COMPONENT))
+    for call in (fits, read):
+        call(small(component=TWO | sign), TWO | sign, DONE)
+        call(small(component=ABOVE | sign), TWO, COMPONENT)
+        call(small(), ABOVE | sign, COMPONENT)
+    colour = [bits(0.5), bits(-0.25)]
+    pixels = [(0x010203ff, [0, 0, 0]), (0x040506ff, colour + [TWO | sign]), (0x040506ff, colour + [TWO | sign])]
+    group(pixels, DONE)
+    group(pixels[:1] + [(0x040506ff, colour + [ABOVE | sign])], COMPONENT)
+
+here = os.path.dirname(os.path.abspath(__file__))
+with open(os.path.join(here, "edges"), "wb") as out:
+    out.write(struct.pack(">%dI" % (1 + len(words)), cases, *words))
+with open(os.path.join(here, "edges.count"), "w") as out:
+    out.write("%d\n" % compared)
+print(cases, "cases,", compared, "values to compare")
