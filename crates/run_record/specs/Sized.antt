@@ -5,7 +5,6 @@ use mathlib.Core.List.{List, []}
 use lib.Ieee.{nan}
 use Rattle.job.specs.Job.{job, mostSubpalettes, mostColours, mostSamples}
 use Rattle.quantizer.specs.Course.{Course, course}
-use Rattle.stages.specs.Record.{before}
 
 -- S, C and n
 abbrev pub sized : ℕ → ℕ → ℕ → Course
@@ -17,8 +16,3 @@ pub record Sized (s c n : ℕ) : Type 0 where
   pub some : 1 ≤ c
   pub cap : c ≤ mostColours
   pub short : n ≤ mostSamples
-
--- r rounds of a tenth of the samples lie before the stage
-pub record Earlier (s c n stage r : ℕ) : Type 0 where
-  pub rounds : r * (n / 10) ≡ before (sized s c n) stage
-  pub bound : r ≤ 50

@@ -2,19 +2,18 @@
 // two rounds the order, as it is then, is shuffled again. Assumes nothing.
 use prng::Prng;
 ghost use mathlib.Core.Path.{_≡_};
-ghost use Prim.Native.Nat.{_+_, _^_, _<_, _≤_};
+ghost use Prim.Native.Nat.{_+_, _/_, _^_, _<_, _≤_};
 ghost use lib.ListN.{length};
 ghost use Rattle.lists.specs.Firsts.{upTo};
 ghost use Rattle.prng.specs.Shuffle.{deck};
-ghost use Rattle.cycle.specs.Tenth.{tenth};
 ghost use Rattle.cycle.specs.Cycle.{cycle, drawn, drawOne, after};
 
-// The draws of a round: what the Rust computes as an f32 tenth of n, cut to a whole number.
-pub fn base_iterations(n: usize) -> usize
-    requires { ⌜ n ≤ 16384 ⌝ }
-    ensures { λ r. ⌜ r ≡ tenth n ⌝ }
+// b, the draws of a round: a tenth of n samples, rounded down. That the Rust's f32 tenth, cut to a whole number, is the same for every
+// n up to 16,384 is a law of cycle.
+pub fn base_iterations(n: usize) -> u64
+    ensures { λ r. ⌜ r ≡ n / 10 ⌝ }
 {
-    n / 10
+    n as u64 / 10
 }
 
 // The generator that shuffles next, and the draws made since the start. The order itself is lent.
