@@ -84,19 +84,19 @@ enum dunkafeto_numbers {
     DUNKAFETO_DONE = 0,
     DUNKAFETO_NO_SAMPLES = 1,    /* n is 0 */
     DUNKAFETO_SIZES = 2,         /* S, C or T is outside its range, or n is above 16,384 */
-    DUNKAFETO_LENGTHS = 3,       /* a lent slice has a length other than the sizes imply */
+    DUNKAFETO_LENGTHS = 3,       /* a slice is longer or shorter than the sizes ask */
     DUNKAFETO_WEIGHT = 4,        /* the weight is not above 0, is above 16, or is NaN */
-    DUNKAFETO_TILES = 5,         /* tile table not consecutive, a tile above 64 colours, or a total above 16,384 or unlike the colours lent */
-    DUNKAFETO_COUNTS = 6,        /* a count of 0, or a tile's counts sum to more than 64 */
+    DUNKAFETO_TILES = 5,         /* tiles leave a gap or overlap, one has above 64 colours, or all above 16,384 or not as many as are lent */
+    DUNKAFETO_COUNTS = 6,        /* a colour counted 0 times, or a tile more than 64 */
     DUNKAFETO_COMPONENTS = 7,    /* a component given is above 2 in magnitude, or one that a run holds above 4, or either is not finite */
-    DUNKAFETO_SAMPLES = 8,       /* a sample names no tile, or no colour of its tile */
+    DUNKAFETO_SAMPLES = 8,       /* a sample's tile is not there, or has no such colour */
     DUNKAFETO_ORDER = 9,         /* an entry of the order is n or more */
     DUNKAFETO_RECORD = 10,       /* the record breaks one of its rules */
     DUNKAFETO_MOMENT = 11,       /* advance at a stop or finish, hand_in elsewhere than at a stop, result before the finish */
-    DUNKAFETO_SHEET_HEAD = 12,   /* a sheet's opening or edition is wrong */
-    DUNKAFETO_SHEET_BYTES = 13,  /* a sheet is cut short, has a spare bit set, bytes after it, or more than 65,536 bytes */
-    DUNKAFETO_SAME_COLOUR = 14,  /* grouping: equal reduced colours with different Oklab bits */
-    DUNKAFETO_EMPTY_TILE = 15    /* single fit asked for an empty tile */
+    DUNKAFETO_SHEET_HEAD = 12,   /* the first four bytes or the edition are not a sheet's */
+    DUNKAFETO_SHEET_BYTES = 13,  /* a sheet ends too soon, goes on by a bit or a byte, or has more than 65,536 bytes */
+    DUNKAFETO_SAME_COLOUR = 14,  /* grouping: pixels of the same bytes whose Oklab bits differ */
+    DUNKAFETO_EMPTY_TILE = 15    /* the single fit's tile has no colour */
 };
 
 /* ---- The record: six words, which start writes and the others keep. Read them freely; write none. */

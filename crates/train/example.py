@@ -25,7 +25,7 @@ def tiles(draw):
 
 
 def sheet(palette, content):
-    """The sheet's bytes, by the document: fields from the most significant bit on."""
+    """The sheet's bytes, by docs/SCOPE.md: fields from the most significant bit on."""
     fields = [(0x54464954, 32), (1, 4), (S - 1, 4), (C - 1, 4), (len(content) - 1, 10), (bits(WEIGHT), 32)]
     fields += [(b, 32) for colour in palette for b in colour]
     for tile in content:

@@ -15,7 +15,7 @@ module _ (K : Course) where
   pub draws-add : (a c : ℕ) (s : State) → drawsOf K (a + c) s ≡ drawsOf K a s + drawsOf K c (advance K a s)
   draws-add = times-add going (step K)
 
-  -- the paper's advance settles first: where nothing is due, as at every record that passes, that changes nothing
+  -- an advance need not settle first: where nothing is due, as at every record that passes, that changes nothing
   pub settle-idle : (s : State) → due s ≡ false → settle K s ≡ s
   unfolding settle
   settle-idle s h = whilst-stop due (finishRound K) _ s h

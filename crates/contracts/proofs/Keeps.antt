@@ -1,28 +1,32 @@
 -- A function whose caller sees what is defined keeps every law of what is defined. Assumes nothing.
-use Prim.Native.Nat.{ℕ}
-use mathlib.Core.Path.{_≡_, subst⁻¹}
-use prog.Routine.{Routine}
+use Prim.Native.Nat.{ℕ, _%_}
+use mathlib.Core.Path.{_≡_, sym, ap, subst⁻¹, _∙_}
 use contract.Lifetimes.{Lfts}
 use contract.Monad.{fact-mono, fm→mono}
 use contract.Running.{givenOf}
-use denote.Triple.Entry.{Args, Res}
-use denote.Triple.Clauses.{Ended, AtExit, atExit}
+use denote.Triple.Entry.{Args}
+use denote.Triple.Clauses.{atExit}
 use denote.Triple.Table.{run-framed}
 use denote.Triple.Weaken.{weaken}
+use Rattle.told.specs.Packed.{Told, told}
 use Rattle.demands.specs.Calls.{Call}
-use Rattle.contracts.specs.Answers.{Answers}
-use Rattle.contracts.specs.Keeps.{Law, promising, Keeps, Sees}
+use Rattle.contracts.specs.Answers.{Answers, Tells}
+use Rattle.contracts.specs.Keeps.{Compiled, Defined, Law, promising, Keeps, Sees}
 
-module _ (T : Ended) (O : Type 0) (seen : (κs : Lfts (T .signature .lifetimes)) (a : Args (T .signature) κs) → Res (T .signature) κs → AtExit T κs → O)
-    (defined : (κs : Lfts (T .signature .lifetimes)) → Args (T .signature) κs → O) where
-  pub keeps : (P : Law T O seen) → ((κs : Lfts (T .signature .lifetimes)) (a : Args (T .signature) κs) → P κs a (defined κs a)) → (ρ : Routine) → Sees T O seen defined ρ → Keeps T O seen P ρ
-  keeps P law ρ met M 𝓤 H 𝓜 𝓖 𝓡 =
-      weaken 𝓤 H (𝓖 .A) T (givenOf 𝓤 H 𝓜 𝓖) (promising T O seen 𝓤 (λ κs a x. x ≡ defined κs a)) (λ κs a. promising T O seen 𝓤 P κs a .ensures)
+module _ {O : Type 0} (f : Compiled O) (defined : Defined f) (P : Law f) where
+  pub keeps : ((κs : Lfts (f .ended .signature .lifetimes)) (a : Args (f .ended .signature) κs) → P κs a (defined κs a)) → Sees f defined → Keeps f P
+  keeps law met M 𝓤 H 𝓜 𝓖 𝓡 =
+      weaken 𝓤 H (𝓖 .A) (f .ended) (givenOf 𝓤 H 𝓜 𝓖) (promising f 𝓤 (λ κs a x. x ≡ defined κs a)) (λ κs a. promising f 𝓤 P κs a .ensures)
       (λ κs a g r ws.
-      let x = seen κs a r (atExit T κs a ws) in
+      let x = f .seen κs a r (atExit (f .ended) κs a ws) in
       fact-mono 𝓤 (x ≡ defined κs a) (P κs a x) (λ e. subst⁻¹ (P κs a) e (law κs a)))
-      (𝓡 .run ρ) (λ vs. fm→mono 𝓤 (𝓡 .run ρ vs) (run-framed 𝓤 H 𝓜 𝓡 ρ vs)) (met M 𝓤 H 𝓜 𝓖 𝓡)
+      (𝓡 .run (f .code)) (λ vs. fm→mono 𝓤 (𝓡 .run (f .code) vs) (run-framed 𝓤 H 𝓜 𝓡 (f .code) vs)) (met M 𝓤 H 𝓜 𝓖 𝓡)
 
 -- the first demand of a definition is one of what its caller sees
-pub answers : {O : Type 0} {definition : O} {number : O → ℕ} {table : ℕ} {refusal : ℕ → O} → Call O definition number table refusal → Answers O number table refusal definition
-answers c = record { numbered = c .numbers; refuses = c .refuses }
+module _ {O : Type 0} {definition : O} {number : O → ℕ} {table : ℕ} {refusal : ℕ → O} (c : Call O definition number table refusal) where
+  pub answers : Answers O number table refusal definition
+  answers = record { numbered = c .numbers; refuses = c .refuses }
+
+  -- and of what an export tells of it: where the number is the remainder, and what is told of a refusal its number alone
+  pub tells : {A : Type 0} (tell : O → Told A) (lent : A) → tell definition .answer % 256 ≡ number definition → told table lent ≡ tell (refusal table) → Tells A table lent (tell definition)
+  tells tell lent low alone = record { numbered = low ∙ c .numbers; refuses = λ h. ap tell (c .refuses h) ∙ sym alone }

@@ -1,8 +1,16 @@
--- Contracts is what a customer reads; Runs, Fits, Groups and Sheets name what each function is given and what its caller sees. Assumes nothing.
+-- Contracts is what a customer reads; a file for each function says what it is given and what its caller sees. Assumes nothing.
 pub mod Keeps
 pub mod Answers
-pub mod Runs
-pub mod Fits
-pub mod Groups
-pub mod Sheets
+pub mod Start
+pub mod Advance
+pub mod HandIn
+pub mod Result
+pub mod SingleFit
+pub mod BestTwo
+pub mod Assign
+pub mod Group
+pub mod Read
+pub mod Write
+pub mod FitText
+pub mod TrainText
 pub mod Contracts

@@ -11,4 +11,5 @@ pub mod Division
 pub mod Third
 pub mod Ends
 pub mod Finish
+pub mod Trained
 pub mod Examples

@@ -5,7 +5,7 @@ use mathlib.Core.Logic.{_≢_}
 use mathlib.Core.List.{List}
 use Rattle.job.specs.Rules.{Rule, answer, Passed}
 
--- `table` is the number that the paper's table gives; `refusal k` is number k with nothing reported and nothing written
+-- `table` is the number that the table of docs/SCOPE.md gives; `refusal k` is number k with nothing reported and nothing written
 pub record Call (A : Type 0) (definition : A) (number : A → ℕ) (table : ℕ) (refusal : ℕ → A) : Type 0 where
   -- only one outcome meets the contract
   pub only : (x y : A) → x ≡ definition → y ≡ definition → x ≡ y

@@ -43,7 +43,7 @@ three = ofBits binary32 0x40400000
 abbrev pub five : Float
 five = ofBits binary32 0x40a00000
 
--- ---- the sheet of the paper: (0.25, 0, 0) four times; an empty tile; (0.5, 0, 0) twice; (1, 0, 0) once
+-- ---- the sheet of docs/SCOPE.md: (0.25, 0, 0) four times; an empty tile; (0.5, 0, 0) twice; (1, 0, 0) once
 abbrev pub sheetJob : Job
 sheetJob = job 2 1 4 one (0 ∷ 1 ∷ 1 ∷ 0 ∷ 1 ∷ 1 ∷ 2 ∷ 1 ∷ []) (quarter ∷ nought ∷ nought ∷ half ∷ nought ∷ nought ∷ one ∷ nought ∷ nought ∷ []) (4 ∷ 2 ∷ 1 ∷ [])
 

@@ -1,9 +1,10 @@
--- What a customer reads first, in the paper's order: First with Sheets and Ends is the first demand, Second the second, Third the third, then the examples.
--- Calls says what the first demand asks of one call. Assumes nothing.
+-- What a customer reads first, in the paper's order: First with Sheets and Ends is the first demand, Second the second, Third the third,
+-- then what `train` writes and the examples. Calls says what the first demand asks of one call. Assumes nothing.
 pub mod Calls
 pub mod First
 pub mod Sheets
 pub mod Second
 pub mod Third
 pub mod Ends
+pub mod Trained
 pub mod Examples

@@ -1,4 +1,4 @@
--- The document's examples, by computation. Assumes nothing.
+-- The examples of docs/SCOPE.md, by computation. Assumes nothing.
 use mathlib.Core.Path.{_≡_, refl}
 use mathlib.Core.List.{[], _∷_}
 use lib.Ieee.{Float, binary32, ofBits, lt, le}

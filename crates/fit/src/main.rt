@@ -1,7 +1,5 @@
-// `fit`: the fits of a sheet's tiles. It reads a sheet from standard input and prints the lines that `text` gives for it.
+// `fit`: the fits of a sheet's tiles. It reads a sheet from standard input and prints the lines that `fit_text` gives for it.
 // One byte past the largest sheet is enough to know that a sheet is too large. Assumes nothing.
-mod text;
-
 ghost use mathlib.Core.Path.{_≡_};
 ghost use lib.ListN.{length};
 
@@ -23,6 +21,6 @@ fn main() {
     let mut sheet = sheet_room();
     let n = io::read_full(libc::STDIN_FILENO, &mut sheet);
     let mut out = text_room();
-    let k = text::fit(&sheet[..n], &mut out);
+    let k = fit_text::fit(&sheet[..n], &mut out);
     io::write_all(libc::STDOUT_FILENO, &out[..k]);
 }

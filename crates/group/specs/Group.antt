@@ -17,7 +17,7 @@ abbrev pub outcome : Grouped → Lent → Outcome
 outcome r m = record { answer = r; after = m }
 
 -- ---- the answer's cases
--- the document's number, and the entries written
+-- the table's number, and the entries written
 abbrev pub numberOf : Grouped → ℕ
 numberOf (Done n) = 0
 numberOf (Refused k) = k

@@ -5,6 +5,7 @@ ghost use lib.Ieee.{isNan};
 ghost use lib.ListN.{length};
 ghost use Rattle.stats.specs.Stats.{valueAt};
 ghost use Rattle.extremes.specs.Extremes.{NoNan};
+use stats::Two;
 
 #[no_mangle]
 pub extern "C" fn probe_narrow(x: f64) -> f32
@@ -13,9 +14,21 @@ pub extern "C" fn probe_narrow(x: f64) -> f32
     narrow::narrow(x)
 }
 
+// One value more, d at index i: `dist` and `second` hold the values so far, then those with it.
 #[no_mangle]
-pub extern "C" fn probe_smallest_two(values: &[f32], dist: &mut f32, second: &mut f32) -> usize {
-    let two = stats::smallest_two(values);
+pub extern "C" fn probe_smallest_two(
+    index: usize,
+    dist: &mut f32,
+    second: &mut f32,
+    i: usize,
+    d: f32,
+) -> usize {
+    let so_far = Two {
+        index,
+        dist: *dist,
+        second: *second,
+    };
+    let two = stats::smallest_two(so_far, i, d);
     *dist = two.dist;
     *second = two.second;
     two.index

@@ -1,6 +1,4 @@
-// Forwarders to color. Assumes of callers what each callee requires.
-ghost use Prim.Native.Nat.{_/_, _≤_};
-ghost use lib.ListN.{length};
+// A forwarder to color_distance. Asks nothing of callers.
 use color::Oklab;
 
 #[no_mangle]
@@ -26,14 +24,4 @@ pub extern "C" fn probe_sqdist(
         },
         weight,
     )
-}
-
-#[no_mangle]
-pub extern "C" fn probe_mean(colours: &[f32], l: &mut f32, a: &mut f32, b: &mut f32)
-    requires { ⌜ (1 ≤ length (now colours) / 3) × (length (now colours) / 3 ≤ 16777216) ⌝ }
-{
-    let mean = color_mean::mean_oklab(colours);
-    *l = mean.l;
-    *a = mean.a;
-    *b = mean.b;
 }

@@ -21,9 +21,7 @@ pub extern "C" fn probe_shuffle(state: u64, items: &mut [u32]) -> u64 {
 }
 
 #[no_mangle]
-pub extern "C" fn probe_base_iterations(n: usize) -> usize
-    requires { ⌜ n ≤ 16384 ⌝ }
-{
+pub extern "C" fn probe_base_iterations(n: usize) -> u64 {
     sample_cycle::base_iterations(n)
 }
 

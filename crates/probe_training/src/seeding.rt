@@ -1,10 +1,27 @@
-// Forwarders to the first colour of seeding and to the choice of what is split next. Assumes of callers what each callee requires.
+// Forwarders to the mean and the first colour of seeding, and to the choice of what is split next. Assumes of callers what each callee requires.
 ghost use mathlib.Core.Path.{_≡_};
 ghost use lib.ListN.{length};
 ghost use Rattle.job.specs.Job.{job};
 ghost use Rattle.palette_tile.specs.Tiles.{Shown};
 ghost use Rattle.quantizer.specs.Course.{course};
-ghost use Rattle.quantizer_seed.specs.Seeds.{Seeding};
+ghost use Rattle.quantizer_seed.specs.Seeds.{Averaging, Seeding};
+
+#[no_mangle]
+pub extern "C" fn probe_mean(
+    tiles: &[u32],
+    colours: &[f32],
+    samples: &[u32],
+    l: &mut f32,
+    a: &mut f32,
+    b: &mut f32,
+)
+    requires { ⌜ Averaging (now tiles) (now colours) (now samples) ⌝ }
+{
+    let mean = quantizer_seed::mean_oklab(tiles, colours, samples);
+    *l = mean.l;
+    *a = mean.a;
+    *b = mean.b;
+}
 
 #[no_mangle]
 pub extern "C" fn probe_seed(

@@ -1,39 +1,29 @@
--- The samples' colours are summed in order and divided, and the mean is written first. Assumes nothing.
-use Prim.Native.Nat.{ℕ, _+_, _≤_}
-use mathlib.Core.Path.{_≡_, refl, sym, ap, _∙_}
+-- A course that passed has samples to average, and their mean, written first, is the first colour. Assumes nothing.
+use Prim.Native.Nat.{_/_}
+use mathlib.Core.Path.{_≡_, ap, _∙_}
 use mathlib.Core.List.{List}
-use native.Mathlib.Nat.{le-antisymm}
-use native.Mathlib.Numerals.{add-one}
 use native.Mathlib.Omega.{arith}
+use lib.ListN.{length}
 use lib.Ieee.{Float}
 use Rattle.color.specs.declared.Oklab.{Oklab}
-use Rattle.color.specs.Color.{colourAt, putAt, black, plusOf, overOf, sumOf}
-use Rattle.job.specs.Job.{coloursPart}
-use Rattle.quantizer.specs.Course.{Course, sampleTile, samplePlace, sampleColour}
+use Rattle.color.specs.Color.{putAt, meanOf}
+use Rattle.quantizer.specs.Course.{Course, sampleColour}
 use Rattle.quantizer.specs.Seeding.{seedMean, seeded}
-use Rattle.quantizer_sample.proofs.Course.{told, colour-is}
-use Rattle.quantizer_seed.specs.Seeds.{Averaging, Seeding}
+use Rattle.quantizer_sample.proofs.Course.{told}
+use Rattle.quantizer_seed.specs.Seeds.{toldColour, Averaging, Seeding}
 
-module _ (K : Course) where
-  pub sum-none : black ≡ sumOf (sampleColour K) 0
-  unfolding sumOf
-  sum-none = refl
+module _ (K : Course) (pal : List Float) (D : Seeding K pal) where
+  pairs : length (K .samples) / 2 ≡ K .n
+  pairs = omega (arith, D .sampling .passed .pairs)
 
-  pub sum-more : (i : ℕ) (sum q r : Oklab) → sum ≡ sumOf (sampleColour K) i → q ≡ colourAt (coloursPart (K .job .tiles) (K .job .colours) (sampleTile K i)) (samplePlace K i) → r ≡ plusOf sum q → r ≡ sumOf (sampleColour K) (i + 1)
-  unfolding sumOf
-  sum-more i sum q r e f g =
-      g
-      ∙ ap (plusOf sum) (colour-is K i q f)
-      ∙ ap (λ (x : Oklab). plusOf x (sampleColour K i)) e
-      ∙ sym (ap (sumOf (sampleColour K)) (add-one i))
+  pub averaging : Averaging (K .job .tiles) (K .job .colours) (K .samples)
+  averaging =
+      record {
+        some = omega (arith, pairs, D .sampling .passed .some);
+        few = omega (arith, pairs, D .sampling .passed .few);
+        told = λ i l. told K i (D .sampling) (omega (arith, pairs));
+      }
 
-  pub mean-done : (i : ℕ) → i ≤ K .n → K .n ≤ i → (sum r : Oklab) → sum ≡ sumOf (sampleColour K) i → r ≡ overOf sum (K .n) → r ≡ seedMean K
-  unfolding seedMean
-  mean-done i l h sum r e f = f ∙ ap (λ (x : Oklab). overOf x (K .n)) (e ∙ ap (sumOf (sampleColour K)) (le-antisymm l h))
-
-  pub averaging : (pal : List Float) → Seeding K pal → Averaging K
-  averaging pal D = record { told = λ i l. told K i (D .sampling) l; few = omega (arith, D .sampling .passed .few) }
-
-  pub seed-done : (pal after : List Float) (mean : Oklab) → mean ≡ seedMean K → after ≡ putAt pal 0 mean → after ≡ seeded K pal
-  unfolding seeded
-  seed-done pal after mean e f = f ∙ ap (putAt pal 0) e
+  pub seed-done : (after : List Float) (mean : Oklab) → mean ≡ meanOf (toldColour (K .job .tiles) (K .job .colours) (K .samples)) (length (K .samples) / 2) → after ≡ putAt pal 0 mean → after ≡ seeded K pal
+  unfolding seeded seedMean sampleColour
+  seed-done after mean e f = f ∙ ap (putAt pal 0) (e ∙ ap (meanOf (sampleColour K)) pairs)

@@ -1,26 +1,20 @@
 // Seeding: the mean of the samples becomes the first colour, as the definitions in quantizer's specs/Seeding.antt say. Assumes nothing.
 ghost use mathlib.Core.Path.{_≡_};
+ghost use Prim.Native.Nat.{_/_};
+ghost use lib.ListN.{length};
+ghost use Rattle.color.specs.Color.{meanOf};
 ghost use Rattle.job.specs.Job.{job};
 ghost use Rattle.quantizer.specs.Course.{course};
-ghost use Rattle.quantizer.specs.Seeding.{seedMean, seeded};
-ghost use Rattle.quantizer_seed.specs.Seeds.{Averaging, Seeding};
+ghost use Rattle.quantizer.specs.Seeding.{seeded};
+ghost use Rattle.quantizer_seed.specs.Seeds.{toldColour, Averaging, Seeding};
 use color::Oklab;
 
-// The mean of the n samples' colours, summed in order.
-fn seed_mean(
-    s: usize,
-    c: usize,
-    t: usize,
-    n: usize,
-    weight: f32,
-    tiles: &[u32],
-    colours: &[f32],
-    counts: &[u32],
-    samples: &[u32],
-) -> Oklab
-    requires { ⌜ Averaging (course (job s c t weight (now tiles) (now colours) (now counts)) n (now samples)) ⌝ }
-    ensures { λ r. ⌜ r ≡ seedMean (course (job s c t weight (now (tiles .entry)) (now (colours .entry)) (now (counts .entry))) n (now (samples .entry))) ⌝ }
+// Component-wise mean of the samples' colours, summed in order.
+pub fn mean_oklab(tiles: &[u32], colours: &[f32], samples: &[u32]) -> Oklab
+    requires { ⌜ Averaging (now tiles) (now colours) (now samples) ⌝ }
+    ensures { λ r. ⌜ r ≡ meanOf (toldColour (now (tiles .entry)) (now (colours .entry)) (now (samples .entry))) (length (now (samples .entry)) / 2) ⌝ }
 {
+    let n = samples.len() / 2;
     let mut sum = Oklab {
         l: 0.0,
         a: 0.0,
@@ -51,6 +45,6 @@ pub fn seed(
     requires { ⌜ Seeding (course (job s c t weight (now tiles) (now colours) (now counts)) n (now samples)) (now pal) ⌝ }
     ensures { λ r. ⌜ now (pal .exit) ≡ seeded (course (job s c t weight (now (tiles .entry)) (now (colours .entry)) (now (counts .entry))) n (now (samples .entry))) (now (pal .entry)) ⌝ }
 {
-    let mean = seed_mean(s, c, t, n, weight, tiles, colours, counts, samples);
+    let mean = mean_oklab(tiles, colours, samples);
     color::put(pal, 0, mean);
 }

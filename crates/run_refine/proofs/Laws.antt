@@ -15,14 +15,14 @@ use Rattle.stages.specs.Stages.{refinedOnce}
 use Rattle.calls.proofs.Sound.{all-shown, refined-held, hinted}
 use Rattle.run_refine.specs.Refines.{refinedTimes, placedAt, finalDraws, Refinable}
 
--- ---- the final draws
-pub none-begin : (n : ℕ) (r : Record) → 10 * (n / 10) ≡ 0 → placedAt r 5 0 0 ≡ finalDraws n r
+-- ---- the final draws: ten rounds of d draws in one
+pub none-begin : (n d : ℕ) (r : Record) → d ≡ n / 10 → 10 * d ≡ 0 → placedAt r 5 0 0 ≡ finalDraws n r
 unfolding finalDraws
-none-begin n r e = rw (eq-eqb (10 * (n / 10)) 0 e)
+none-begin n d r h e = rw (← h, eq-eqb (10 * d) 0 e)
 
-pub some-begin : (n : ℕ) (r : Record) → 10 * (n / 10) ≢ 0 → placedAt r 4 0 (10 * (n / 10)) ≡ finalDraws n r
+pub some-begin : (n d : ℕ) (r : Record) → d ≡ n / 10 → 10 * d ≢ 0 → placedAt r 4 0 (10 * d) ≡ finalDraws n r
 unfolding finalDraws
-some-begin n r e = rw (ne-eqb (10 * (n / 10)) 0 e)
+some-begin n d r h e = rw (← h, ne-eqb (10 * d) 0 e)
 
 -- ---- refinements
 pub shown-of : (K : Course) (s : State) → Refinable K s → Shown (K .job) (s .palette) (K .job .S) (K .job .C)

@@ -13,7 +13,7 @@ pub fn final_draws(n: usize, r: Record) -> Record
     requires { ⌜ n ≤ 16384 ⌝ }
     ensures { λ x. ⌜ x ≡ finalDraws n r ⌝ }
 {
-    let left = 10 * (n as u64 / 10);
+    let left = 10 * sample_cycle::base_iterations(n);
     if left == 0 {
         return Record {
             generator: r.generator,

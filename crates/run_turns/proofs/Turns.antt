@@ -1,4 +1,4 @@
--- The round that the document opens at a start, and when another is closed, is the next in the count. Assumes nothing.
+-- The round that the definitions open at a start, and when another is closed, is the next in the count. Assumes nothing.
 use Prim.Native.Nat.{ℕ, _+_, _-_, _≤_, _<_}
 use mathlib.Core.Path.{_≡_, refl, ap, _∙_}
 use mathlib.Core.Logic.{_⊎_, inl, inr}

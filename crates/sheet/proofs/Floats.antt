@@ -3,7 +3,7 @@ use mathlib.Core.Path.{_≡_, refl, sym, ap, ap₂, subst}
 use Prim.Native.Nat.{ℕ, zero, suc, _^_, _<_}
 use native.Mathlib.Omega.{arith}
 use mathlib.Core.Bool.{_&&_}
-use mathlib.Core.List.{List, [], _∷_}
+use mathlib.Core.List.{List, [], _∷_, _++_}
 use lib.Dec.{T, ltb, lt→ltb, ltb→lt}
 use lib.ListN.{length, getD, take, drop}
 use lib.Ieee.{Float, nan, binary32, ofBits, toBits, fits, lt}
@@ -33,6 +33,11 @@ singles-take zero v s i = tt
 singles-take (suc n) [] s i = s i
 singles-take (suc n) (x ∷ v) s zero = s 0
 singles-take (suc n) (x ∷ v) s (suc i) = singles-take n v (λ j. s (suc j)) i
+
+pub singles-append : (u v : List Float) → Singles u → Singles v → Singles (u ++ v)
+singles-append [] v a b i = b i
+singles-append (x ∷ u) v a b zero = a 0
+singles-append (x ∷ u) v a b (suc i) = singles-append u v (λ j. a (suc j)) b i
 
 pub bounded-drop : (k n : ℕ) (v : List Float) → Bounded v k → Bounded (drop n v) k
 bounded-drop k zero v b = b

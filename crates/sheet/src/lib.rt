@@ -37,8 +37,15 @@ pub fn read(
             weight,
         } => {
             let n = (3 * (subs * each)) as usize;
-            sheet_fill_colours::fill_components(bytes, 86, n, palette, 0);
-            sheet_fill::fill_tiles(bytes, 86 + n * 32, t as usize, tiles, counts, colours);
+            sheet_fill_colours::fill_components(bytes, sheet_format::HEAD_BITS, n, palette, 0);
+            sheet_fill::fill_tiles(
+                bytes,
+                sheet_format::HEAD_BITS + n * 32,
+                t as usize,
+                tiles,
+                counts,
+                colours,
+            );
             Reading::Sheet {
                 s: subs as usize,
                 c: each as usize,

@@ -11,7 +11,7 @@ use Rattle.bits.proofs.Bytes.{length-bits}
 use Rattle.format.specs.Format.{Res, fault, got, next, field, above}
 use Rattle.format.proofs.Reading.{field-short, field-found, above-short, above-found, checked-fault, checked-got, both-fault, both-got, literal-short, literal-same, literal-other}
 use Rattle.pattern.specs.Pattern.{weighs}
-use Rattle.sheet_format.specs.Sheet.{Edition, weight, tiled, coloured, sized, dated, header}
+use Rattle.sheet_format.specs.Sheet.{Edition, opening, weight, tiled, coloured, sized, dated, header}
 
 module _ (l : List Bool) where
   -- cut short anywhere before its end
@@ -50,14 +50,14 @@ module _ (l : List Bool) where
 
 module _ (E : Edition) (s : List ℕ) where
   pub opening-short : 8 * length s < 32 → header E .parse (bits s) ≡ fault 13
-  opening-short h = literal-short 32 0x5446_4954 12 (dated E) (bits s) 0 (rw length-bits (omega arith))
+  opening-short h = literal-short 32 opening 12 (dated E) (bits s) 0 (rw length-bits (omega arith))
 
-  pub opening-wrong : (w : ℕ) → 32 ≤ 8 * length s → w ≡ fieldAt (bits s) 0 32 → (w ≡ 0x5446_4954 → ⊥) → header E .parse (bits s) ≡ fault 12
-  opening-wrong w h e f = literal-other 32 0x5446_4954 12 (dated E) (bits s) 0 w (rw length-bits h) e f
+  pub opening-wrong : (w : ℕ) → 32 ≤ 8 * length s → w ≡ fieldAt (bits s) 0 32 → (w ≡ opening → ⊥) → header E .parse (bits s) ≡ fault 12
+  opening-wrong w h e f = literal-other 32 opening 12 (dated E) (bits s) 0 w (rw length-bits h) e f
 
-  module _ (o : ℕ) (opened : o ≡ fieldAt (bits s) 0 32) (right : o ≡ 0x5446_4954) where
+  module _ (o : ℕ) (opened : o ≡ fieldAt (bits s) 0 32) (right : o ≡ opening) where
     inside : 32 ≤ 8 * length s → header E .parse (bits s) ≡ dated E .parse (drop 32 (bits s))
-    inside h = literal-same 32 0x5446_4954 12 (dated E) (bits s) 0 o (rw length-bits h) opened right
+    inside h = literal-same 32 opening 12 (dated E) (bits s) 0 o (rw length-bits h) opened right
 
     pub edition-short : 32 ≤ 8 * length s → 8 * length s < 36 → header E .parse (bits s) ≡ fault 13
     edition-short g h = inside g ∙ literal-short 4 (E .number) 12 sized (bits s) 32 (rw length-bits (omega arith))

@@ -7,8 +7,6 @@ ghost use Rattle.bits.specs.Bits.{bits};
 ghost use Rattle.sheet_format.specs.Sheet.{edition1, header, readSheet};
 ghost use Rattle.sheet_check.specs.Steps.{headOf, checkedOf};
 
-const OPENING: u32 = 0x5446_4954;
-
 // What a test finds: a refusal's number, or the numbers at the sheet's head.
 pub enum Checked {
     Refused(u32),
@@ -29,26 +27,26 @@ pub fn head(s: &[u8]) -> Checked
     if end < 32 {
         return Checked::Refused(13);
     }
-    if bits::get(s, 0, 32) != OPENING {
+    if bits::get(s, 0, 32) != sheet_format::OPENING {
         return Checked::Refused(12);
     }
-    if end < 36 {
+    if end < sheet_format::SUBS_AT {
         return Checked::Refused(13);
     }
     if bits::get(s, 32, 4) != 1 {
         return Checked::Refused(12);
     }
-    if end < 86 {
+    if end < sheet_format::HEAD_BITS {
         return Checked::Refused(13);
     }
-    let weight = bits::get(s, 54, 32);
+    let weight = bits::get(s, sheet_format::WEIGHT_AT, 32);
     if !pattern::is_weight(weight) {
         return Checked::Refused(4);
     }
     Checked::Sound {
-        subs: bits::get(s, 36, 4) + 1,
-        each: bits::get(s, 40, 4) + 1,
-        tiles: bits::get(s, 44, 10) + 1,
+        subs: bits::get(s, sheet_format::SUBS_AT, 4) + 1,
+        each: bits::get(s, sheet_format::EACH_AT, 4) + 1,
+        tiles: bits::get(s, sheet_format::TILES_AT, 10) + 1,
         weight,
     }
 }
@@ -69,7 +67,12 @@ pub fn check(s: &[u8]) -> Checked
             weight,
         } => {
             let n = 3 * (subs * each);
-            match sheet_tiles::palette_then_tiles(s, 86, n as usize, tiles as usize) {
+            match sheet_tiles::palette_then_tiles(
+                s,
+                sheet_format::HEAD_BITS,
+                n as usize,
+                tiles as usize,
+            ) {
                 sheet_colours::Step::Fault(f) => Checked::Refused(f),
                 sheet_colours::Step::At(z) => {
                     if sheet_spare::only_spare(s, z) {

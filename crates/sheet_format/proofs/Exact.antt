@@ -11,7 +11,7 @@ use Rattle.format.proofs.Tests.{and-r}
 use Rattle.format.proofs.Lawful.{Lawful, field-lawful, checked-lawful, mapped-lawful, above-lawful, both-lawful, literal-lawful, none-lawful, cons-lawful, times-lawful, counted-lawful}
 use Rattle.format.proofs.Files.{decode-encode, encode-decode}
 use Rattle.pattern.specs.Pattern.{small, weighs}
-use Rattle.sheet_format.specs.Sheet.{Edition, component, Colour, Sheet, whole, parts, entry, colours, tile, header, rest, sheet}
+use Rattle.sheet_format.specs.Sheet.{Edition, opening, component, Colour, Sheet, whole, parts, entry, colours, tile, header, rest, sheet}
 
 pub component-lawful : Lawful component
 component-lawful = checked-lawful 7 small (field 32) (field-lawful 32)
@@ -43,7 +43,7 @@ module _ (E : Edition) where
 
   pub header-lawful : Lawful (header E)
   header-lawful =
-      literal-lawful 32 0x5446_4954 12 _ (literal-lawful 4 (E .number) 12 _
+      literal-lawful 32 opening 12 _ (literal-lawful 4 (E .number) 12 _
       (both-lawful _ _ (above-lawful 4) λ s. both-lawful _ _ (above-lawful 4) λ c. both-lawful _ _ (above-lawful 10) λ t.
       checked-lawful 4 weighs (field 32) (field-lawful 32)))
 

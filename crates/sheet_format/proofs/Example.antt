@@ -1,4 +1,4 @@
--- The document's example: its bytes and their number. Assumes nothing.
+-- The example of docs/SCOPE.md: its bytes and their number. Assumes nothing.
 use mathlib.Core.Path.{_≡_, refl}
 use mathlib.Core.List.{[], _∷_}
 use lib.Dec.{T}

@@ -8,7 +8,7 @@ use lib.ListN.{length, take, drop}
 use Rattle.bits.specs.Bits.{num}
 use Rattle.format.specs.Format.{Res, fault, got, next, Format, field, checked, above, both, literal, cons, times, counted}
 use Rattle.pattern.specs.Pattern.{small, weighs}
-use Rattle.sheet_format.specs.Sheet.{Edition, component, weight, tiled, coloured, sized, whole, entry, colours, tile, dated, header, rest, sheet}
+use Rattle.sheet_format.specs.Sheet.{Edition, opening, component, weight, tiled, coloured, sized, whole, entry, colours, tile, dated, header, rest, sheet}
 use Rattle.sheet_format.specs.Opened.{misopened}
 
 module _ (k : ℕ) where
@@ -102,8 +102,8 @@ module _ (k : ℕ) where
 
       pub sheet-never : eqb 4 k ≡ false → eqb 12 k ≡ false → Never (sheet E)
       sheet-never e4 e12 l =
-          sheet-header l ∙ literal-failed 32 0x5446_4954 12 (dated E) l
-          ∙ none-of (leb 32 (length l)) (eqb (num (take 32 l)) 0x5446_4954) (dated E .parse (drop 32 l))
+          sheet-header l ∙ literal-failed 32 opening 12 (dated E) l
+          ∙ none-of (leb 32 (length l)) (eqb (num (take 32 l)) opening) (dated E .parse (drop 32 l))
           (literal-failed 4 (E .number) 12 sized (drop 32 l) ∙ none-of (leb 4 (length (drop 32 l))) (eqb (num (take 4 (drop 32 l))) (E .number)) (sized .parse (drop 4 (drop 32 l))) (sized-never e4 (drop 4 (drop 32 l))))
         where
           none-of : {A : Type 0} (s t : Bool) (x : Res A) → failed x ≡ false → cond s (cond t (failed x) (eqb 12 k)) (eqb 13 k) ≡ false
@@ -114,9 +114,9 @@ module _ (k : ℕ) where
 -- the opening is there and another, or the edition is there and another
 pub sheet-misopened : (E : Edition) (l : List Bool) → failed 12 (sheet E .parse l) ≡ misopened E l
 sheet-misopened E l =
-    sheet-header 12 refl E refl refl refl l ∙ literal-failed 12 32 0x5446_4954 12 (dated E) l
-    ∙ ap (λ (b : Bool). cond (leb 32 (length l)) (cond (eqb (num (take 32 l)) 0x5446_4954) b true) false) (literal-failed 12 4 (E .number) 12 sized (drop 32 l) ∙ inner (leb 4 (length (drop 32 l))) (eqb (num (take 4 (drop 32 l))) (E .number)))
-    ∙ outer (leb 32 (length l)) (eqb (num (take 32 l)) 0x5446_4954) _
+    sheet-header 12 refl E refl refl refl l ∙ literal-failed 12 32 opening 12 (dated E) l
+    ∙ ap (λ (b : Bool). cond (leb 32 (length l)) (cond (eqb (num (take 32 l)) opening) b true) false) (literal-failed 12 4 (E .number) 12 sized (drop 32 l) ∙ inner (leb 4 (length (drop 32 l))) (eqb (num (take 4 (drop 32 l))) (E .number)))
+    ∙ outer (leb 32 (length l)) (eqb (num (take 32 l)) opening) _
   where
     inner : (s t : Bool) → cond s (cond t (failed 12 (sized .parse (drop 4 (drop 32 l)))) true) false ≡ s && not t
     inner true true = sized-never 12 refl refl (drop 4 (drop 32 l))

@@ -11,7 +11,7 @@ use Rattle.format.specs.Format.{got, field, above}
 use Rattle.format.proofs.Tests.{and-l, and-r}
 use Rattle.format.proofs.Fixed.{Fixed, field-fixed, checked-fixed, above-fixed, both-fixed, literal-fixed}
 use Rattle.pattern.specs.Pattern.{weighs}
-use Rattle.sheet_format.specs.Sheet.{Edition, Header, weight, tiled, coloured, sized, dated, header}
+use Rattle.sheet_format.specs.Sheet.{Edition, opening, Header, weight, tiled, coloured, sized, dated, header}
 use Rattle.sheet_format.proofs.Exact.{header-lawful}
 
 pub record Sized (h : Header) : Type 0 where
@@ -36,7 +36,7 @@ module _ (E : Edition) where
       let N : Bool = above 10 .good (h .1 .1 .0) in
       let C : Bool = above 4 .good (h .1 .0) in
       let S : Bool = above 4 .good (h .0) in
-      let sizes = and-r (ltb (E .number) (2 ^ 4)) (S && (C && (N && W))) (and-r (ltb 0x5446_4954 (2 ^ 32)) (ltb (E .number) (2 ^ 4) && (S && (C && (N && W)))) g) in
+      let sizes = and-r (ltb (E .number) (2 ^ 4)) (S && (C && (N && W))) (and-r (ltb opening (2 ^ 32)) (ltb (E .number) (2 ^ 4) && (S && (C && (N && W)))) g) in
       let subs = above-says 4 (h .0) (and-l S (C && (N && W)) sizes) in
       let two = and-r S (C && (N && W)) sizes in
       let each = above-says 4 (h .1 .0) (and-l C (N && W) two) in
@@ -53,7 +53,7 @@ module _ (E : Edition) where
 
   pub header-fixed : Fixed (header E) 86
   header-fixed =
-      literal-fixed 32 0x5446_4954 12 54 (dated E) (literal-fixed 4 (E .number) 12 50 sized
+      literal-fixed 32 opening 12 54 (dated E) (literal-fixed 4 (E .number) 12 50 sized
       (both-fixed (above 4) (λ s. coloured) 4 46 (above-fixed 4) λ s. both-fixed (above 4) (λ c. tiled) 4 42 (above-fixed 4) λ c.
       both-fixed (above 10) (λ t. weight) 10 32 (above-fixed 10) λ t.
       checked-fixed 4 weighs (field 32) 32 (field-fixed 32)))

@@ -4,7 +4,7 @@ use mathlib.Core.List.{List}
 use lib.Dec.{leb, eqb}
 use lib.ListN.{length, take, drop}
 use Rattle.bits.specs.Bits.{num}
-use Rattle.sheet_format.specs.Sheet.{Edition}
+use Rattle.sheet_format.specs.Sheet.{Edition, opening}
 
 abbrev pub misopened : Edition → List Bool → Bool
-misopened E l = leb 32 (length l) && (not (eqb (num (take 32 l)) 0x5446_4954) || (leb 4 (length (drop 32 l)) && not (eqb (num (take 4 (drop 32 l))) (E .number))))
+misopened E l = leb 32 (length l) && (not (eqb (num (take 32 l)) opening) || (leb 4 (length (drop 32 l)) && not (eqb (num (take 4 (drop 32 l))) (E .number))))

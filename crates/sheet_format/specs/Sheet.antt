@@ -17,6 +17,13 @@ pub record Edition : Type 0 where
 abbrev pub edition1 : Edition
 edition1 = record { number = 1; size = 64; many = 7; each = 6 }
 
+-- the first field, 54 46 49 54; and the bits of opening, edition, sizes and weight
+abbrev pub opening : ℕ
+opening = 0x5446_4954
+
+abbrev pub headSize : ℕ
+headSize = 86
+
 abbrev pub component : Format ℕ
 component = checked 7 small (field 32)
 
@@ -82,7 +89,7 @@ module _ (E : Edition) where
   dated = literal 4 (E .number) 12 sized
 
   abbrev pub header : Format Header
-  header = literal 32 0x5446_4954 12 dated
+  header = literal 32 opening 12 dated
 
   -- the palette's n components, then t tiles
   abbrev pub rest : ℕ → ℕ → Format (List ℕ × List (List Colour))
@@ -97,4 +104,4 @@ module _ (E : Edition) where
 
   -- the bits of a sheet of s subpalettes of c colours, and t tiles of n colours in all
   abbrev pub sizeOf : ℕ → ℕ → ℕ → ℕ → ℕ
-  sizeOf s c t n = 86 + 96 * (s * c) + E .many * t + (E .each + 96) * n
+  sizeOf s c t n = headSize + 96 * (s * c) + E .many * t + (E .each + 96) * n

@@ -14,7 +14,7 @@ use Rattle.bits.proofs.Bytes.{length-bits}
 use Rattle.bits.proofs.Fields.{length-written, sets-append, written-sets}
 use Rattle.ieee.specs.Terms.{Within}
 use Rattle.color.specs.Color.{Bounded}
-use Rattle.sheet_format.specs.Sheet.{edition1, Colour}
+use Rattle.sheet_format.specs.Sheet.{edition1, opening, Colour}
 use Rattle.sheet_format.specs.Lists.{patterns}
 use Rattle.sheet_pack.specs.Packed.{coloursOf, tilesFrom, words, coloursBits, tileBits, tilesBits, headBits}
 use Rattle.sheet_pack.proofs.Prints.{length-words, length-coloursOf, three}
@@ -125,11 +125,11 @@ module _ (tb : List ℕ) (f : List Float) (cs : List ℕ) where
 
 -- ---- the head: six fields
 pub head-done : (l l₁ l₂ l₃ l₄ l₅ l₆ : List Bool) (s c t w : ℕ) → 86 ≤ length l
-    → l₁ ≡ written l 0 32 0x5446_4954 → l₂ ≡ written l₁ 32 4 1 → l₃ ≡ written l₂ 36 4 (s - 1) → l₄ ≡ written l₃ 40 4 (c - 1)
+    → l₁ ≡ written l 0 32 opening → l₂ ≡ written l₁ 32 4 1 → l₃ ≡ written l₂ 36 4 (s - 1) → l₄ ≡ written l₃ 40 4 (c - 1)
     → l₅ ≡ written l₄ 44 10 (t - 1) → l₆ ≡ written l₅ 54 32 w → l₆ ≡ sets l 0 (headBits edition1 s c t w)
 unfolding headBits
 head-done l l₁ l₂ l₃ l₄ l₅ l₆ s c t w h e₁ e₂ e₃ e₄ e₅ e₆ =
-    let n₁ : length l₁ ≡ length l = ap length e₁ ∙ length-written l 0 32 0x5446_4954 (omega arith) in
+    let n₁ : length l₁ ≡ length l = ap length e₁ ∙ length-written l 0 32 opening (omega arith) in
     let n₂ : length l₂ ≡ length l = ap length e₂ ∙ length-written l₁ 32 4 1 (omega arith) ∙ n₁ in
     let n₃ : length l₃ ≡ length l = ap length e₃ ∙ length-written l₂ 36 4 (s - 1) (omega arith) ∙ n₂ in
     let n₄ : length l₄ ≡ length l = ap length e₄ ∙ length-written l₃ 40 4 (c - 1) (omega arith) ∙ n₃ in
@@ -139,10 +139,10 @@ head-done l l₁ l₂ l₃ l₄ l₅ l₆ s c t w h e₁ e₂ e₃ e₄ e₅ e�
     let three : List Bool = bitsOf 4 (s - 1) ++ four in
     let two : List Bool = bitsOf 4 1 ++ three in
     let g : List Bool = sets l 0 (headBits edition1 s c t w) in
-    let whole : bitsOf 32 0x5446_4954 ++ two ≡ headBits edition1 s c t w =
-    ap₂ (λ (x y : ℕ). bitsOf 32 0x5446_4954 ++ (bitsOf 4 1 ++ (bitsOf 4 x ++ (bitsOf 4 y ++ five)))) (less-one s) (less-one c)
-    ∙ ap (λ (z : ℕ). bitsOf 32 0x5446_4954 ++ (bitsOf 4 1 ++ (bitsOf 4 (pred s) ++ (bitsOf 4 (pred c) ++ (bitsOf 10 z ++ bitsOf 32 w))))) (less-one t) in
-    let a = field-put l l₁ 0 32 0x5446_4954 two g (omega arith) e₁ (ap (sets l 0) whole) in
+    let whole : bitsOf 32 opening ++ two ≡ headBits edition1 s c t w =
+    ap₂ (λ (x y : ℕ). bitsOf 32 opening ++ (bitsOf 4 1 ++ (bitsOf 4 x ++ (bitsOf 4 y ++ five)))) (less-one s) (less-one c)
+    ∙ ap (λ (z : ℕ). bitsOf 32 opening ++ (bitsOf 4 1 ++ (bitsOf 4 (pred s) ++ (bitsOf 4 (pred c) ++ (bitsOf 10 z ++ bitsOf 32 w))))) (less-one t) in
+    let a = field-put l l₁ 0 32 opening two g (omega arith) e₁ (ap (sets l 0) whole) in
     let b = field-put l₁ l₂ 32 4 1 three g (omega arith) e₂ a in
     let d = field-put l₂ l₃ 36 4 (s - 1) four g (omega arith) e₃ b in
     let f = field-put l₃ l₄ 40 4 (c - 1) five g (omega arith) e₄ d in

@@ -7,7 +7,7 @@ use lib.Ieee.{Float, binary32, toBits}
 use Rattle.bits.specs.Bits.{bitsOf}
 use Rattle.job.specs.Job.{Job, job, tileSize, coloursPart, countsPart}
 use Rattle.job.specs.Gives.{Ready}
-use Rattle.sheet_format.specs.Sheet.{Edition, Colour, Sheet}
+use Rattle.sheet_format.specs.Sheet.{Edition, opening, Colour, Sheet}
 use Rattle.sheet_format.specs.Lists.{patterns}
 
 -- ---- the sheet of a job
@@ -51,7 +51,7 @@ module _ (E : Edition) where
   -- opening, edition, the sizes less one, the weight
   unfoldable pub headBits : ℕ → ℕ → ℕ → ℕ → List Bool
   headBits s c t w =
-      bitsOf 32 0x5446_4954 ++ (bitsOf 4 (E .number) ++ (bitsOf 4 (pred s) ++ (bitsOf 4 (pred c) ++ (bitsOf 10 (pred t) ++ bitsOf 32 w))))
+      bitsOf 32 opening ++ (bitsOf 4 (E .number) ++ (bitsOf 4 (pred s) ++ (bitsOf 4 (pred c) ++ (bitsOf 10 (pred t) ++ bitsOf 32 w))))
 
   abbrev pub sheetBits : Sheet → List Bool
   sheetBits x = headBits (x .subs) (x .each) (x .tiles) (x .weight) ++ (words (x .palette) ++ tilesBits (x .content))

@@ -5,11 +5,9 @@ ghost use lib.ListN.{length};
 ghost use lib.Seq.{sets};
 ghost use Rattle.bits.specs.Bits.{bits};
 ghost use Rattle.color.specs.Color.{Bounded};
-ghost use Rattle.sheet_format.specs.Sheet.{edition1};
+ghost use Rattle.sheet_format.specs.Sheet.{headSize, edition1};
 ghost use Rattle.sheet_format.specs.Lists.{patterns};
 ghost use Rattle.sheet_pack.specs.Packed.{words, coloursBits, tileBits, tilesBits, headBits, coloursOf, tilesFrom, Counted, Tabled};
-
-const OPENING: u32 = 0x5446_4954;
 
 // Components as fields from bit p.
 pub fn pack_components(dst: &mut [u8], p: usize, src: &[f32])
@@ -75,13 +73,13 @@ pub fn pack_tiles(
 
 // Opening, edition, sizes and weight.
 pub fn pack_head(dst: &mut [u8], s: usize, c: usize, t: usize, w: u32)
-    requires { ⌜ (86 ≤ 8 * length (now dst)) × (0 < s) × (s ≤ 16) × (0 < c) × (c ≤ 16) × (0 < t) × (t ≤ 1024) ⌝ }
+    requires { ⌜ (headSize ≤ 8 * length (now dst)) × (0 < s) × (s ≤ 16) × (0 < c) × (c ≤ 16) × (0 < t) × (t ≤ 1024) ⌝ }
     ensures { λ r. ⌜ bits (now (dst .exit)) ≡ sets (bits (now (dst .entry))) 0 (headBits edition1 s c t w) ⌝ }
 {
-    bits_put::put(dst, 0, 32, OPENING);
+    bits_put::put(dst, 0, 32, sheet_format::OPENING);
     bits_put::put(dst, 32, 4, 1);
-    bits_put::put(dst, 36, 4, (s - 1) as u32);
-    bits_put::put(dst, 40, 4, (c - 1) as u32);
-    bits_put::put(dst, 44, 10, (t - 1) as u32);
-    bits_put::put(dst, 54, 32, w);
+    bits_put::put(dst, sheet_format::SUBS_AT, 4, (s - 1) as u32);
+    bits_put::put(dst, sheet_format::EACH_AT, 4, (c - 1) as u32);
+    bits_put::put(dst, sheet_format::TILES_AT, 10, (t - 1) as u32);
+    bits_put::put(dst, sheet_format::WEIGHT_AT, 32, w);
 }

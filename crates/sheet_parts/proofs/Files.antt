@@ -1,46 +1,38 @@
 -- The file of a job is as long with every palette, and the writer stores it. Assumes nothing.
-use Prim.Native.Nat.{ℕ, zero, suc, _+_, _-_, _*_, _≤_}
-use mathlib.Core.Path.{_≡_, refl, sym, ap, subst, _∙_}
+use Prim.Native.Nat.{ℕ, _+_, _≤_}
+use mathlib.Core.Path.{_≡_, sym, ap, _∙_}
 use native.Mathlib.Omega.{arith}
-use mathlib.Core.Bool.{Bool, true, false, cond}
-use mathlib.Core.List.{List, _++_}
+use mathlib.Core.Bool.{Bool, true, cond}
+use mathlib.Core.List.{List}
 use lib.Dec.{leb}
-use lib.ListN.{length, drop, replicate}
+use lib.ListN.{length}
 use lib.Seq.{sets}
 use lib.Ieee.{Float}
 use borrow.Author.Tests.{le-leb, eq-eqb}
-use Rattle.format.specs.Format.{bytesOf, bytesFor, encode}
+use Rattle.format.specs.Format.{encode}
 use Rattle.job.specs.Job.{Job, tileSize}
 use Rattle.job.specs.Checks.{plainAnswer}
-use Rattle.job.specs.Gives.{Plain}
 use Rattle.job.proofs.Ready.{plain-ready}
-use Rattle.sheet_format.specs.Sheet.{edition1, sheet, sizeOf}
+use Rattle.sheet_format.specs.Sheet.{edition1, sheet}
 use Rattle.sheet_pack.specs.Packed.{sheetOf}
-use Rattle.sheet_pack.proofs.Prints.{sheet-size, sheet-print}
+use Rattle.sheet.proofs.Files.{file-long}
 use Rattle.sheet.specs.declared.Writing.{Writing}
 use Rattle.sheet.specs.declared.Writing.the-variants.{Refused, Bytes}
 use Rattle.sheet.specs.Sheets.{WriteOutcome, writeOutcome, storedIn, writeDef}
 use Rattle.sheet_parts.specs.Begins.{Writable}
 use Rattle.fit_lines.specs.Lines.{Stored}
 
-length-bytesOf : (n : ℕ) (l : List Bool) → length (bytesOf n l) ≡ n
-length-bytesOf zero l = refl
-length-bytesOf (suc n) l = ap suc (length-bytesOf n (drop 8 l))
-
-module _ (J : Job) (p : List Float) (P : Plain tileSize J p true) where
-  long : length (encode (sheet edition1) (sheetOf J p)) ≡ bytesFor (sizeOf edition1 (J .S) (J .C) (J .T) (length (J .counts)))
-  long = go (sheet edition1 .print (sheetOf J p)) (ap length (sheet-print tileSize J (P .ready) p (P .lent) edition1) ∙ sheet-size tileSize J (P .ready) p (P .lent))
-    where
-      go : (x : List Bool) → length x ≡ sizeOf edition1 (J .S) (J .C) (J .T) (length (J .counts))
-          → length (bytesOf (bytesFor (length x)) (x ++ replicate (8 * bytesFor (length x) - length x) false)) ≡ bytesFor (sizeOf edition1 (J .S) (J .C) (J .T) (length (J .counts)))
-      go x e = length-bytesOf (bytesFor (length x)) _ ∙ ap bytesFor e
+-- the file of a job is as long with every palette
+pub same-long : (J : Job) (p q : List Float) → plainAnswer tileSize J p true ≡ 0 → plainAnswer tileSize J q true ≡ 0
+    → length (encode (sheet edition1) (sheetOf J q)) ≡ length (encode (sheet edition1) (sheetOf J p))
+same-long J p q h g =
+    let P = plain-ready tileSize J p true h in
+    let Q = plain-ready tileSize J q true g in
+    file-long tileSize J (Q .ready) q (Q .lent) ∙ sym (file-long tileSize J (P .ready) p (P .lent))
 
 -- a palette that passes can be written where another could
 pub still-writable : (J : Job) (p q : List Float) → Writable J p → plainAnswer tileSize J q true ≡ 0 → Writable J q
-still-writable J p q W h = record {
-  passed = h;
-  small = subst (λ (n : ℕ). n ≤ 65536) (long J p (plain-ready tileSize J p true (W .passed)) ∙ sym (long J q (plain-ready tileSize J q true h))) (W .small);
-}
+still-writable J p q W h = record { passed = h; small = omega (arith, same-long J p q (W .passed) h, W .small) }
 
 -- ---- the writer
 module _ (J : Job) (p : List Float) (out : List ℕ) (W : Writable J p) (room : 65536 ≤ length out) where

@@ -1,3 +1,4 @@
 pub mod Parts
 pub mod Readings
 pub mod Files
+pub mod Repaints

@@ -24,7 +24,7 @@ use Rattle.sheet.proofs.Inverse.{sets-front, accepted-few, accepted-job, writte
 use Rattle.sheet.proofs.Again.{sheet-again}
 use Rattle.sheet.proofs.Accepted.{within-limit}
 use Rattle.sheet_pack.specs.Packed.{sheetOf}
-use Rattle.sheet_parts.specs.Begins.{Begins}
+use Rattle.sheet_parts.specs.Begins.{Writable, Begins}
 
 pub are-bytes : (s : List ℕ) → ((i : ℕ) → getD s i 0 < 256) → T (areBytes s)
 are-bytes [] b = tt
@@ -38,10 +38,12 @@ pub record Lengths (h : Room) : Type 0 where
   pub palette : 768 ≡ length (h .palette)
 
 -- the file of the job that a sheet holds is that sheet's
-whole-small : (b : List ℕ) (x : Sheet) → T (areBytes b) → readSheet edition1 b ≡ accepted x → length (encode (sheet edition1) (sheetOf (jobOf x) (floats (x .palette)))) ≤ 65536
-whole-small b x h e =
-    let r = written-read b x h e in
-    subst (λ (l : List ℕ). length l ≤ 65536) (sym (ap (encode (sheet edition1)) (sheet-again x (r .1)) ∙ r .0)) (within-limit b x e .0)
+pub file-again : (b : List ℕ) (x : Sheet) → T (areBytes b) → readSheet edition1 b ≡ accepted x → encode (sheet edition1) (sheetOf (jobOf x) (floats (x .palette))) ≡ b
+file-again b x h e = let r = written-read b x h e in ap (encode (sheet edition1)) (sheet-again x (r .1)) ∙ r .0
+
+-- and it can be written
+pub writable : (b : List ℕ) (x : Sheet) → T (areBytes b) → readSheet edition1 b ≡ accepted x → Writable (jobOf x) (floats (x .palette))
+writable b x h e = record { passed = accepted-job b x h e; small = subst (λ (l : List ℕ). length l ≤ 65536) (sym (file-again b x h e)) (within-limit b x e .0) }
 
 -- the sheet that was read, and its job by the sizes and the weight answered
 pub record Given (b : List ℕ) (after : Room) (s c t : ℕ) (w : Float) : Type 0 where
@@ -113,7 +115,7 @@ module _ (b : List ℕ) (h : Room) (L : Lengths h) (r : Reading) (after : Room) 
         let lp : length p ≤ length (h .palette) = omega (arith, L .palette, P .lent .room, P .ready .sizes .cells) in
         subst (λ (o : Room). Begins (o .tiles) (o .colours) (o .counts) (o .palette) J p) (sym a)
         (record {
-          writable = record { passed = accepted-job b x bytes k; small = whole-small b x bytes k };
+          writable = writable b x bytes k;
           shown = shown tileSize J p true (omega arith) P;
           tiled = (omega (arith, length-sets (h .tiles) 0 (J .tiles)), sets-front (J .tiles) (h .tiles) lt);
           coloured = (omega (arith, length-sets (h .colours) 0 (J .colours)), sets-front (J .colours) (h .colours) lf);

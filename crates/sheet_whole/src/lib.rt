@@ -28,10 +28,10 @@ pub fn pack_sheet(
     requires { ⌜ Ready tileSize (job s c t weight (now tiles) (now colours) (now counts)) × Lent s c (now palette) × (size ≡ sizeOf edition1 s c t (length (now counts))) × (bytesFor size ≤ length (now dst)) × (bytesFor size ≤ 65536) ⌝ }
     ensures { λ r. ⌜ bits (now (dst .exit)) ≡ sets (bits (now (dst .entry))) 0 (sheetBits edition1 (sheetOf (job s c t weight (now (tiles .entry)) (now (colours .entry)) (now (counts .entry))) (now (palette .entry))) ++ replicate (8 * bytesFor size - size) false) ⌝ }
 {
-    let p = 86 + 32 * palette.len();
+    let p = sheet_format::HEAD_BITS + 32 * palette.len();
     let spare = 8 * format::bytes_for(size) - size;
     sheet_pack::pack_head(dst, s, c, t, f32::to_bits(weight));
-    sheet_pack::pack_components(dst, 86, palette);
+    sheet_pack::pack_components(dst, sheet_format::HEAD_BITS, palette);
     sheet_pack::pack_tiles(dst, p, t, tiles, colours, counts);
     bits_put::put(dst, size, spare, 0);
 }

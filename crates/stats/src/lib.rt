@@ -1,8 +1,7 @@
 // Selection helpers: the least and the least two of any values. Each function gives what its definition in specs/Stats.antt says.
 // Assumes nothing.
 ghost use mathlib.Core.Path.{_≡_};
-ghost use lib.ListN.{length};
-ghost use Rattle.stats.specs.Stats.{valueAt, stepNear, stepTwo, leastTwo};
+ghost use Rattle.stats.specs.Stats.{stepNear, stepTwo};
 
 // Index and value of the smallest.
 pub struct Near {
@@ -28,8 +27,9 @@ pub fn step_near(best: Near, i: usize, d: f32) -> Near
     }
 }
 
-// The smallest two, b, with one value more, d at index i.
-pub fn step_two(b: Two, i: usize, d: f32) -> Two
+// The smallest two, b, with one value more, d at index i. The Rust's walks the values; here whoever has them does, from index 0 and
+// infinity twice.
+pub fn smallest_two(b: Two, i: usize, d: f32) -> Two
     ensures { λ r. ⌜ r ≡ stepTwo b i d ⌝ }
 {
     if d < b.dist {
@@ -47,22 +47,4 @@ pub fn step_two(b: Two, i: usize, d: f32) -> Two
     } else {
         b
     }
-}
-
-// Index and values of the smallest and second smallest of `values`, infinity where there is none.
-pub fn smallest_two(values: &[f32]) -> Two
-    ensures { λ r. ⌜ r ≡ leastTwo (valueAt (now (values .entry))) (length (now (values .entry))) ⌝ }
-{
-    let n = values.len();
-    let mut best = Two {
-        index: 0,
-        dist: 1.0 / 0.0,
-        second: 1.0 / 0.0,
-    };
-    let mut i = 0;
-    while i < n {
-        best = step_two(best, i, values[i]);
-        i += 1;
-    }
-    best
 }

@@ -1,7 +1,7 @@
 -- What an exported call tells: one number, which holds the draws and the answer number, and what it leaves. Definitions only. Assumes nothing.
 use Prim.Native.Nat.{ℕ, _+_, _*_}
 
--- the answer: the draws made, times 256, and the number of document 01's table
+-- the answer: the draws made, times 256, and the number of docs/SCOPE.md's table
 abbrev pub packed : ℕ → ℕ → ℕ
 packed number draws = draws * 256 + number
 

@@ -1,9 +1,5 @@
-// `train`: a palette for a sheet's tiles. It reads a sheet from standard input and writes what `text` gives for it: the sheet with the
-// trained palette, or a refusal's line. One byte past the largest sheet is enough to know that a sheet is too large. Assumes nothing.
-mod run;
-mod text;
-mod trained;
-
+// `train`: a palette for a sheet's tiles. It reads a sheet from standard input and writes what `train_text` gives for it: the sheet with
+// the trained palette, or a refusal's line. One byte past the largest sheet is enough to know that a sheet is too large. Assumes nothing.
 ghost use mathlib.Core.Path.{_≡_};
 ghost use lib.ListN.{length};
 
@@ -25,6 +21,6 @@ fn main() {
     let mut sheet = sheet_room();
     let n = io::read_full(libc::STDIN_FILENO, &mut sheet);
     let mut out = text_room();
-    let k = text::train(&sheet[..n], &mut out);
+    let k = train_text::train(&sheet[..n], &mut out);
     io::write_all(libc::STDOUT_FILENO, &out[..k]);
 }

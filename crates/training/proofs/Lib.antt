@@ -1,3 +1,4 @@
 pub mod Stops
 pub mod Cuts
+pub mod Singles
 pub mod ByCalls

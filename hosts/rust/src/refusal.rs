@@ -1,4 +1,4 @@
-//! Why a call was refused: document 01's answer numbers.
+//! Why a call was refused: the answer numbers of docs/SCOPE.md.
 
 use std::fmt;
 
@@ -21,18 +21,18 @@ pub enum Refusal {
     NoSamples,
     /// 2: S or C is not 1 to 16, T is not 1 to 1,024, or n is above 16,384.
     Sizes,
-    /// 3: a slice has a length other than the sizes imply.
+    /// 3: a slice is longer or shorter than the sizes ask.
     Lengths,
     /// 4: the weight is not above 0, is above 16, or is NaN.
     Weight,
-    /// 5: the tile table is not consecutive, a tile has more than 64 colours, or their total is above 16,384 or unlike the
-    /// colours given.
+    /// 5: tiles leave a gap or overlap, one has more than 64 colours, or all have more than 16,384 or not as many as are
+    /// lent.
     Tiles,
-    /// 6: a count is 0, or a tile's counts sum to more than 64.
+    /// 6: a colour is counted 0 times, or a tile more than 64.
     Counts,
     /// 7: a component that was given is above 2 in magnitude, or one that a run holds above 4, or either is not finite.
     Components,
-    /// 8: a sample names no tile, or no colour of its tile.
+    /// 8: a sample's tile is not there, or has no such colour.
     Samples,
     /// 9: an entry of the order is n or more.
     Order,
@@ -41,13 +41,13 @@ pub enum Refusal {
     /// 11: the call does not belong to this moment: advance at a stop or finish, hand-in elsewhere than at a stop, result
     /// before the finish.
     Moment,
-    /// 12: a sheet's opening or edition is wrong.
+    /// 12: the first four bytes or the edition are not a sheet's.
     SheetOpening,
-    /// 13: a sheet is cut short, has a spare bit set, bytes after it, or more than 65,536 bytes.
+    /// 13: a sheet ends too soon, goes on by a bit or a byte, or has more than 65,536 bytes.
     SheetBytes,
-    /// 14: grouping was given equal reduced colours with different Oklab bits.
+    /// 14: grouping was given pixels of the same bytes whose Oklab bits differ.
     SameColour,
-    /// 15: a single fit was asked for an empty tile.
+    /// 15: the single fit's tile has no colour.
     EmptyTile,
     /// A number that the table of this edition does not have: the library is of a later one.
     Unknown(u8),
@@ -79,7 +79,7 @@ impl Refusal {
         Some(TABLE.get(place).map_or(Refusal::Unknown(number), |row| row.0))
     }
 
-    /// Its number in document 01's table.
+    /// Its number in the scope's table.
     pub fn number(self) -> u8 {
         match self {
             Refusal::Unknown(number) => number,

@@ -156,7 +156,7 @@ impl<'a> Trainer<'a> {
         }
     }
 
-    /// Makes up to `allotment` draws, and all work that is due: it ends at a stop, at the finish or with the allotment spent.
+    /// Makes up to `allotment` draws, and all work that is due; fewer draws only where a stop or the finish comes first.
     /// How draws are divided into calls makes no difference to what they leave. At a stop or at the finish it is refused
     /// with 11.
     pub fn advance(&mut self, allotment: u64) -> Result<Advanced, Refusal> {
@@ -164,7 +164,7 @@ impl<'a> Trainer<'a> {
         Ok(Advanced { draws, moment: self.moment() })
     }
 
-    /// Hands in the S·C reduced colours at a stop and goes on up to the next draw, stop or finish. Refused with 3 for
+    /// Hands in S·C colours as the console shows them, and goes on up to the next draw, stop or finish. Refused with 3 for
     /// another number of colours, 11 elsewhere than at a stop, 7 for a component above 2 in magnitude or not finite.
     pub fn hand_in(&mut self, reduced: &[Colour]) -> Result<Moment, Refusal> {
         ffi::hand_in(&self.job, &mut self.memory, reduced)?;

@@ -92,7 +92,7 @@ fn a_saved_run_that_was_touched_is_not_restored() {
 }
 
 #[test]
-fn document_01_s_numbers_of_draws() {
+fn the_examples_numbers_of_draws() {
     for (s, c, n, draws) in [(1, 1, 10, 20), (2, 2, 25, 44), (16, 16, 9, 0), (3, 4, 19, 25)] {
         let mut tiles = Tiles::new();
         tiles.push([([0.25, 0.0, 0.0], 2), ([0.75, 0.5, 0.0], n - 2)]);
@@ -126,7 +126,7 @@ fn no_hint_changes_a_result() {
     }
 }
 
-/// The tile's distance, summed as document 01 says.
+/// The tile's distance, summed as the scope says.
 fn distance(sub: &[Colour], colours: &[Colour], counts: &[u32], weight: f32) -> f32 {
     let squared = |p: &Colour, q: &Colour| {
         let [l, a, b] = [0, 1, 2].map(|i| p[i] - q[i]);

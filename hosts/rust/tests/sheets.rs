@@ -1,4 +1,4 @@
-//! The sheet: document 01's example, and that reading and writing are exact inverses.
+//! The sheet: the example of docs/SCOPE.md, and that reading and writing are exact inverses.
 
 mod common;
 
@@ -15,7 +15,7 @@ fn example() -> Sheet {
 }
 
 #[test]
-fn document_01_s_example() {
+fn the_example() {
     let bytes = example().write().unwrap();
     assert_eq!(bytes.len(), 77);
     assert_eq!(bytes[..8], [0x54, 0x46, 0x49, 0x54, 0x11, 0x00, 0x0c, 0xfe]);

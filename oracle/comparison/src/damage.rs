@@ -1,4 +1,4 @@
-//! Damaged copies of good jobs: each damage touches one rule of document 01, at its limit or far past it.
+//! Damaged copies of good jobs: each damage touches one rule of docs/SCOPE.md, at its limit or far past it.
 
 pub mod runs;
 pub mod sheets;

@@ -1,4 +1,4 @@
-//! The run of document 01 and its choices, read independently of our definitions and of the Rust's own functions: no hint is read,
+//! The run of docs/SCOPE.md and its choices, read independently of our definitions and of the Rust's own functions: no hint is read,
 //! no walk is left early, no state is kept but what is lent.
 
 pub mod draws;

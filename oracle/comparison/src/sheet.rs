@@ -1,4 +1,4 @@
-//! The fit sheet of document 01, read and written independently of our definitions.
+//! The fit sheet of docs/SCOPE.md, read and written independently of our definitions.
 
 pub mod fitted;
 pub mod trained;
@@ -120,7 +120,7 @@ pub fn written(sheet: &Sheet) -> Vec<u8> {
     bits.chunks(8).map(|byte| byte.iter().fold(0, |value, &bit| value << 1 | u8::from(bit))).collect()
 }
 
-/// Document 01's example.
+/// The scope's example.
 pub fn example() -> Sheet {
     let tile = |l: f32, count: u32| Tile { colours: vec![[l, 0.0, 0.0]], counts: vec![count] };
     Sheet {

@@ -1,4 +1,4 @@
-//! Document 01's table of answer numbers, read independently of our definitions: plain tests in the document's order.
+//! The answer numbers of docs/SCOPE.md, read independently of our definitions: plain tests in the order that it gives.
 
 use terms::{Colour, Palette, Tile};
 
@@ -92,7 +92,7 @@ pub fn within(numbers: &[f32], limit: f32) -> bool {
     numbers.iter().all(|x| x.is_finite() && x.abs() <= limit)
 }
 
-/// Document 01's number for a call without samples, whose own tests of numbers 2 and 3 are given.
+/// The scope's number for a call without samples, whose own tests of numbers 2 and 3 are given.
 pub fn plain(given: &Given, palette: &[f32], own_sizes: bool, own_lengths: bool) -> u32 {
     first(&[
         (2, &|| sizes(given) && own_sizes),

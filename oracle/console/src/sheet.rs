@@ -1,4 +1,4 @@
-//! The fit sheet of document 01, written.
+//! The fit sheet of docs/SCOPE.md, written.
 
 use terms::{Palette, Tile};
 

@@ -2,10 +2,11 @@
 //! requires.
 
 use crate::leaves::{
-    probe_argmax, probe_argmin, probe_base_iterations, probe_cycle_new, probe_cycle_next, probe_mean, probe_narrow,
-    probe_next, probe_shuffle, probe_smallest_two, probe_sqdist,
+    probe_argmax, probe_argmin, probe_base_iterations, probe_cycle_new, probe_cycle_next, probe_narrow, probe_next,
+    probe_shuffle, probe_smallest_two, probe_sqdist,
 };
 use crate::palettes::{probe_nearest, probe_nearest_two, probe_view_nearest, probe_view_nearest_two};
+use crate::training::probe_mean;
 
 /// An Oklab colour: l, a, b.
 pub type Colour = [f32; 3];
@@ -27,7 +28,7 @@ pub fn shuffle(state: u64, items: &mut [u32]) -> u64 {
 }
 
 pub fn base_iterations(n: usize) -> usize {
-    unsafe { probe_base_iterations(n) }
+    unsafe { probe_base_iterations(n) as usize }
 }
 
 /// The order of draws in memory of its own.
@@ -53,9 +54,12 @@ impl Cycle {
     }
 }
 
+/// Value by value, as the run has them.
 pub fn smallest_two(values: &[f32]) -> (usize, f32, f32) {
-    let [mut dist, mut second] = [0.0; 2];
-    let index = unsafe { probe_smallest_two(values.as_ptr(), values.len(), &mut dist, &mut second) };
+    let (mut index, mut dist, mut second) = (0, f32::INFINITY, f32::INFINITY);
+    for (i, &value) in values.iter().enumerate() {
+        index = unsafe { probe_smallest_two(index, &mut dist, &mut second, i, value) };
+    }
     (index, dist, second)
 }
 
@@ -73,11 +77,24 @@ pub fn sqdist(p: Colour, q: Colour, weight: f32) -> f32 {
     unsafe { probe_sqdist(p[0], p[1], p[2], q[0], q[1], q[2], weight) }
 }
 
-/// Of one colour at least.
+/// Of one colour at least: the samples are the colours of one tile, in order.
 pub fn mean(colours: &[Colour]) -> Colour {
-    let flat = colours.as_flattened();
+    let (flat, n) = (colours.as_flattened(), colours.len() as u32);
+    let (tiles, samples): (_, Vec<u32>) = ([0, n], (0..n).flat_map(|place| [0, place]).collect());
     let [mut l, mut a, mut b] = [0.0; 3];
-    unsafe { probe_mean(flat.as_ptr(), flat.len(), &mut l, &mut a, &mut b) };
+    unsafe {
+        probe_mean(
+            tiles.as_ptr(),
+            tiles.len(),
+            flat.as_ptr(),
+            flat.len(),
+            samples.as_ptr(),
+            samples.len(),
+            &mut l,
+            &mut a,
+            &mut b,
+        )
+    };
     [l, a, b]
 }
 

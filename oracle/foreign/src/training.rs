@@ -94,6 +94,17 @@ unsafe extern "C" {
         hints_len: usize,
         alpha: f32,
     ) -> u64;
+    pub fn probe_mean(
+        tiles: *const u32,
+        tiles_len: usize,
+        colours: *const f32,
+        colours_len: usize,
+        samples: *const u32,
+        samples_len: usize,
+        l: &mut f32,
+        a: &mut f32,
+        b: &mut f32,
+    );
     pub fn probe_seed(
         s: usize,
         c: usize,

@@ -1,5 +1,5 @@
 //! Jobs from a seed: random, clustered and coarse colours, copied subpalettes, empty and single-colour tiles, extremes of
-//! the sizes. Everything made here is a job that document 01 accepts.
+//! the sizes. Everything made here is a job that docs/SCOPE.md accepts.
 
 use super::rng::Rng;
 use super::{Colour, Job, Palette, Sample, Tile};

@@ -4,8 +4,8 @@ use Rattle.quantizer_seed.proofs.Averages.{averaging, seed-done}
 use Rattle.quantizer_seed.proofs.seed.Statement.{statement}
 use Rattle.quantizer_seed.proofs.seed.Tie as tie
 
-seed-mean-requires : tie.Need-seed-mean-requires
-seed-mean-requires c κs =
+mean-oklab-requires : tie.Need-mean-oklab-requires
+mean-oklab-requires c κs =
     let z = c .before .before .before .before .before in
     averaging _ _ (z .pre)
 
@@ -19,7 +19,8 @@ returns : tie.Need-returns
 returns c =
     let w = c .before .before in
     let m = w .before .before in
-    seed-done _ _ _ _ (m .seed-mean .ensures) (w .put .ensures)
+    let z = m .before .before .before .before .before .before in
+    seed-done _ _ (z .pre) _ _ (m .mean-oklab .ensures) (w .put .ensures)
 
 pub seed-spec : {M : Type 1} → statement M
-seed-spec = tie.close (tie.spec seed-mean-requires put-requires same-length returns)
+seed-spec = tie.close (tie.spec mean-oklab-requires put-requires same-length returns)

@@ -1,56 +1,17 @@
--- `stats::smallest_two` meets its contract. The loop's invariant: what is held are the least two of the first i. Assumes nothing.
-use Prim.Native.Nat.{_≤_, _-_}
-use mathlib.Core.Path.{_≡_, refl, ap, _∙_}
-use native.Mathlib.Omega.{arith}
+-- `stats::smallest_two` meets its contract, branch by branch. Assumes nothing.
 use borrow.Author.Needs.{needs}
-use lib.Ieee.{ofBits, div}
-use Rattle.stats.specs.Stats.{valueAt, leastTwo}
-use Rattle.stats.proofs.Steps.{two-more}
+use Rattle.stats.proofs.Steps.{two-taken, two-followed, two-left}
 use Rattle.stats.proofs.smallest_two.Statement.{statement}
 use Rattle.stats.proofs.smallest_two.Tie as tie
 
-abbrev Inv-loop : tie.InvT-loop
-Inv-loop values n best₀ i₀ best i = (i ≤ n) × (best ≡ leastTwo (valueAt values) i)
+returns : tie.Need-returns
+returns c = two-taken _ _ _ (search needs)
 
-abbrev μ-loop : tie.MeasureT-loop
-μ-loop values n best₀ i₀ best i = n - i
+returns-2 : tie.Need-returns-2
+returns-2 c = two-followed _ _ _ (search needs) (search needs)
 
-loop-holds : tie.Need-loop-holds Inv-loop μ-loop
-unfolding leastTwo ofBits div
-loop-holds c = (omega arith, refl)
-
-mul-step-two : tie.Need-mul-step-two Inv-loop μ-loop
-mul-step-two c = omega arith
-
-shared-slice-read-step-two : tie.Need-shared-slice-read-step-two Inv-loop μ-loop
-shared-slice-read-step-two c = omega arith
-
-step-two-requires : tie.Need-step-two-requires Inv-loop μ-loop
-step-two-requires c κs = search needs
-
-add-i : tie.Need-add-i Inv-loop μ-loop
-add-i c = omega arith
-
-loop-less : tie.Need-loop-less Inv-loop μ-loop
-loop-less c = omega arith
-
-loop-again : tie.Need-loop-again Inv-loop μ-loop
-loop-again c = (omega arith, two-more _ _ _ _ _ (c .before .before .before .loop .inv .1) refl (c .step-two .ensures))
-
-returns : tie.Need-returns Inv-loop μ-loop
-returns c = c .before .loop .inv .1 ∙ ap (leastTwo _) (omega arith)
+returns-3 : tie.Need-returns-3
+returns-3 c = two-left _ _ _ (search needs) (search needs)
 
 pub smallest-two-spec : {M : Type 1} → statement M
-smallest-two-spec =
-    tie.close
-    (tie.spec
-    Inv-loop
-    μ-loop
-    loop-holds
-    mul-step-two
-    shared-slice-read-step-two
-    step-two-requires
-    add-i
-    loop-less
-    loop-again
-    returns)
+smallest-two-spec = tie.close (tie.spec returns returns-2 returns-3)

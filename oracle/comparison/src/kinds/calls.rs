@@ -1,4 +1,4 @@
-//! The public calls without samples: single fit, `best_two`, assign. Refusals by document 01's table on damaged copies of good
+//! The public calls without samples: single fit, `best_two`, assign. Refusals by docs/SCOPE.md's table on damaged copies of good
 //! jobs, answers by the Rust, and all lent memory before and after.
 
 use answers::rust;
@@ -62,7 +62,7 @@ impl Call {
         self
     }
 
-    /// Document 01's number, for a call whose own tests of numbers 2 and 3 are given.
+    /// The scope's number, for a call whose own tests of numbers 2 and 3 are given.
     fn number(&self, own_sizes: bool, own_lengths: bool) -> u32 {
         let lengths = self.hints.len() == self.given.t && own_lengths;
         table::plain(&self.given, &self.palette, own_sizes, lengths)
@@ -96,7 +96,7 @@ fn single_fit(rng: &mut Rng, _: u64, tally: &mut Tally) {
     fitted(&one_tile(rng), tally);
 }
 
-/// Gives the number by document 01's table.
+/// Gives the number by the scope's table.
 pub fn fitted(call: &Call, tally: &mut Tally) -> u32 {
     let mut number = call.number(call.given.t == 1, true);
     if number == 0 && call.given.counts.is_empty() {
@@ -120,7 +120,7 @@ fn best_two(rng: &mut Rng, _: u64, tally: &mut Tally) {
     paired(&one_tile(rng), tally);
 }
 
-/// Gives the number by document 01's table.
+/// Gives the number by the scope's table.
 pub fn paired(call: &Call, tally: &mut Tally) -> u32 {
     let number = call.number(call.given.t == 1, true);
     let mut right = (number, (0, 0.0, 0.0), call.hints.clone(), true);
@@ -172,7 +172,7 @@ fn largest(rng: &mut Rng, case: u64, tally: &mut Tally) {
     assigned(&Call::new(rng, &palette, &tiles, 2.15), tally);
 }
 
-/// Gives the number by document 01's table.
+/// Gives the number by the scope's table.
 pub fn assigned(call: &Call, tally: &mut Tally) -> u32 {
     let number = call.number(true, call.out.len() == call.given.t);
     let mut right = (number, call.hints.clone(), call.out.clone(), true);

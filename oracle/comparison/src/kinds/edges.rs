@@ -1,5 +1,5 @@
-//! The limits of document 01, each on both sides, through every public call that they concern. The numbers stand here as they are
-//! read in the document, beside those of table.rs and reading/.
+//! The limits of docs/SCOPE.md, each on both sides, through every public call that they concern. The numbers stand here as they are
+//! read there, beside those of table.rs and reading/.
 
 mod plain;
 mod records;
@@ -18,7 +18,7 @@ pub const KINDS: &[Kind] = &[
     whole("edges of sheets", 1, |_, _, tally| sheets::compare(tally)),
 ];
 
-/// The number that document 01 has for an edge, beside the one that was compared.
+/// The number that the scope has for an edge, beside the one that was compared.
 fn listed(tally: &mut Tally, what: &str, call: &str, compared: u32, number: u32) {
     tally.same(compared, number, || format!("{what}, {call}: the number read here"));
 }

@@ -1,4 +1,4 @@
-//! Grouping: refusals by document 01's table, entries and indexes by the Rust's `extract`.
+//! Grouping: refusals by docs/SCOPE.md's table, entries and indexes by the Rust's `extract`.
 
 use std::collections::HashMap;
 
@@ -94,7 +94,7 @@ impl Call {
         a != 0 && self.zero != Some([r, g, b])
     }
 
-    /// Document 01's number.
+    /// The scope's number.
     fn number(&self) -> u32 {
         let p = self.p;
         if p > 64 {
@@ -152,7 +152,7 @@ fn grouping(rng: &mut Rng, _: u64, tally: &mut Tally) {
     grouped(&call, tally);
 }
 
-/// Gives the number by document 01's table.
+/// Gives the number by the scope's table.
 pub fn grouped(call: &Call, tally: &mut Tally) -> u32 {
     let number = call.number();
     let (entries, after) = if number == 0 { call.grouped() } else { (0, call.clone()) };

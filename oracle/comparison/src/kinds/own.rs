@@ -1,5 +1,5 @@
 //! The oracle held to itself: its copies of the Rust to the unchanged files, its run in steps to the whole run, its reading of the
-//! sheet to document 01's example.
+//! sheet to the example of docs/SCOPE.md.
 
 use answers::requests::flat;
 use answers::{probed, rust};
@@ -79,7 +79,7 @@ fn steps(rng: &mut Rng, _: u64, tally: &mut Tally) {
     }
 }
 
-/// Document 01's example of a sheet, and what `fit` prints of it.
+/// The scope's example of a sheet, and what `fit` prints of it.
 fn example(_: &mut Rng, _: u64, tally: &mut Tally) {
     let bytes = sheet::written(&sheet::example());
     let begin = [0x54, 0x46, 0x49, 0x54, 0x11, 0x00, 0x0c, 0xfe];

@@ -33,7 +33,7 @@ fn any(rng: &mut Rng, case: u64) -> Vec<u8> {
     bytes
 }
 
-/// Document 01's example with every bit changed, every cut of it, every byte after it.
+/// The scope's example with every bit changed, every cut of it, every byte after it.
 fn examples() -> Vec<Vec<u8>> {
     let bytes = sheet::written(&sheet::example());
     damage::damages(&bytes).chain(damage::added(&bytes, bytes.len())).collect()

@@ -1,5 +1,5 @@
 //! The run's public calls: whole runs in calls of any size, some of them taken up by another process; and single calls on memory
-//! that a stranger made, damaged or not. Number, draws and all lent memory of each call by document 01 as reading/ has it; the
+//! that a stranger made, damaged or not. Number, draws and all lent memory of each call by docs/SCOPE.md as reading/ has it; the
 //! runs also beside the Rust, each call beside its stages in steps, stops and result beside its whole run.
 
 use answers::{probed, rust};
@@ -74,7 +74,7 @@ struct Whole {
     steps: Box<dyn Steps>,
 }
 
-/// A call, what document 01 says of it, and the Rust's memory after it.
+/// A call, what the scope says of it, and the Rust's memory after it.
 struct Planned {
     ask: Ask,
     right: Outcome,
@@ -133,7 +133,7 @@ impl Whole {
         self.ends(&stops, tally);
     }
 
-    /// Some calls from here on, as document 01 and the Rust go on; the first of a run is start.
+    /// Some calls from here on, as the scope and the Rust go on; the first of a run is start.
     fn leg(&mut self, rng: &mut Rng) -> Vec<Planned> {
         let mut call = self.call.clone();
         let mut leg = Vec::new();

@@ -60,7 +60,7 @@ fn bits(rng: &mut Rng, _: u64, tally: &mut Tally) {
     damages(&bytes).chain(added(&bytes, bytes.len())).for_each(|damaged| compare(&damaged, tally));
 }
 
-/// Document 01's example, damaged, and with every byte put in at every place.
+/// The scope's example, damaged, and with every byte put in at every place.
 fn example(_: &mut Rng, _: u64, tally: &mut Tally) {
     let bytes = sheet::written(&sheet::example());
     damages(&bytes).for_each(|damaged| compare(&damaged, tally));
@@ -209,7 +209,7 @@ fn sheet_of(given: &Given, numbers: &[f32]) -> Result<Vec<u8>, u32> {
     if bytes.len() > sheet::MOST_BYTES { Err(13) } else { Ok(bytes) }
 }
 
-/// Writes where these bytes are found: what is filled, and what stays. Gives the number by document 01's table.
+/// Writes where these bytes are found: what is filled, and what stays. Gives the number by the scope's table.
 pub fn written_into(given: &Given, numbers: &[f32], found: &[u8], tally: &mut Tally) -> u32 {
     let fits = |bytes: Vec<u8>| if bytes.len() <= found.len() { Ok(bytes) } else { Err(3) };
     let written = sheet_of(given, numbers).and_then(fits);

@@ -1,4 +1,4 @@
-//! Document 01's draws: SplitMix64, the shuffle, and the cycle from the number of draws made.
+//! The draws of docs/SCOPE.md: SplitMix64, the shuffle, and the cycle from the number of draws made.
 
 fn output(state: &mut u64) -> u64 {
     *state = state.wrapping_add(0x9e37_79b9_7f4a_7c15);

@@ -1,4 +1,4 @@
-//! Document 01's distances and choices, over the subpalettes that are present.
+//! The distances and choices of docs/SCOPE.md, over the subpalettes that are present.
 
 use terms::{Colour, Tile};
 

@@ -1,4 +1,4 @@
-//! Document 01's rules for a run's record, and the number that a run's call gets.
+//! The rules of docs/SCOPE.md for a run's record, and the number that a run's call gets.
 
 use crate::call::{Ask, Call};
 use crate::table::{self, Given};
@@ -39,7 +39,7 @@ fn passes(given: &Given, n: usize, record: &[u64]) -> bool {
         && if stage == 2 { finite } else { error == 0 }
 }
 
-/// The number of a call by document 01's table.
+/// The number of a call by the scope's table.
 pub fn number(call: &Call, ask: &Ask) -> u32 {
     let (given, n, memory) = (&call.given, call.n, &call.memory);
     let later = !matches!(ask, Ask::Start(_));

@@ -1,4 +1,4 @@
-//! The run of document 01, stage by stage, over the memory lent to its calls.
+//! The run of docs/SCOPE.md, stage by stage, over the memory lent to its calls.
 
 use terms::{Colour, Tile};
 
@@ -7,7 +7,7 @@ use super::{draws, record, stages};
 use crate::call::{Ask, Call, Memory, Outcome};
 use crate::table;
 
-/// What document 01 says of a call: its number, its draws, and all lent memory after it.
+/// What the scope says of a call: its number, its draws, and all lent memory after it.
 pub fn outcome(call: &Call, ask: &Ask) -> Outcome {
     let number = record::number(call, ask);
     let mut right = Outcome::unchanged(number, call, ask);
@@ -25,7 +25,7 @@ pub fn outcome(call: &Call, ask: &Ask) -> Outcome {
     right
 }
 
-/// A job that is accepted, and the memory lent, by the names that document 01 gives to the record's words.
+/// A job that is accepted, and the memory lent, by the names that the scope gives to the record's words.
 struct Run<'a> {
     call: &'a Call,
     tiles: Vec<Tile>,

@@ -1,4 +1,4 @@
-//! What document 01's stages do between their draws. Each is given what is present and the hints, which it only writes.
+//! What the stages of docs/SCOPE.md do between their draws. Each is given what is present and the hints, which it only writes.
 
 use terms::{Colour, Tile};
 

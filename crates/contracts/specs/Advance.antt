@@ -1,0 +1,82 @@
+-- advance and its export: what they are given, what a caller sees, what is defined of it, and what the demands say of that. Definitions only. Assumes nothing.
+use Prim.Native.Nat.{ℕ, _+_, _/_}
+use mathlib.Core.Path.{_≡_}
+use lib.ListN.{getD}
+use contract.Lifetimes.{Lfts}
+use denote.Ref.{now}
+use denote.Triple.Entry.{Args, Res}
+use denote.Triple.Clauses.{AtExit}
+use Rattle.job.specs.Job.{job, tileSize}
+use Rattle.job.specs.Rules.{answer}
+use Rattle.quantizer.specs.Course.{Course, course}
+use Rattle.stages.specs.Calls.{Memory, memory, stateOf, Outcome, outcome, advanceCall}
+use Rattle.stages.specs.History.{sampled}
+use Rattle.demands.specs.Second.{Draws}
+use Rattle.demands.specs.First.{refused, advanceRules}
+use Rattle.told.specs.Packed.{Told, told}
+use Rattle.dunkafeto.specs.Told.{toldRun}
+use Rattle.run_advance.proofs.advance as function
+use Rattle.run_advance.proofs.advance.Symbol as symbol
+use Rattle.dunkafeto.proofs.dunkafeto_advance as export
+use Rattle.dunkafeto.proofs.dunkafeto_advance.Symbol as export-symbol
+use Rattle.contracts.specs.Answers.{Answers, Tells}
+use Rattle.contracts.specs.Keeps.{Compiled}
+
+module _ (κs : Lfts (function.signature .lifetimes)) (a : Args function.signature κs) where
+  -- the sizes, n and the weight, then the job's slices, the samples, the memory, and the allotment
+  abbrev pub course-given : Course
+  course-given =
+      let b = a .1 .1 .1 in
+      let j = b .1 .1 in
+      course (job (a .0) (a .1 .0) (a .1 .1 .0) (b .1 .0) (now (j .0)) (now (j .1 .0)) (now (j .1 .1 .0))) (b .0) (now (j .1 .1 .1 .0))
+
+  abbrev pub memory-lent : Memory
+  memory-lent =
+      let m = a .1 .1 .1 .1 .1 .1 .1 .1 .1 in
+      memory (now (m .0)) (now (m .1 .0)) (now (m .1 .1 .0)) (now (m .1 .1 .1 .0)) (now (m .1 .1 .1 .1 .0))
+
+  abbrev pub allotment-given : ℕ
+  allotment-given = a .1 .1 .1 .1 .1 .1 .1 .1 .1 .1 .1 .1 .1 .1 .0
+
+  abbrev pub memory-left : AtExit function.ended κs → Memory
+  memory-left e =
+      let m = e .1 .1 .1 .1 .1 .1 .1 .1 .1 in
+      memory (now (m .0)) (now (m .1 .0)) (now (m .1 .1 .0)) (now (m .1 .1 .1 .0)) (now (m .1 .1 .1 .1 .0))
+
+  -- ---- the function
+  abbrev pub seen : Res function.signature κs → AtExit function.ended κs → Outcome
+  seen r e = outcome (r .number) (r .draws) (memory-left e)
+
+  abbrev pub defined : Outcome
+  defined = advanceCall tileSize course-given memory-lent allotment-given
+
+  abbrev pub answers : Outcome → Type 0
+  answers = Answers Outcome (λ y. y .number) (answer (advanceRules tileSize course-given memory-lent)) (refused memory-lent)
+
+  -- the second demand: where it answers 0, its caller sees memory that the defined draws lead to
+  abbrev pub draws : Outcome → Type 0
+  draws x = x .number ≡ 0 → Draws course-given (stateOf memory-lent) (sampled course-given allotment-given (stateOf memory-lent)) (stateOf (x .after))
+
+  -- of the third: it reports the draws that the record has more, refused or not
+  abbrev pub reports : Outcome → Type 0
+  reports x = getD (x .after .words) 4 0 ≡ getD (memory-lent .words) 4 0 + x .drew
+
+  -- ---- its export
+  abbrev pub export-seen : Res export.signature κs → AtExit export.ended κs → Told Memory
+  export-seen r e = told r (memory-left e)
+
+  abbrev pub export-defined : Told Memory
+  export-defined = toldRun defined
+
+  abbrev pub export-answers : Told Memory → Type 0
+  export-answers = Tells Memory (answer (advanceRules tileSize course-given memory-lent)) memory-lent
+
+  -- what a host takes for the draws, the quotient by 256, is what the record has more
+  abbrev pub export-reports : Told Memory → Type 0
+  export-reports x = getD (x .after .words) 4 0 ≡ getD (memory-lent .words) 4 0 + x .answer / 256
+
+abbrev pub compiled : Compiled Outcome
+compiled = record { ended = function.ended; seen = seen; code = symbol.routine }
+
+abbrev pub exported : Compiled (Told Memory)
+exported = record { ended = export.ended; seen = export-seen; code = export-symbol.routine }

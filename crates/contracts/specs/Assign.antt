@@ -1,0 +1,85 @@
+-- assign and its export: what they are given, what a caller sees, what is defined of it, and what the first two demands say of that. Definitions only. Assumes nothing.
+use Prim.Native.Nat.{ℕ, _<_}
+use mathlib.Core.Path.{_≡_}
+use mathlib.Core.Bool.{false}
+use mathlib.Core.List.{List}
+use lib.ListN.{length, getD}
+use lib.Ieee.{Float}
+use contract.Lifetimes.{Lfts}
+use denote.Ref.{now}
+use denote.Triple.Entry.{Args, Res}
+use denote.Triple.Clauses.{AtExit}
+use Rattle.job.specs.Job.{Job, job, tileSize, isEmpty}
+use Rattle.job.specs.Rules.{Rule, answer}
+use Rattle.job.specs.Checks.{plainRules}
+use Rattle.palette_tile.specs.Tiles.{winner}
+use Rattle.assign_tiles.specs.Tiles.{Held, held}
+use Rattle.assign.specs.Assign.{Outcome, outcome, roomFor, assignDef}
+use Rattle.demands.specs.Second.{Chosen}
+use Rattle.told.specs.Packed.{Told, told}
+use Rattle.dunkafeto.specs.Told.{toldTiles}
+use Rattle.assign.proofs.assign as function
+use Rattle.assign.proofs.assign.Symbol as symbol
+use Rattle.dunkafeto.proofs.dunkafeto_assign as export
+use Rattle.dunkafeto.proofs.dunkafeto_assign.Symbol as export-symbol
+use Rattle.contracts.specs.Answers.{Answers, Tells}
+use Rattle.contracts.specs.Keeps.{Compiled}
+
+module _ (κs : Lfts (function.signature .lifetimes)) (a : Args function.signature κs) where
+  -- the sizes and the weight, then the job's slices and the palette, then the hints and the room for the subpalettes
+  abbrev pub job-given : Job
+  job-given =
+      let j = a .1 .1 .1 .1 in
+      job (a .0) (a .1 .0) (a .1 .1 .0) (a .1 .1 .1 .0) (now (j .0)) (now (j .1 .0)) (now (j .1 .1 .0))
+
+  abbrev pub palette-given : List Float
+  palette-given = now (a .1 .1 .1 .1 .1 .1 .1 .0)
+
+  abbrev pub tiles-lent : Held
+  tiles-lent =
+      let h = a .1 .1 .1 .1 .1 .1 .1 .1 in
+      held (now (h .0)) (now (h .1 .0))
+
+  abbrev pub tiles-left : AtExit function.ended κs → Held
+  tiles-left e =
+      let h = e .1 .1 .1 .1 .1 .1 .1 .1 in
+      held (now (h .0)) (now (h .1 .0))
+
+  abbrev rules : List Rule
+  rules = plainRules tileSize job-given palette-given (roomFor (job-given .T) (length (tiles-lent .hints)) (length (tiles-lent .out)))
+
+  -- ---- the function
+  abbrev pub seen : Res function.signature κs → AtExit function.ended κs → Outcome
+  seen r e = outcome r (tiles-left e)
+
+  abbrev pub defined : Outcome
+  defined = assignDef tileSize job-given palette-given tiles-lent
+
+  abbrev pub answers : Outcome → Type 0
+  answers = Answers Outcome (λ y. y .number) (answer rules) (λ k. outcome k tiles-lent)
+
+  -- the second demand: where it answers 0, each tile that is not empty gets the choice, which becomes its hint
+  abbrev pub chooses : Outcome → Type 0
+  chooses x =
+      let s = job-given .S in
+      let c = job-given .C in
+      x .number ≡ 0 → (t : ℕ) → t < job-given .T → isEmpty job-given t ≡ false
+      → Chosen job-given palette-given s c t
+      × (getD (x .after .out) t 0 ≡ winner job-given palette-given s c t)
+      × (getD (x .after .hints) t 0 ≡ winner job-given palette-given s c t)
+
+  -- ---- its export
+  abbrev pub export-seen : Res export.signature κs → AtExit export.ended κs → Told Held
+  export-seen r e = told r (tiles-left e)
+
+  abbrev pub export-defined : Told Held
+  export-defined = toldTiles defined
+
+  abbrev pub export-answers : Told Held → Type 0
+  export-answers = Tells Held (answer rules) tiles-lent
+
+abbrev pub compiled : Compiled Outcome
+compiled = record { ended = function.ended; seen = seen; code = symbol.routine }
+
+abbrev pub exported : Compiled (Told Held)
+exported = record { ended = export.ended; seen = export-seen; code = export-symbol.routine }

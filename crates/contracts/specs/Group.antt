@@ -1,0 +1,36 @@
+-- Grouping: what it is given, what its caller sees, what is defined of it, and what the first demand says of that. Definitions only. Assumes nothing.
+use contract.Lifetimes.{Lfts}
+use denote.Ref.{now}
+use denote.Triple.Entry.{Args, Res}
+use denote.Triple.Clauses.{AtExit}
+use Rattle.job.specs.Job.{tileSize}
+use Rattle.group_refusal.specs.Refusal.{Pixels, Lent, given, lent, refusal}
+use Rattle.group.specs.declared.Grouped.the-variants as grouped
+use Rattle.group.specs.Group.{Outcome, outcome, numberOf, grouping}
+use Rattle.group.proofs.group as function
+use Rattle.group.proofs.group.Symbol as symbol
+use Rattle.contracts.specs.Answers.{Answers}
+use Rattle.contracts.specs.Keeps.{Compiled}
+
+module _ (κs : Lfts (function.signature .lifetimes)) (a : Args function.signature κs) where
+  abbrev pub pixels-given : Pixels
+  pixels-given = given (a .0) (now (a .1 .0)) (now (a .1 .1 .0)) (a .1 .1 .1 .0)
+
+  abbrev pub room-lent : Lent
+  room-lent =
+      let h = a .1 .1 .1 .1 in
+      lent (now (h .0)) (now (h .1 .0)) (now (h .1 .1 .0)) (now (h .1 .1 .1 .0))
+
+  abbrev pub seen : Res function.signature κs → AtExit function.ended κs → Outcome
+  seen r e =
+      let h = e .1 .1 .1 .1 in
+      outcome r (lent (now (h .0)) (now (h .1 .0)) (now (h .1 .1 .0)) (now (h .1 .1 .1 .0)))
+
+  abbrev pub defined : Outcome
+  defined = grouping tileSize pixels-given room-lent
+
+  abbrev pub answers : Outcome → Type 0
+  answers = Answers Outcome (λ y. numberOf (y .answer)) (refusal tileSize pixels-given room-lent) (λ k. outcome (grouped.Refused k) room-lent)
+
+abbrev pub compiled : Compiled Outcome
+compiled = record { ended = function.ended; seen = seen; code = symbol.routine }

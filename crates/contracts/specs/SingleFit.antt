@@ -1,0 +1,59 @@
+-- The single fit: what it is given, what its caller sees, what is defined of it, and what the first two demands say of that. Definitions only. Assumes nothing.
+use Prim.Native.Nat.{ℕ}
+use mathlib.Core.Path.{_≡_}
+use mathlib.Core.Bool.{not}
+use mathlib.Core.List.{List, [], _∷_, _++_}
+use lib.ListN.{length, set}
+use lib.Ieee.{Float}
+use contract.Lifetimes.{Lfts}
+use denote.Ref.{now}
+use denote.Triple.Entry.{Args, Res}
+use denote.Triple.Clauses.{AtExit}
+use Rattle.job.specs.Job.{Job, job, tileSize, isEmpty}
+use Rattle.job.specs.Rules.{Rule, rule, answer}
+use Rattle.palette_tile.specs.Tiles.{fitAt, winner}
+use Rattle.fits_check.specs.One.{oneRules}
+use Rattle.fits_outcome.specs.Fits.{numberOfSingle, SingleOutcome, singleOutcome, singleDef}
+use Rattle.fits_outcome.specs.declared.Single.the-variants as single
+use Rattle.demands.specs.Second.{Chosen}
+use Rattle.fits.proofs.single_fit as function
+use Rattle.fits.proofs.single_fit.Symbol as symbol
+use Rattle.contracts.specs.Answers.{Answers}
+use Rattle.contracts.specs.Keeps.{Compiled}
+
+module _ (κs : Lfts (function.signature .lifetimes)) (a : Args function.signature κs) where
+  -- the sizes and the weight, then the job's slices and the palette, then the hints
+  abbrev pub job-given : Job
+  job-given =
+      let j = a .1 .1 .1 .1 in
+      job (a .0) (a .1 .0) (a .1 .1 .0) (a .1 .1 .1 .0) (now (j .0)) (now (j .1 .0)) (now (j .1 .1 .0))
+
+  abbrev pub palette-given : List Float
+  palette-given = now (a .1 .1 .1 .1 .1 .1 .1 .0)
+
+  abbrev pub hints-lent : List ℕ
+  hints-lent = now (a .1 .1 .1 .1 .1 .1 .1 .1 .0)
+
+  abbrev pub seen : Res function.signature κs → AtExit function.ended κs → SingleOutcome
+  seen r e = singleOutcome r (now (e .1 .1 .1 .1 .1 .1 .1 .1 .0))
+
+  abbrev pub defined : SingleOutcome
+  defined = singleDef tileSize job-given palette-given hints-lent
+
+  abbrev rules : List Rule
+  rules = oneRules tileSize job-given palette-given (length hints-lent) ++ (rule 15 (not (isEmpty job-given 0)) ∷ [])
+
+  abbrev pub answers : SingleOutcome → Type 0
+  answers = Answers SingleOutcome (λ y. numberOfSingle (y .answer)) (answer rules) (λ k. singleOutcome (single.Refused k) hints-lent)
+
+  -- the second demand: where it answers, it answers with the choice, which becomes the hint
+  abbrev pub chooses : SingleOutcome → Type 0
+  chooses x =
+      let s = job-given .S in
+      let c = job-given .C in
+      numberOfSingle (x .answer) ≡ 0
+      → Chosen job-given palette-given s c 0
+      × (x ≡ singleOutcome (single.Best (fitAt job-given palette-given s c 0)) (set hints-lent 0 (winner job-given palette-given s c 0)))
+
+abbrev pub compiled : Compiled SingleOutcome
+compiled = record { ended = function.ended; seen = seen; code = symbol.routine }

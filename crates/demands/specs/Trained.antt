@@ -1,0 +1,57 @@
+-- What `train` writes: for a sheet with some samples and not too many, a sheet that the reader accepts, the same but for its palette, which is the trained one;
+-- for anything else the line of a refusal. Assumes nothing.
+use Prim.Native.Nat.{ℕ, _≤_, _<_}
+use mathlib.Core.Path.{_≡_}
+use mathlib.Core.List.{List}
+use lib.ListN.{length, take}
+use lib.Seq.{sets}
+use Rattle.color.specs.Color.{Bounded}
+use Rattle.format.specs.Format.{refused, accepted}
+use Rattle.sheet_format.specs.Sheet.{Sheet, edition1, readSheet}
+use Rattle.sheet_format.specs.Lists.{floats}
+use Rattle.sheet.specs.Sheets.{jobOf}
+use Rattle.fit_lines.specs.Lines.{refusedLine}
+use Rattle.train_samples.specs.Samples.{unitsTo}
+use Rattle.train_text.specs.Trained.{courseOf, trainedPalette}
+use Rattle.train_text.specs.Train.{trainOutcome, trainDef}
+
+-- the samples of a sheet's job: all its counts, added up
+abbrev pub samples : Sheet → ℕ
+samples x = unitsTo (jobOf x .tiles) (jobOf x .counts) (jobOf x .T)
+
+-- y is the sheet x, trained
+pub record Trained-as (x y : Sheet) : Type 0 where
+  -- S, C, T, the weight, and every tile's colours with their counts: as they were, bit for bit
+  pub subs : y .subs ≡ x .subs
+  pub each : y .each ≡ x .each
+  pub tiles : y .tiles ≡ x .tiles
+  pub weight : y .weight ≡ x .weight
+  pub content : y .content ≡ x .content
+  -- so it holds the same job
+  pub job : jobOf y ≡ jobOf x
+  -- and with it the palette that training its samples gives, every component of which is at most 2 in size
+  pub palette : floats (y .palette) ≡ trainedPalette (courseOf (jobOf x))
+  pub small : Bounded (floats (y .palette)) 2
+
+module _ (bytes room : List ℕ) where
+  -- the bytes that are written, where `bytes` are read and `room` is lent
+  abbrev pub written : List ℕ
+  written = take (trainDef bytes room .bytes) (trainDef bytes room .after)
+
+  -- they are a sheet that the reader accepts, x trained, in as many bytes
+  pub record Read-back (x : Sheet) : Type 0 where
+    pub sheet : Sheet
+    pub reads : readSheet edition1 written ≡ accepted sheet
+    pub trained : Trained-as x sheet
+    pub long : length written ≡ length bytes
+
+  -- they are the line of refusal n
+  abbrev pub Line : ℕ → Type 0
+  Line n = trainDef bytes room ≡ trainOutcome (length (refusedLine n)) (sets room 0 (refusedLine n))
+
+  pub record Trained : Type 0 where
+    pub sheet : (x : Sheet) → readSheet edition1 bytes ≡ accepted x → 1 ≤ samples x → samples x ≤ 16384 → Read-back x
+    -- no samples, too many, and no sheet
+    pub none : (x : Sheet) → readSheet edition1 bytes ≡ accepted x → samples x ≡ 0 → Line 1
+    pub many : (x : Sheet) → readSheet edition1 bytes ≡ accepted x → 16384 < samples x → Line 2
+    pub no-sheet : (n : ℕ) → readSheet edition1 bytes ≡ refused n → Line n

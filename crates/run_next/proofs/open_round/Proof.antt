@@ -1,0 +1,15 @@
+-- `run_next::open_round` meets its contract: what is left is the draws of a round. Assumes nothing.
+use mathlib.Core.Path.{ap}
+use Rattle.stages.specs.State.{placed}
+use borrow.Author.Needs.{needs}
+use Rattle.run_next.proofs.open_round.Statement.{statement}
+use Rattle.run_next.proofs.open_round.Tie as tie
+
+base-iterations-requires : tie.Need-base-iterations-requires
+base-iterations-requires c κs = search needs
+
+returns : tie.Need-returns
+returns c = let a = c .before .args in ap (placed (a .r) (a .stage) (a .round)) (c .base-iterations .ensures)
+
+pub open-round-spec : {M : Type 1} → statement M
+open-round-spec = tie.close (tie.spec base-iterations-requires returns)

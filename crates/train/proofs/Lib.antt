@@ -1,6 +1,0 @@
-pub mod Joined
-pub mod Rooms
-pub mod Rules
-pub mod Texts
-pub mod Lists
-pub mod Sheets

@@ -1,0 +1,7 @@
+pub mod Joined
+pub mod Rooms
+pub mod Rules
+pub mod Trains
+pub mod Texts
+pub mod Lists
+pub mod Sheets

@@ -1,0 +1,70 @@
+// What `train` writes for a sheet: a refusal's line, or the sheet with the palette that its tiles train. Assumes nothing.
+mod run;
+mod trained;
+
+ghost use mathlib.Core.Path.{_≡_};
+ghost use Prim.Native.Nat.{_≤_};
+ghost use lib.ListN.{length};
+ghost use Rattle.io.specs.Counts.{Counts};
+ghost use Rattle.sheet_parts.specs.Begins.{Holds};
+ghost use Rattle.train_text.specs.Train.{trainOutcome, trainDef, Writes};
+
+// The bytes that any sheet takes, at most.
+const MOST_BYTES: usize = 65536;
+
+// What is written for a job whose lists stand at the beginning of these slices.
+fn put_sheet(
+    s: usize,
+    c: usize,
+    t: usize,
+    weight: f32,
+    tiles: &[u32],
+    colours: &[f32],
+    counts: &[u32],
+    palette: &mut [f32],
+    out: &mut [u8],
+) -> usize
+    requires { ⌜ Holds s c t weight (now tiles) (now colours) (now counts) (now palette) × (65536 ≤ length (now out)) ⌝ }
+    ensures { λ r. ⌜ Writes s c t weight (now (tiles .entry)) (now (colours .entry)) (now (counts .entry)) (now (palette .entry)) (now (out .entry)) (now (out .exit)) r × (r ≤ 65536) ⌝ }
+{
+    let last = t - 1;
+    let n = job::first_of(tiles, last) + job::size_of(tiles, last);
+    trained::put_job(
+        s,
+        c,
+        t,
+        weight,
+        &tiles[..2 * t],
+        &colours[..3 * n],
+        &counts[..n],
+        &mut palette[..3 * (s * c)],
+        out,
+    )
+}
+
+// What `train` writes for these bytes, into `out`, and how many bytes that is: none where `out` has too little room for any sheet.
+pub fn train(bytes: &[u8], out: &mut [u8]) -> usize
+    ensures { λ r. ⌜ (trainOutcome r (now (out .exit)) ≡ trainDef (now (bytes .entry)) (now (out .entry))) × Counts r (now (out .exit)) ⌝ }
+{
+    if out.len() < MOST_BYTES {
+        return 0;
+    }
+    let mut tiles = sheet_parts::tiles_room();
+    let mut colours = sheet_parts::colours_room();
+    let mut counts = sheet_parts::counts_room();
+    let mut palette = sheet_parts::palette_room();
+    match sheet::read(bytes, &mut tiles, &mut colours, &mut counts, &mut palette) {
+        sheet::Reading::Refused(n) => fit_lines::put_refused(out, 0, n),
+        sheet::Reading::Sheet { s, c, t, weight } => put_sheet(
+            s,
+            c,
+            t,
+            weight,
+            &tiles,
+            &colours,
+            &counts,
+            &mut palette,
+            out,
+        ),
+    }
+}
