@@ -26,7 +26,7 @@ module _ (size : ℕ) (small : size ≤ 256) (K : Course) (given : Bool) (D : Sa
       }
 
   pub advance-fit : (a : ℕ) (s : State) → Fit K s → Fit K (advance K a s)
-  advance-fit a s F = whilst-keeps (going K) (step K) (Fit K) step-fit a s F
+  advance-fit a s F = whilst-keeps going (step K) (Fit K) step-fit a s F
 
   pub start-fit : (seed : ℕ) (hints : List ℕ) → length hints ≡ K .job .T → Fit K (start K seed hints)
   start-fit seed hints h = record { rests = start-rests K (D .ready .sizes .subs) (D .ready .sizes .some) seed hints; sound = start-sound size small K given D seed hints h }

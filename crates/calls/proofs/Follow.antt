@@ -33,7 +33,7 @@ use Rattle.calls.proofs.Next.{started-state, advanced-state, handed-sta
 
 -- ---- a state at its place in the cycle of a seed
 pub record Follows (K : Course) (seed : ℕ) (s : State) : Type 0 where
-  pub cycle : cycleOf K s ≡ after (K .n) seed (s .rec .made)
+  pub cycle : cycleOf (s .order) (s .rec) ≡ after (K .n) seed (s .rec .made)
 
 -- a first value, by its place
 first-at : (f : ℕ → ℕ) (t i : ℕ) → i < t → getD (firsts f t) i 0 ≡ f i
@@ -63,14 +63,14 @@ module _ (K : Course) (seed : ℕ) where
       }
 
   -- the next sample is the cycle's
-  pub sample-follows : (s : State) → Follows K seed s → sampleAt K s ≡ drawAt (K .n) seed (s .rec .made)
-  sample-follows s F = follow-sample (K .n) seed (s .rec .made) (sampleAt K s) (cycleOf K s) (drawOne (cycleOf K s) .next) (F .cycle) refl
+  pub sample-follows : (s : State) → Follows K seed s → sampleAt s ≡ drawAt (K .n) seed (s .rec .made)
+  sample-follows s F = follow-sample (K .n) seed (s .rec .made) (sampleAt s) (cycleOf (s .order) (s .rec)) (drawOne (cycleOf (s .order) (s .rec)) .next) (F .cycle) refl
 
   draw-follows : (s : State) → Follows K seed s → Follows K seed (draw K s)
   unfolding draw drawWith drawOne
   draw-follows s F =
       record {
-        cycle = follow-next (K .n) seed (s .rec .made) (sampleAt K s) (cycleOf K s) (drawOne (cycleOf K s) .next) (F .cycle) refl
+        cycle = follow-next (K .n) seed (s .rec .made) (sampleAt s) (cycleOf (s .order) (s .rec)) (drawOne (cycleOf (s .order) (s .rec)) .next) (F .cycle) refl
             ∙ sym (ap (after (K .n) seed) (add-one (s .rec .made)));
       }
 
@@ -79,7 +79,7 @@ module _ (K : Course) (seed : ℕ) where
   step-follows s F = same-follows (draw K s) (settle K (draw K s)) (settle-same K (draw K s)) (draw-follows s F)
 
   pub advance-follows : (a : ℕ) (s : State) → Follows K seed s → Follows K seed (advance K a s)
-  advance-follows a s F = whilst-keeps (going K) (step K) (Follows K seed) (λ z G _. step-follows z G) a s F
+  advance-follows a s F = whilst-keeps going (step K) (Follows K seed) (λ z G _. step-follows z G) a s F
 
   pub start-follows : (hints : List ℕ) → Follows K seed (start K seed hints)
   unfolding start
@@ -106,24 +106,24 @@ module _ (K : Course) (seed : ℕ) where
   -- ---- the samples of one advance go on where the draws made end
   pub advance-samples : (a : ℕ) (s : State) → Follows K seed s → firsts (drawAt (K .n) seed) (s .rec .made) ++ sampled K a s ≡ firsts (drawAt (K .n) seed) (advance K a s .rec .made)
   unfolding sampled
-  advance-samples zero s F = append-nil (firsts (drawAt (K .n) seed) (s .rec .made)) ∙ sym (ap (λ (z : State). firsts (drawAt (K .n) seed) (z .rec .made)) (whilst-zero (going K) (step K) s))
-  advance-samples (suc a) s F = elim (decide (going K s)) [
+  advance-samples zero s F = append-nil (firsts (drawAt (K .n) seed) (s .rec .made)) ∙ sym (ap (λ (z : State). firsts (drawAt (K .n) seed) (z .rec .made)) (whilst-zero going (step K) s))
+  advance-samples (suc a) s F = elim (decide (going s)) [
     | inl d ↦
-        ap (λ (t : Bool). done-so-far ++ cond t (sampleAt K s ∷ sampled K a (step K s)) []) d
-        ∙ sym (append-assoc done-so-far (sampleAt K s ∷ []) (sampled K a (step K s)))
+        ap (λ (t : Bool). done-so-far ++ cond t (sampleAt s ∷ sampled K a (step K s)) []) d
+        ∙ sym (append-assoc done-so-far (sampleAt s ∷ []) (sampled K a (step K s)))
         ∙ ap (λ (l : List ℕ). l ++ sampled K a (step K s)) one-more
         ∙ advance-samples a (step K s) (step-follows s F)
-        ∙ sym (ap (λ (z : State). firsts (drawAt (K .n) seed) (z .rec .made)) (whilst-step (going K) (step K) a s d))
+        ∙ sym (ap (λ (z : State). firsts (drawAt (K .n) seed) (z .rec .made)) (whilst-step going (step K) a s d))
     | inr d ↦
-        ap (λ (t : Bool). done-so-far ++ cond t (sampleAt K s ∷ sampled K a (step K s)) []) d
+        ap (λ (t : Bool). done-so-far ++ cond t (sampleAt s ∷ sampled K a (step K s)) []) d
         ∙ append-nil done-so-far
-        ∙ sym (ap (λ (z : State). firsts (drawAt (K .n) seed) (z .rec .made)) (whilst-stop (going K) (step K) (suc a) s d))
+        ∙ sym (ap (λ (z : State). firsts (drawAt (K .n) seed) (z .rec .made)) (whilst-stop going (step K) (suc a) s d))
   ]
     where
       done-so-far : List ℕ
       done-so-far = firsts (drawAt (K .n) seed) (s .rec .made)
 
-      one-more : done-so-far ++ (sampleAt K s ∷ []) ≡ firsts (drawAt (K .n) seed) (step K s .rec .made)
+      one-more : done-so-far ++ (sampleAt s ∷ []) ≡ firsts (drawAt (K .n) seed) (step K s .rec .made)
       one-more =
           unfold firsts in
           ap (λ (x : ℕ). firsts (drawAt (K .n) seed) (s .rec .made) ++ (x ∷ [])) (sample-follows s F)

@@ -9,7 +9,7 @@ use lib.Ieee.{Float}
 use borrow.Author.Tests.{eqb-true, ltb-true, ltb-false, lt-ltb, le-ltb}
 use Rattle.lists.proofs.Tests.{or-case, or-no}
 use Rattle.quantizer.specs.Course.{Course, b}
-use Rattle.stages.specs.State.{State, at, painted, draws, stops}
+use Rattle.stages.specs.State.{State, at, painted, draws, stops, beside}
 use Rattle.stages.specs.Stages.{finishRound, due, settle, draw, drawWith, going, step, advance, refinedOnce, handIn}
 use Rattle.calls.proofs.Cases.{by-test, both}
 use Rattle.calls.proofs.Whilsts.{whilst-keeps}
@@ -39,7 +39,7 @@ record Final (s : State) : Type 0 where
 
 module _ (K : Course) where
   finish-final : (s : State) → Final s → Final (finishRound K s)
-  unfolding finishRound
+  unfolding finishRound beside
   finish-final s F =
       by-test Final (eqb (s .rec .stage) 0) (λ t. absurd (omega (arith, F .from, eqb-true (s .rec .stage) 0 t)))
       (λ _. by-test Final (eqb (s .rec .stage) 1) (λ t. absurd (omega (arith, F .from, eqb-true (s .rec .stage) 1 t)))
@@ -48,14 +48,14 @@ module _ (K : Course) where
 
   settle-final : (s : State) → Final s → Final (settle K s)
   unfolding settle
-  settle-final s F = whilst-keeps (due K) (finishRound K) Final (λ z G _. finish-final z G) _ s F
+  settle-final s F = whilst-keeps due (finishRound K) Final (λ z G _. finish-final z G) _ s F
 
   step-final : (s : State) → Final s → Final (step K s)
   unfolding step draw drawWith
   step-final s F = settle-final (draw K s) (record { from = F .from; to = F .to })
 
   advance-final : (a : ℕ) (s : State) → Final s → Final (advance K a s)
-  advance-final a s F = whilst-keeps (going K) (step K) Final (λ z G _. step-final z G) a s F
+  advance-final a s F = whilst-keeps going (step K) Final (λ z G _. step-final z G) a s F
 
   pub advance-hand-ins : (a : ℕ) (s : State) → draws (s .rec .stage) ≡ true → handIns (advance K a s .rec .stage) ≡ handIns (s .rec .stage)
   advance-hand-ins a s d = or-case (ltb (s .rec .stage) 3) (eqb (s .rec .stage) 4) d first second

@@ -7,7 +7,7 @@ use lib.Dec.{ltb, eqb}
 use lib.Ieee.{Float, binary32, lt, ofBits}
 use Rattle.quantizer.specs.Course.{Course, b}
 use Rattle.stages.specs.Whilst.{whilst, times}
-use Rattle.stages.specs.State.{State, at, painted}
+use Rattle.stages.specs.State.{State, at, painted, beside}
 use Rattle.stages.specs.Stages.{noticed, openSeeding, openGrowing, openReplacing, errorOf, keep, judged, enterReplacing, enterGrowing, enterReducing, closeSeeding, closeGrowing, closeReplacing, finishRound, due, settle, subsOf, haveOf, alphaOf, draw, drawWith, going, step, advance, drawsOf, fresh, start, refinedOnce, handIn}
 use Rattle.stages.specs.History.{sampleAt, sampled}
 
@@ -77,18 +77,18 @@ module _ (K : Course) where
       by-cond (ltb (s .rec .rounds + 1) 10) (openReplacing-alike (s .rec .rounds + 1) (judged K s) (judged K (hintless s)) j) (enterReducing-alike (judged K s) (judged K (hintless s)) j))
 
   finish-alike : (s z : State) → Alike s z → Alike (finishRound K s) (finishRound K z)
-  unfolding finishRound
+  unfolding finishRound beside
   finish-alike = lift (finishRound K) (λ s.
       by-cond (eqb (s .rec .stage) 0) (closeSeeding-alike s (hintless s) (record { rest = refl })) (by-cond (eqb (s .rec .stage) 1) (closeGrowing-alike s (hintless s) (record { rest = refl }))
       (by-cond (eqb (s .rec .stage) 2) (closeReplacing-alike s (hintless s) (record { rest = refl })) (by-cond (eqb (s .rec .stage) 4) (record { rest = refl }) (record { rest = refl })))))
 
   settle-alike : (s z : State) → Alike s z → Alike (settle K s) (settle K z)
   unfolding settle
-  settle-alike = whilst-alike (due K) (finishRound K) (λ s z e. ap (due K) (e .rest)) finish-alike (K .job .S + K .job .C + 20)
+  settle-alike = whilst-alike due (finishRound K) (λ s z e. ap due (e .rest)) finish-alike (K .job .S + K .job .C + 20)
 
   -- ---- draws
-  pub sample-alike : (s z : State) → Alike s z → sampleAt K s ≡ sampleAt K z
-  sample-alike s z e = ap (sampleAt K) (e .rest)
+  pub sample-alike : (s z : State) → Alike s z → sampleAt s ≡ sampleAt z
+  sample-alike s z e = ap sampleAt (e .rest)
 
   step-alike : (s z : State) → Alike s z → Alike (step K s) (step K z)
   step-alike s z e = unfold step in settle-alike (draw K s) (draw K z) (drawn s z e)
@@ -96,22 +96,22 @@ module _ (K : Course) where
       drawn : (s z : State) → Alike s z → Alike (draw K s) (draw K z)
       drawn = unfold draw drawWith subsOf haveOf alphaOf in lift (draw K) (λ s. record { rest = refl })
 
-  going-alike : (s z : State) → Alike s z → going K s ≡ going K z
-  going-alike s z e = ap (going K) (e .rest)
+  going-alike : (s z : State) → Alike s z → going s ≡ going z
+  going-alike s z e = ap going (e .rest)
 
   pub advance-alike : (a : ℕ) (s z : State) → Alike s z → Alike (advance K a s) (advance K a z)
-  advance-alike = whilst-alike (going K) (step K) going-alike step-alike
+  advance-alike = whilst-alike going (step K) going-alike step-alike
 
   pub draws-alike : (a : ℕ) (s z : State) → Alike s z → drawsOf K a s ≡ drawsOf K a z
-  draws-alike = times-alike (going K) (step K) going-alike step-alike
+  draws-alike = times-alike going (step K) going-alike step-alike
 
   pub sampled-alike : (a : ℕ) (s z : State) → Alike s z → sampled K a s ≡ sampled K a z
   unfolding sampled
   sampled-alike zero s z e = refl
   sampled-alike (suc a) s z e =
-      ap (λ (c : Bool). cond c (sampleAt K s ∷ sampled K a (step K s)) []) (going-alike s z e)
-      ∙ ap (λ (i : ℕ). cond (going K z) (i ∷ sampled K a (step K s)) []) (sample-alike s z e)
-      ∙ ap (λ (is : List ℕ). cond (going K z) (sampleAt K z ∷ is) []) (sampled-alike a (step K s) (step K z) (step-alike s z e))
+      ap (λ (c : Bool). cond c (sampleAt s ∷ sampled K a (step K s)) []) (going-alike s z e)
+      ∙ ap (λ (i : ℕ). cond (going z) (i ∷ sampled K a (step K s)) []) (sample-alike s z e)
+      ∙ ap (λ (is : List ℕ). cond (going z) (sampleAt z ∷ is) []) (sampled-alike a (step K s) (step K z) (step-alike s z e))
 
   -- ---- a start and a hand-in
   pub start-alike : (seed : ℕ) (h k : List ℕ) → Alike (start K seed h) (start K seed k)

@@ -11,7 +11,7 @@ use lib.Ieee.{Float, binary32, lt, ofBits}
 use borrow.Author.Tests.{eqb-true}
 use Rattle.calls.proofs.Cases.{by-test, both, decide, all-stages}
 use Rattle.quantizer.specs.Course.{Course, b}
-use Rattle.stages.specs.State.{State, at, painted, draws}
+use Rattle.stages.specs.State.{State, at, painted, draws, beside}
 use Rattle.stages.specs.Stages.{openSeeding, openGrowing, openReplacing, noticed, errorOf, keep, enterGrowing, enterReplacing, enterReducing, closeSeeding, closeGrowing, judged, closeReplacing, finishRound, due, settle, draw, drawWith, going, step, advance, drawsOf, fresh, start, refinedOnce, handIn}
 use Rattle.calls.proofs.Whilsts.{whilst-keeps, times-grows, times-all}
 use Rattle.calls.specs.Place.{seeding, growing, replacing, reducing, finishing, over, Placed, Rests}
@@ -57,7 +57,7 @@ module _ (K : Course) where
 
   pub settle-same : (s : State) → Same s (settle K s)
   unfolding settle
-  settle-same s = whilst-keeps (due K) (finishRound K) (Same s)
+  settle-same s = whilst-keeps due (finishRound K) (Same s)
       (λ z h _. let y = finish-same z in record { made = y .made ∙ h .made; order = y .order ∙ h .order; generator = y .generator ∙ h .generator })
       _ s (record { made = refl; order = refl; generator = refl })
 
@@ -67,7 +67,7 @@ module _ (K : Course) where
   step-made s = settle-same (draw K s) .made
 
   pub advance-made : (a : ℕ) (s : State) → advance K a s .rec .made ≡ s .rec .made + drawsOf K a s
-  advance-made = times-grows (going K) (step K) (λ (s : State). s .rec .made) step-made
+  advance-made = times-grows going (step K) (λ (s : State). s .rec .made) step-made
 
   -- the start and a hand-in make no draw
   pub start-made : (seed : ℕ) (hints : List ℕ) → start K seed hints .rec .made ≡ 0
@@ -84,7 +84,7 @@ module _ (K : Course) where
 
   -- a call that leaves the run in a stage that draws has spent its allotment
   pub all-spent : (a : ℕ) (s : State) → draws (advance K a s .rec .stage) ≡ true → drawsOf K a s ≡ a
-  all-spent = times-all (going K) (step K)
+  all-spent = times-all going (step K)
 
   -- ---- up to the stop for reduction
   abbrev Early : State → Type 0
@@ -107,20 +107,20 @@ module _ (K : Course) where
   closeReplacing-early s = both Early (ltb (s .rec .rounds + 1) 10) (omega arith) (omega arith)
 
   finish-early : (s : State) → Early s → Early (finishRound K s)
-  unfolding finishRound
+  unfolding finishRound beside
   finish-early s h = both Early (eqb (s .rec .stage) 0) (closeSeeding-early s) (both Early (eqb (s .rec .stage) 1) (closeGrowing-early s) (both Early (eqb (s .rec .stage) 2) (closeReplacing-early s)
       (by-test Early (eqb (s .rec .stage) 4) (λ t. absurd (let e : s .rec .stage ≡ 4 = eqb-true (s .rec .stage) 4 t in omega arith)) (λ t. h))))
 
   settle-early : (s : State) → Early s → Early (settle K s)
   unfolding settle
-  settle-early s h = whilst-keeps (due K) (finishRound K) Early (λ z k _. finish-early z k) _ s h
+  settle-early s h = whilst-keeps due (finishRound K) Early (λ z k _. finish-early z k) _ s h
 
   pub step-early : (s : State) → Early s → Early (step K s)
   unfolding step draw drawWith
   step-early s h = settle-early (draw K s) h
 
   pub advance-early : (a : ℕ) (s : State) → Early s → Early (advance K a s)
-  advance-early a s h = whilst-keeps (going K) (step K) Early (λ z k _. step-early z k) a s h
+  advance-early a s h = whilst-keeps going (step K) Early (λ z k _. step-early z k) a s h
 
   pub start-early : (seed : ℕ) (hints : List ℕ) → Early (start K seed hints)
   unfolding start

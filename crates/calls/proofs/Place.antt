@@ -10,11 +10,11 @@ use lib.Ieee.{Float, binary32, lt, ofBits}
 use mathlib.Core.List.{List}
 use borrow.Author.Tests.{ltb-true, ltb-false, eqb-true, eqb-false, eq-eqb, ne-eqb, le-ltb}
 use Rattle.lists.proofs.Tests.{and-l, and-r}
-use Rattle.calls.proofs.Cases.{by-test, both, stage0, stage1, stage2, stage4, stage-past}
+use Rattle.calls.proofs.Cases.{by-test, both, rows, stage0, stage1, stage2, stage4, stage-past}
 use Rattle.stages.specs.Whilst.{whilst}
 use Rattle.calls.proofs.Whilsts.{whilst-keeps}
 use Rattle.quantizer.specs.Course.{Course, b}
-use Rattle.stages.specs.State.{State, at, painted, draws, byStage}
+use Rattle.stages.specs.State.{State, at, painted, draws, beside}
 use Rattle.stages.specs.Stages.{openSeeding, openGrowing, openReplacing, noticed, keep, enterGrowing, enterReplacing, enterReducing, closeSeeding, closeGrowing, judged, closeReplacing, errorOf, finishRound, due, settle, draw, drawWith, going, step, advance, fresh, start, refinedOnce, handIn}
 use Rattle.calls.specs.Place.{Placed, Rests, finishing, growing, over, reducing, replacing, seeding}
 
@@ -31,7 +31,7 @@ quiet k h = rw (le-ltb k 3 (omega arith), ne-eqb k 4 (λ (e : k ≡ 4). omega ar
 
 -- rounds not yet finished, up to the next stop
 unfoldable pub togo : Course → State → ℕ
-togo K s = byStage (s .rec .stage) (K .job .S - 1 - s .rec .rounds + (K .job .C - 1) + 10) (K .job .C - 1 - s .rec .rounds + 10) (10 - s .rec .rounds) 1 0
+togo K s = beside (s .rec .stage) (rows (K .job .S - 1 - s .rec .rounds + (K .job .C - 1) + 10) (K .job .C - 1 - s .rec .rounds + 10) (10 - s .rec .rounds) 1) 0
 
 pub record Ahead (K : Course) (f : ℕ) (s : State) : Type 0 where
   pub place : Placed K s
@@ -44,14 +44,14 @@ some-left K s R D = let z : s .rec .left ≢ 0 = eqb-false (s .rec .left) 0 (sub
 module _ (K : Course) (S1 : 1 ≤ K .job .S) (C1 : 1 ≤ K .job .C) where
   -- ---- entering a stage
   enterReplacing-ahead : (f : ℕ) (s : State) → s .rec .made ≡ (K .job .S - 1 + (K .job .C - 1)) * b K → 10 ≤ f → Ahead K f (enterReplacing K s)
-  unfolding enterReplacing openReplacing keep noticed togo
+  unfolding enterReplacing openReplacing keep noticed togo beside
   enterReplacing-ahead f s h n = record {
     place = replacing refl (omega arith) (le-refl (b K)) (next-round (K .job .S - 1 + (K .job .C - 1)) _ (s .rec .made) (b K) (omega arith) h);
     near = omega arith;
   }
 
   enterGrowing-ahead : (f : ℕ) (s : State) → s .rec .made ≡ (K .job .S - 1) * b K → K .job .C - 1 + 10 ≤ f → Ahead K f (enterGrowing K s)
-  unfolding enterGrowing openGrowing togo
+  unfolding enterGrowing openGrowing togo beside
   enterGrowing-ahead f s h n = by-test (Ahead K f) (ltb 1 (K .job .C))
       (λ t. let c : 1 < K .job .C = ltb-true 1 (K .job .C) t in
       record { place = growing refl (omega arith) (le-refl (b K)) (next-round (K .job .S - 1) _ (s .rec .made) (b K) (omega arith) h); near = omega arith })
@@ -61,7 +61,7 @@ module _ (K : Course) (S1 : 1 ≤ K .job .S) (C1 : 1 ≤ K .job .C) where
   -- ---- closing a round
   closeSeeding-ahead : (f : ℕ) (s : State) → s .rec .rounds < K .job .S - 1 → s .rec .made ≡ suc (s .rec .rounds) * b K → K .job .S - 1 - s .rec .rounds + (K .job .C - 1) + 10 ≤ suc f
       → Ahead K f (closeSeeding K s)
-  unfolding closeSeeding openSeeding noticed togo
+  unfolding closeSeeding openSeeding noticed togo beside
   closeSeeding-ahead f s r h n = by-test (Ahead K f) (ltb (s .rec .rounds + 1) (K .job .S - 1))
       (λ t. let c : s .rec .rounds + 1 < K .job .S - 1 = ltb-true (s .rec .rounds + 1) (K .job .S - 1) t in
       record { place = seeding refl c (le-refl (b K)) (next-round (suc (s .rec .rounds)) _ (s .rec .made) (b K) (omega arith) h); near = omega arith })
@@ -70,7 +70,7 @@ module _ (K : Course) (S1 : 1 ≤ K .job .S) (C1 : 1 ≤ K .job .C) where
 
   closeGrowing-ahead : (f : ℕ) (s : State) → s .rec .rounds < K .job .C - 1 → s .rec .made ≡ (K .job .S - 1 + suc (s .rec .rounds)) * b K → K .job .C - 1 - s .rec .rounds + 10 ≤ suc f
       → Ahead K f (closeGrowing K s)
-  unfolding closeGrowing openGrowing togo
+  unfolding closeGrowing openGrowing togo beside
   closeGrowing-ahead f s r h n = by-test (Ahead K f) (ltb (s .rec .rounds + 1) (K .job .C - 1))
       (λ t. let c : s .rec .rounds + 1 < K .job .C - 1 = ltb-true (s .rec .rounds + 1) (K .job .C - 1) t in
       record { place = growing refl c (le-refl (b K)) (next-round (K .job .S - 1 + suc (s .rec .rounds)) _ (s .rec .made) (b K) (omega arith) h); near = omega arith })
@@ -83,7 +83,7 @@ module _ (K : Course) (S1 : 1 ≤ K .job .S) (C1 : 1 ≤ K .job .C) where
 
   closeReplacing-ahead : (f : ℕ) (s : State) → s .rec .rounds < 10 → s .rec .made ≡ (K .job .S - 1 + (K .job .C - 1) + suc (s .rec .rounds)) * b K → 10 - s .rec .rounds ≤ suc f
       → Ahead K f (closeReplacing K s)
-  unfolding closeReplacing openReplacing enterReducing togo
+  unfolding closeReplacing openReplacing enterReducing togo beside
   closeReplacing-ahead f s r h n =
       let e : judged K s .rec .made ≡ (K .job .S - 1 + (K .job .C - 1) + suc (s .rec .rounds)) * b K = judged-made s ∙ h in
       by-test (Ahead K f) (ltb (s .rec .rounds + 1) 10)
@@ -105,7 +105,7 @@ module _ (K : Course) (S1 : 1 ≤ K .job .S) (C1 : 1 ≤ K .job .C) where
         go (growing k r l e) = unfold finishRound togo in rw stage1 (closeGrowing-ahead f s r (at-end _ e) (rw stage1 at (A .near)))
         go (replacing k r l e) = unfold finishRound togo in rw stage2 (closeReplacing-ahead f s r (at-end _ e) (rw stage2 at (A .near)))
         go (reducing k r l e) = absurd (true≢false (sym D ∙ ap draws k))
-        go (finishing k r l e) = unfold finishRound togo in rw stage4 (record { place = over (omega arith) (omega arith) refl refl (at-end _ e); near = omega arith })
+        go (finishing k r l e) = unfold finishRound in rw stage4 (record { place = over (omega arith) (omega arith) refl refl (at-end _ e); near = unfold togo beside in omega arith })
         go (over k past r l e) = absurd (true≢false (sym D ∙ quiet (s .rec .stage) k))
 
   -- ---- settling: with as much fuel as there are rounds to go, nothing is due in the end
@@ -120,10 +120,10 @@ module _ (K : Course) (S1 : 1 ≤ K .job .S) (C1 : 1 ≤ K .job .C) where
       go (finishing k r l e) = absurd (let n : 1 ≤ 0 = unfold togo in rw stage4 at (A .near) in omega arith)
       go (over k past r l e) = quiet (s .rec .stage) k
 
-  pub settling : (f : ℕ) (s : State) → Ahead K f s → Rests K (whilst (due K) (finishRound K) f s)
+  pub settling : (f : ℕ) (s : State) → Ahead K f s → Rests K (whilst due (finishRound K) f s)
   unfolding whilst
   settling zero s A = record { place = A .place; done = ap (λ (t : Bool). t && eqb (s .rec .left) 0) (idle s A) }
-  settling (suc f) s A = by-test (Rests K) (due K s)
+  settling (suc f) s A = by-test (Rests K) (due s)
       (λ t. settling f (finishRound K s) (finish-ahead f s (eqb-true (s .rec .left) 0 (and-r (draws (s .rec .stage)) _ t)) A (and-l (draws (s .rec .stage)) _ t)))
       (λ t. record { place = A .place; done = t })
 
@@ -132,7 +132,7 @@ module _ (K : Course) (S1 : 1 ≤ K .job .S) (C1 : 1 ≤ K .job .C) where
   enough s (seeding k r l e) = rw stage0 (omega arith)
   enough s (growing k r l e) = rw stage1 (omega arith)
   enough s (replacing k r l e) = rw stage2 (omega arith)
-  enough s (reducing k r l e) = rw k (omega arith)
+  enough s (reducing k r l e) = rw k (unfold beside in omega arith)
   enough s (finishing k r l e) = rw stage4 (omega arith)
   enough s (over k past r l e) = rw stage-past (omega arith)
 
@@ -157,7 +157,7 @@ module _ (K : Course) (S1 : 1 ≤ K .job .S) (C1 : 1 ≤ K .job .C) where
   step-rests s R D = settle-rests (draw K s) (draw-place s R D)
 
   pub advance-rests : (a : ℕ) (s : State) → Rests K s → Rests K (advance K a s)
-  advance-rests a s R = whilst-keeps (going K) (step K) (Rests K) step-rests a s R
+  advance-rests a s R = whilst-keeps going (step K) (Rests K) step-rests a s R
 
   -- ---- the start, and a hand-in at a stop
   pub first-placed : (seed : ℕ) (hints : List ℕ) → Placed K (cond (ltb 1 (K .job .S)) (openSeeding K 0 0 (fresh K seed hints)) (enterGrowing K (fresh K seed hints)))

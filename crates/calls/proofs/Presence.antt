@@ -16,17 +16,17 @@ use Rattle.quantizer.specs.Course.{Course}
 use Rattle.quantizer.proofs.Unused.{moved-unused}
 use Rattle.stages.specs.State.{State}
 use Rattle.stages.specs.Stages.{subsOf, haveOf, draw, drawWith}
-use Rattle.calls.proofs.Cases.{by-test, both, all-stages}
+use Rattle.calls.proofs.Cases.{by-test, both}
 use Rattle.calls.specs.Place.{seeding, growing, replacing, reducing, finishing, over, Placed}
 
 module _ (K : Course) (S1 : 1 ≤ K .job .S) (C1 : 1 ≤ K .job .C) (s : State) where
-  pub some-subs : 1 ≤ subsOf K s
+  pub some-subs : 1 ≤ subsOf (K .job .S) (s .rec)
   unfolding subsOf
   some-subs = both (λ (x : ℕ). 1 ≤ x) (eqb (s .rec .stage) 0) (omega arith) S1
 
-  pub some-colours : 1 ≤ haveOf K s
+  pub some-colours : 1 ≤ haveOf (K .job .C) (s .rec)
   unfolding haveOf
-  some-colours = all-stages (λ (x : ℕ). 1 ≤ x) (s .rec .stage) (omega arith) (omega arith) C1 C1 C1
+  some-colours = both (λ (x : ℕ). 1 ≤ x) (eqb (s .rec .stage) 0) (omega arith) (both (λ (x : ℕ). 1 ≤ x) (eqb (s .rec .stage) 1) (omega arith) C1)
 
   pub seeding-rounds : Placed K s → s .rec .stage ≡ 0 → s .rec .rounds + 2 ≤ K .job .S
   seeding-rounds (seeding k r l e) h = omega arith
@@ -44,20 +44,19 @@ module _ (K : Course) (S1 : 1 ≤ K .job .S) (C1 : 1 ≤ K .job .C) (s : State) 
   growing-rounds (finishing k r l e) h = absurd (omega arith)
   growing-rounds (over k past r l e) h = absurd (omega arith)
 
-  pub few-subs : Placed K s → subsOf K s ≤ K .job .S
+  pub few-subs : Placed K s → subsOf (K .job .S) (s .rec) ≤ K .job .S
   unfolding subsOf
   few-subs p = by-test (λ (x : ℕ). x ≤ K .job .S) (eqb (s .rec .stage) 0) (λ t. seeding-rounds p (eqb-true (s .rec .stage) 0 t)) (λ _. le-refl (K .job .S))
 
-  pub few-colours : Placed K s → haveOf K s ≤ K .job .C
+  pub few-colours : Placed K s → haveOf (K .job .C) (s .rec) ≤ K .job .C
   unfolding haveOf
   few-colours p =
       both (λ (x : ℕ). x ≤ K .job .C) (eqb (s .rec .stage) 0) C1
-      (by-test (λ (x : ℕ). x ≤ K .job .C) (eqb (s .rec .stage) 1) (λ t. growing-rounds p (eqb-true (s .rec .stage) 1 t))
-      (λ _. both (λ (x : ℕ). x ≤ K .job .C) (eqb (s .rec .stage) 2) (le-refl (K .job .C)) (both (λ (x : ℕ). x ≤ K .job .C) (eqb (s .rec .stage) 4) (le-refl (K .job .C)) (le-refl (K .job .C)))))
+      (by-test (λ (x : ℕ). x ≤ K .job .C) (eqb (s .rec .stage) 1) (λ t. growing-rounds p (eqb-true (s .rec .stage) 1 t)) (λ _. le-refl (K .job .C)))
 
 -- what a draw asks of the palette
 pub draw-shown : (size : ℕ) → size ≤ 256 → (K : Course) → Ready size (K .job) → (s : State) → Placed K s → length (s .palette) ≡ 3 * (K .job .S * K .job .C) → Bounded (s .palette) 4
-    → Shown (K .job) (s .palette) (subsOf K s) (haveOf K s)
+    → Shown (K .job) (s .palette) (subsOf (K .job .S) (s .rec)) (haveOf (K .job .C) (s .rec))
 draw-shown size small K R s p L B =
     record {
       size = size;
@@ -71,7 +70,7 @@ draw-shown size small K R s p L B =
       near = B;
     }
 
-pub draw-unused : (K : Course) (s : State) → Shown (K .job) (s .palette) (subsOf K s) (haveOf K s) → (i c : ℕ) → c < K .job .C → (subsOf K s ≤ i) ⊎ (haveOf K s ≤ c)
+pub draw-unused : (K : Course) (s : State) → Shown (K .job) (s .palette) (subsOf (K .job .S) (s .rec)) (haveOf (K .job .C) (s .rec)) → (i c : ℕ) → c < K .job .C → (subsOf (K .job .S) (s .rec) ≤ i) ⊎ (haveOf (K .job .C) (s .rec) ≤ c)
     → colourAt (draw K s .palette) (placeOf (K .job .C) i c) ≡ colourAt (s .palette) (placeOf (K .job .C) i c)
 unfolding draw drawWith
-draw-unused K s H i c h u = moved-unused (K .job) (s .palette) (subsOf K s) (haveOf K s) H _ _ _ i c h u
+draw-unused K s H i c h u = moved-unused (K .job) (s .palette) (subsOf (K .job .S) (s .rec)) (haveOf (K .job .C) (s .rec)) H _ _ _ i c h u

@@ -17,11 +17,11 @@ use Rattle.calls.proofs.Place.{togo, Ahead, finish-ahead, idle, enough,
 
 module _ (K : Course) (S1 : 1 ≤ K .job .S) (C1 : 1 ≤ K .job .C) (s : State) (p : Placed K s) where
   -- nothing due: the state is settled
-  pub settle-done : due K s ≡ false → settle K s ≡ s
+  pub settle-done : due s ≡ false → settle K s ≡ s
   unfolding settle
-  settle-done h = whilst-stop (due K) (finishRound K) _ s h
+  settle-done h = whilst-stop due (finishRound K) _ s h
 
-  module _ (d : due K s ≡ true) where
+  module _ (d : due s ≡ true) where
     spent : s .rec .left ≡ 0
     spent = eqb-true (s .rec .left) 0 (and-r (draws (s .rec .stage)) _ d)
 
@@ -49,11 +49,11 @@ module _ (K : Course) (S1 : 1 ≤ K .job .S) (C1 : 1 ≤ K .job .C) (s : State) 
     unfolding settle
     settle-more =
         let F = K .job .S + K .job .C + 20 in
-        let R : Rests K (whilst (due K) (finishRound K) F s) = settling K S1 C1 F s (record { place = p; near = enough K S1 C1 s p }) in
-        sym (whilst-stop (due K) (finishRound K) 1 (whilst (due K) (finishRound K) F s) (R .done))
-        ∙ sym (whilst-add (due K) (finishRound K) F 1 s)
-        ∙ ap (λ (n : ℕ). whilst (due K) (finishRound K) n s) (one-more F)
-        ∙ whilst-step (due K) (finishRound K) F s d
+        let R : Rests K (whilst due (finishRound K) F s) = settling K S1 C1 F s (record { place = p; near = enough K S1 C1 s p }) in
+        sym (whilst-stop due (finishRound K) 1 (whilst due (finishRound K) F s) (R .done))
+        ∙ sym (whilst-add due (finishRound K) F 1 s)
+        ∙ ap (λ (n : ℕ). whilst due (finishRound K) n s) (one-more F)
+        ∙ whilst-step due (finishRound K) F s d
       where
         one-more : (n : ℕ) → n + 1 ≡ suc n
         one-more n = omega arith

@@ -31,7 +31,7 @@ use Rattle.quantizer.proofs.Lengths.{length-grown-hints, length-replaced-hints,
 use Rattle.quantizer.proofs.Indexes.{worst-below}
 use Rattle.quantizer.proofs.Bounds.{sample-sized, seeded-bounded, duplicated-bounded, length-duplicated, grown-bounded, replaced-kept, moved-bounded}
 use Rattle.quantizer.proofs.Refines.{refined-bounded}
-use Rattle.stages.specs.State.{State, painted}
+use Rattle.stages.specs.State.{State, painted, beside}
 use Rattle.stages.specs.Stages.{noticed, openSeeding, openGrowing, openReplacing, errorOf, keep, judged, enterReplacing, enterGrowing, enterReducing, closeSeeding, closeGrowing, closeReplacing, finishRound, due, settle, cycleOf, subsOf, haveOf, alphaOf, draw, drawWith, fresh, start, refinedOnce, handIn}
 use Rattle.calls.proofs.Cases.{by-test, both}
 use Rattle.calls.proofs.Whilsts.{whilst-keeps}
@@ -191,7 +191,7 @@ module _ (size : ℕ) (small : size ≤ 256) (K : Course) (R : Ready size (K .jo
       both (Sound K) (ltb (s .rec .rounds + 1) 10) (openReplacing-sound _ _ (judged-sound s A k) (judged-stage s ∙ k)) (enterReducing-sound _ (judged-sound s A k) (judged-stage s ∙ k))
 
   pub finish-sound : (s : State) → Sound K s → Sound K (finishRound K s)
-  unfolding finishRound
+  unfolding finishRound beside
   finish-sound s A =
       by-test (Sound K) (eqb (s .rec .stage) 0) (λ t. closeSeeding-sound s A (eqb-true (s .rec .stage) 0 t))
       (λ _. by-test (Sound K) (eqb (s .rec .stage) 1) (λ t. closeGrowing-sound s A (eqb-true (s .rec .stage) 1 t))
@@ -201,7 +201,7 @@ module _ (size : ℕ) (small : size ≤ 256) (K : Course) (R : Ready size (K .jo
 
   pub settle-sound : (s : State) → Sound K s → Sound K (settle K s)
   unfolding settle
-  settle-sound s A = whilst-keeps (due K) (finishRound K) (Sound K) (λ z B _. finish-sound z B) _ s A
+  settle-sound s A = whilst-keeps due (finishRound K) (Sound K) (λ z B _. finish-sound z B) _ s A
 
   -- ---- after a stop
   refined-sound : (s : State) → Sound K s → Sound K (refinedOnce K s)
@@ -223,35 +223,35 @@ module _ (size : ℕ) (small : size ≤ 256) (K : Course) (R : Ready size (K .jo
 
 -- ---- a draw, and the start: the samples are those of the job
 module _ (size : ℕ) (small : size ≤ 256) (K : Course) (given : Bool) (D : Sampled size (K .job) (K .n) (K .samples) given) where
-  gentle : (s : State) → Gentle (alphaOf K s)
+  gentle : (s : State) → Gentle (alphaOf (s .rec))
   unfolding alphaOf
   gentle s = both Gentle (eqb (s .rec .stage) 4) gentle-5 gentle-3
 
-  drawn-dealt : (s : State) → Dealt (K .n) (s .order) → Dealt (K .n) (drawOne (cycleOf K s) .next .cards .order)
+  drawn-dealt : (s : State) → Dealt (K .n) (s .order) → Dealt (K .n) (drawOne (cycleOf (s .order) (s .rec)) .next .cards .order)
   unfolding drawOne
   drawn-dealt s d =
       record {
-        size = ready-length (cycleOf K s) ∙ d .size;
-        below = λ i l. ready-below (cycleOf K s) (K .n) (d .below) i (omega (arith, ready-length (cycleOf K s)));
+        size = ready-length (cycleOf (s .order) (s .rec)) ∙ d .size;
+        below = λ i l. ready-below (cycleOf (s .order) (s .rec)) (K .n) (d .below) i (omega (arith, ready-length (cycleOf (s .order) (s .rec))));
       }
 
-  pub sample-in : (s : State) → Dealt (K .n) (s .order) → drawOne (cycleOf K s) .sample < K .n
-  sample-in s d = sample-below (cycleOf K s) (K .n) (d .below) (omega (arith, d .size, D .some))
+  pub sample-in : (s : State) → Dealt (K .n) (s .order) → drawOne (cycleOf (s .order) (s .rec)) .sample < K .n
+  sample-in s d = sample-below (cycleOf (s .order) (s .rec)) (K .n) (d .below) (omega (arith, d .size, D .some))
 
   pub draw-sound : (s : State) → Placed K s → Sound K s → Sound K (draw K s)
   unfolding draw drawWith
   draw-sound s p A =
-      let i = drawOne (cycleOf K s) .sample in
+      let i = drawOne (cycleOf (s .order) (s .rec)) .sample in
       let t = sampleTile K i in
       let H = draw-shown size small K (D .ready) s p (A .held .size) (A .held .bound) in
       record {
         held = record {
-          size = length-moved (K .job) (s .palette) (subsOf K s) (haveOf K s) t (samplePlace K i) (alphaOf K s) ∙ A .held .size;
-          bound = moved-bounded (K .job) (s .palette) (subsOf K s) (haveOf K s) H t (samplePlace K i) (alphaOf K s) (gentle s) (unfold sampleColour in sample-sized size K given D i (sample-in s (A .dealt)));
+          size = length-moved (K .job) (s .palette) (subsOf (K .job .S) (s .rec)) (haveOf (K .job .C) (s .rec)) t (samplePlace K i) (alphaOf (s .rec)) ∙ A .held .size;
+          bound = moved-bounded (K .job) (s .palette) (subsOf (K .job .S) (s .rec)) (haveOf (K .job .C) (s .rec)) H t (samplePlace K i) (alphaOf (s .rec)) (gentle s) (unfold sampleColour in sample-sized size K given D i (sample-in s (A .dealt)));
         };
         room = A .room;
         second = A .second;
-        hints = length-moved-hints (K .job) (s .palette) (s .hints) (subsOf K s) (haveOf K s) t ∙ A .hints;
+        hints = length-moved-hints (K .job) (s .palette) (s .hints) (subsOf (K .job .S) (s .rec)) (haveOf (K .job .C) (s .rec)) t ∙ A .hints;
         dealt = drawn-dealt s (A .dealt);
       }
 

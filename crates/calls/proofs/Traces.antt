@@ -25,16 +25,16 @@ module _ (K : Course) where
   -- one advance is so many draws
   pub advance-trace : (a : ℕ) (s : State) {z : State} {hs : List (List Float)} {d : ℕ} → Trace K (advance K a s) hs d z → Trace K s hs (drawsOf K a s + d) z
   advance-trace zero s {z} {hs} {d} t =
-      subst⁻¹ (λ (n : ℕ). Trace K s hs (n + d) z) (times-zero (going K) (step K) s)
-      (subst⁻¹ (λ (n : ℕ). Trace K s hs n z) (zero-add d) (subst (λ (x : State). Trace K x hs d z) (whilst-zero (going K) (step K) s) t))
-  advance-trace (suc a) s {z} {hs} {d} t = elim (decide (going K s)) [
+      subst⁻¹ (λ (n : ℕ). Trace K s hs (n + d) z) (times-zero going (step K) s)
+      (subst⁻¹ (λ (n : ℕ). Trace K s hs n z) (zero-add d) (subst (λ (x : State). Trace K x hs d z) (whilst-zero going (step K) s) t))
+  advance-trace (suc a) s {z} {hs} {d} t = elim (decide (going s)) [
     | inl g ↦
-        subst⁻¹ (λ (n : ℕ). Trace K s hs (n + d) z) (times-step (going K) (step K) a s g)
+        subst⁻¹ (λ (n : ℕ). Trace K s hs (n + d) z) (times-step going (step K) a s g)
         (subst⁻¹ (λ (n : ℕ). Trace K s hs n z) (suc-add (drawsOf K a (step K s)) d)
-        (drew g (advance-trace a (step K s) (subst (λ (x : State). Trace K x hs d z) (whilst-step (going K) (step K) a s g) t))))
+        (drew g (advance-trace a (step K s) (subst (λ (x : State). Trace K x hs d z) (whilst-step going (step K) a s g) t))))
     | inr g ↦
-        subst⁻¹ (λ (n : ℕ). Trace K s hs (n + d) z) (times-stop (going K) (step K) (suc a) s g)
-        (subst⁻¹ (λ (n : ℕ). Trace K s hs n z) (zero-add d) (subst (λ (x : State). Trace K x hs d z) (whilst-stop (going K) (step K) (suc a) s g) t))
+        subst⁻¹ (λ (n : ℕ). Trace K s hs (n + d) z) (times-stop going (step K) (suc a) s g)
+        (subst⁻¹ (λ (n : ℕ). Trace K s hs n z) (zero-add d) (subst (λ (x : State). Trace K x hs d z) (whilst-stop going (step K) (suc a) s g) t))
   ]
 
   never : (s : State) → draws (s .rec .stage) ≡ true → stops (s .rec .stage) ≡ true → ⊥

@@ -8,12 +8,12 @@ use native.Mathlib.Omega.{arith}
 use lib.Dec.{ltb, eqb, leb}
 use borrow.Author.Tests.{ltb-true, leb-true, eqb-true, eqb-false, lt-ltb, le-leb, ne-eqb}
 use Rattle.lists.proofs.Tests.{and-l, and-r}
-use Rattle.calls.proofs.Cases.{decide, stage-past}
+use Rattle.calls.proofs.Cases.{decide}
 use Rattle.quantizer.specs.Course.{Course, b}
-use Rattle.stages.specs.State.{State, draws}
+use Rattle.stages.specs.State.{State, draws, beside}
 use Rattle.calls.specs.Place.{Place, seeding, growing, replacing, reducing, finishing, over, Rests}
 use Rattle.calls.proofs.Place.{quiet}
-use Rattle.stages.specs.Record.{roundsOf, drawsIn, before, placeFits, madeBy}
+use Rattle.stages.specs.Record.{stageOf, placeFits, madeBy}
 
 module _ (K : Course) (S1 : 1 ≤ K .job .S) (C1 : 1 ≤ K .job .C) where
   -- words 1 to 4 by the rules
@@ -22,20 +22,31 @@ module _ (K : Course) (S1 : 1 ≤ K .job .S) (C1 : 1 ≤ K .job .C) where
     pub made : m ≡ madeBy K k r l
 
   -- a stage that draws, with its number known
-  drawing : (k r l m : ℕ) → draws k ≡ true → k ≤ 7 → r < roundsOf K k → 1 ≤ l → l ≤ drawsIn K k → m + l ≡ before K k + r * b K + drawsIn K k → Words k r l m
+  drawing : (k r l m : ℕ) → draws k ≡ true → k ≤ 7 → r < stageOf K k .rounds → 1 ≤ l → l ≤ stageOf K k .each → m + l ≡ stageOf K k .before + r * b K + stageOf K k .each → Words k r l m
   unfolding placeFits madeBy
   drawing k r l m D k7 R l1 L e = record {
-    place = rw (le-leb k 7 k7, D, lt-ltb r (roundsOf K k) R, le-leb 1 l l1, le-leb l (drawsIn K k) L);
+    place = rw (le-leb k 7 k7, D, lt-ltb r (stageOf K k .rounds) R, le-leb 1 l l1, le-leb l (stageOf K k .each) L);
     made = rw D (omega arith);
   }
 
-  still : (k m : ℕ) → draws k ≡ false → k ≤ 7 → m ≡ before K k → Words k 0 0 m
+  still : (k m : ℕ) → draws k ≡ false → k ≤ 7 → m ≡ stageOf K k .before → Words k 0 0 m
   unfolding placeFits madeBy
   still k m D k7 e = record { place = rw (le-leb k 7 k7, D); made = rw (D, e) }
 
+  -- from stage 5 on all draws are made
+  before-past : (k : ℕ) → 5 ≤ k → stageOf K k .before ≡ (K .job .S + K .job .C + 18) * b K
+  unfolding stageOf beside
+  before-past k q = rw (
+    ne-eqb k 0 (λ (z : k ≡ 0). omega arith),
+    ne-eqb k 1 (λ (z : k ≡ 1). omega arith),
+    ne-eqb k 2 (λ (z : k ≡ 2). omega arith),
+    ne-eqb k 3 (λ (z : k ≡ 3). omega arith),
+    ne-eqb k 4 (λ (z : k ≡ 4). omega arith),
+  )
+
   -- ---- the rules hold between calls
   pub fits : (k r l m : ℕ) → Place K k r l m → (draws k ≡ true → 1 ≤ l) → Words k r l m
-  unfolding roundsOf drawsIn before
+  unfolding stageOf beside
   fits k r l m (seeding q R L e) h = rw q (drawing 0 r l m refl (omega arith) R (h (ap draws q)) L (omega (arith, suc-mul r (b K))))
   fits k r l m (growing q R L e) h = rw q (drawing 1 r l m refl (omega arith) R (h (ap draws q)) L (omega (arith, add-mul (K .job .S - 1) (suc r) (b K), suc-mul r (b K))))
   fits k r l m (replacing q R L e) h =
@@ -43,7 +54,7 @@ module _ (K : Course) (S1 : 1 ≤ K .job .S) (C1 : 1 ≤ K .job .C) where
   fits k r l m (reducing q R L e) h = rw (q, R, L) (still 3 m refl (omega arith) e)
   fits k r l m (finishing q R L e) h =
       rw (q, R) (drawing 4 0 l m refl (omega arith) (omega arith) (h (ap draws q)) L (e ∙ ap (λ (x : ℕ). x * b K) (omega arith) ∙ add-mul (K .job .S + K .job .C + 8) 10 (b K) ∙ omega arith))
-  fits k r l m (over q most R L e) h = rw (R, L) (still k m (quiet k q) most (rw (stage-past, ne-eqb k 3 (λ (z : k ≡ 3). omega arith)) e))
+  fits k r l m (over q most R L e) h = rw (R, L) (still k m (quiet k q) most (e ∙ sym (before-past k q)))
 
   -- ---- and what passes them is a place between calls
   pub record Between (k r l m : ℕ) : Type 0 where
@@ -52,24 +63,24 @@ module _ (K : Course) (S1 : 1 ≤ K .job .S) (C1 : 1 ≤ K .job .C) where
 
   -- the tests of a stage that draws, and of one that does not, as facts
   opened : (k r l m : ℕ) → draws k ≡ true → Words k r l m
-      → (r < roundsOf K k) × (1 ≤ l) × (l ≤ drawsIn K k) × (m + l ≡ before K k + r * b K + drawsIn K k)
+      → (r < stageOf K k .rounds) × (1 ≤ l) × (l ≤ stageOf K k .each) × (m + l ≡ stageOf K k .before + r * b K + stageOf K k .each)
   opened k r l m D w = go (and-r (leb k 7) _ (unfold placeFits in w .place))
     where
-      sizes : m ≡ before K k + r * b K + (drawsIn K k - l)
+      sizes : m ≡ stageOf K k .before + r * b K + (stageOf K k .each - l)
       sizes = unfold madeBy in w .made ∙ (rw D)
 
-      go : cond (draws k) (ltb r (roundsOf K k) && (leb 1 l && leb l (drawsIn K k))) (eqb r 0 && eqb l 0) ≡ true
-          → (r < roundsOf K k) × (1 ≤ l) × (l ≤ drawsIn K k) × (m + l ≡ before K k + r * b K + drawsIn K k)
+      go : cond (draws k) (ltb r (stageOf K k .rounds) && (leb 1 l && leb l (stageOf K k .each))) (eqb r 0 && eqb l 0) ≡ true
+          → (r < stageOf K k .rounds) × (1 ≤ l) × (l ≤ stageOf K k .each) × (m + l ≡ stageOf K k .before + r * b K + stageOf K k .each)
       go h =
-          let t : ltb r (roundsOf K k) && (leb 1 l && leb l (drawsIn K k)) ≡ true = rw D at h in
-          let u = and-r (ltb r (roundsOf K k)) _ t in
-          let x : l ≤ drawsIn K k = leb-true l (drawsIn K k) (and-r (leb 1 l) _ u) in
-          (ltb-true r (roundsOf K k) (and-l _ (leb 1 l && leb l (drawsIn K k)) t), leb-true 1 l (and-l _ (leb l (drawsIn K k)) u), x, omega (arith, sizes))
+          let t : ltb r (stageOf K k .rounds) && (leb 1 l && leb l (stageOf K k .each)) ≡ true = rw D at h in
+          let u = and-r (ltb r (stageOf K k .rounds)) _ t in
+          let x : l ≤ stageOf K k .each = leb-true l (stageOf K k .each) (and-r (leb 1 l) _ u) in
+          (ltb-true r (stageOf K k .rounds) (and-l _ (leb 1 l && leb l (stageOf K k .each)) t), leb-true 1 l (and-l _ (leb l (stageOf K k .each)) u), x, omega (arith, sizes))
 
-  closed : (k r l m : ℕ) → draws k ≡ false → Words k r l m → (r ≡ 0) × (l ≡ 0) × (m ≡ before K k)
+  closed : (k r l m : ℕ) → draws k ≡ false → Words k r l m → (r ≡ 0) × (l ≡ 0) × (m ≡ stageOf K k .before)
   closed k r l m D w = go (and-r (leb k 7) _ (unfold placeFits in w .place))
     where
-      go : cond (draws k) (ltb r (roundsOf K k) && (leb 1 l && leb l (drawsIn K k))) (eqb r 0 && eqb l 0) ≡ true → (r ≡ 0) × (l ≡ 0) × (m ≡ before K k)
+      go : cond (draws k) (ltb r (stageOf K k .rounds) && (leb 1 l && leb l (stageOf K k .each))) (eqb r 0 && eqb l 0) ≡ true → (r ≡ 0) × (l ≡ 0) × (m ≡ stageOf K k .before)
       go h =
           let t : eqb r 0 && eqb l 0 ≡ true = rw D at h in
           (eqb-true r 0 (and-l _ (eqb l 0) t), eqb-true l 0 (and-r (eqb r 0) _ t), unfold madeBy in w .made ∙ (rw D))
@@ -82,12 +93,12 @@ module _ (K : Course) (S1 : 1 ≤ K .job .S) (C1 : 1 ≤ K .job .C) where
   past k r l m q w =
       let x = closed k r l m (quiet k q) w in
       record {
-        place = over q (seven k r l w) (x .0) (x .1) (unfold before in rw (stage-past, ne-eqb k 3 (λ (z : k ≡ 3). omega arith)) at (x .2));
+        place = over q (seven k r l w) (x .0) (x .1) (x .2 ∙ before-past k q);
         some = λ t. absurd (true≢false (sym t ∙ quiet k q));
       }
 
   pub between : (k r l m : ℕ) → Words k r l m → Between k r l m
-  unfolding roundsOf drawsIn before
+  unfolding stageOf beside
   between zero r l m w = let x = opened 0 r l m refl w in record { place = seeding refl (x .0) (x .2) (omega (arith, x .3, suc-mul r (b K))); some = λ _. x .1 }
   between (suc zero) r l m w = let x = opened 1 r l m refl w in record { place = growing refl (x .0) (x .2) (omega (arith, x .3, add-mul (K .job .S - 1) (suc r) (b K), suc-mul r (b K))); some = λ _. x .1 }
   between (suc (suc zero)) r l m w = let x = opened 2 r l m refl w in record { place = replacing refl (x .0) (x .2) (omega (arith, x .3, add-mul (K .job .S - 1 + (K .job .C - 1)) (suc r) (b K), suc-mul r (b K))); some = λ _. x .1 }

@@ -22,4 +22,4 @@ Placed K s = Place K (s .rec .stage) (s .rec .rounds) (s .rec .left) (s .rec .ma
 -- the invariant between calls: a place, and nothing due
 pub record Rests (K : Course) (s : State) : Type 0 where
   pub place : Placed K s
-  pub done : due K s ≡ false
+  pub done : due s ≡ false

@@ -60,7 +60,7 @@ least-by d e n b f L =
 module _ (size : ℕ) (small : size ≤ 256) (K : Course) (given : Bool) (D : Sampled size (K .job) (K .n) (K .samples) given) where
   module _ (s : State) (F : Fit K s) where
     abbrev i : ℕ
-    i = sampleAt K s
+    i = sampleAt s
 
     abbrev t : ℕ
     t = sampleTile K i
@@ -68,50 +68,50 @@ module _ (size : ℕ) (small : size ≤ 256) (K : Course) (given : Bool) (D : Sa
     below : i < K .n
     below = sample-in size small K given D s (F .sound .dealt)
 
-    shown : Shown (K .job) (s .palette) (subsOf K s) (haveOf K s)
+    shown : Shown (K .job) (s .palette) (subsOf (K .job .S) (s .rec)) (haveOf (K .job .C) (s .rec))
     shown = draw-shown size small K (D .ready) s (F .rests .place) (F .sound .held .size) (F .sound .held .bound)
 
     abbrev sub : Near
-    sub = fitAt (K .job) (s .palette) (subsOf K s) (haveOf K s) t
+    sub = fitAt (K .job) (s .palette) (subsOf (K .job .S) (s .rec)) (haveOf (K .job .C) (s .rec)) t
 
-    sub-in : sub .index < subsOf K s
-    sub-in = winner-below (K .job) (s .palette) (subsOf K s) (haveOf K s) shown t
+    sub-in : sub .index < subsOf (K .job .S) (s .rec)
+    sub-in = winner-below (K .job) (s .palette) (subsOf (K .job .S) (s .rec)) (haveOf (K .job .C) (s .rec)) shown t
 
     abbrev part : List Float
-    part = subOf (s .palette) (K .job .C) (haveOf K s) (sub .index)
+    part = subOf (s .palette) (K .job .C) (haveOf (K .job .C) (s .rec)) (sub .index)
 
     abbrev colour : Near
     colour = nearestOf part (sampleColour K i) (K .job .weight)
 
-    nearest : Least (gaps (K .job) (s .palette) (sub .index) (sampleColour K i)) (haveOf K s) colour
+    nearest : Least (gaps (K .job) (s .palette) (sub .index) (sampleColour K i)) (haveOf (K .job .C) (s .rec)) colour
     nearest =
-        least-by (gap part (sampleColour K i) (K .job .weight)) (gaps (K .job) (s .palette) (sub .index) (sampleColour K i)) (haveOf K s) colour
-        (λ j l. unfold gap in ap (λ (c : Oklab). sqdistOf c (sampleColour K i) (K .job .weight)) (sub-colour (s .palette) (K .job .C) (haveOf K s) (sub .index) j l))
+        least-by (gap part (sampleColour K i) (K .job .weight)) (gaps (K .job) (s .palette) (sub .index) (sampleColour K i)) (haveOf (K .job .C) (s .rec)) colour
+        (λ j l. unfold gap in ap (λ (c : Oklab). sqdistOf c (sampleColour K i) (K .job .weight)) (sub-colour (s .palette) (K .job .C) (haveOf (K .job .C) (s .rec)) (sub .index) j l))
         (subst (λ (k : ℕ). Least (gap part (sampleColour K i) (K .job .weight)) k colour) many
         (least-has (gap part (sampleColour K i) (K .job .weight)) (length part / 3) (omega (arith, many, shown .some))
-        (gap-good part (K .job .weight) (bounded-finite part 4 (part-bounded (K .job) (s .palette) (subsOf K s) (haveOf K s) shown (sub .index) sub-in)) (D .ready .weight)
+        (gap-good part (K .job .weight) (bounded-finite part 4 (part-bounded (K .job) (s .palette) (subsOf (K .job .S) (s .rec)) (haveOf (K .job .C) (s .rec)) shown (sub .index) sub-in)) (D .ready .weight)
         (sampleColour K i) (sized-real (sampleColour K i) 2 (sample-sized size K given D i below)))))
       where
-        many : length part / 3 ≡ haveOf K s
-        many = part-colours (K .job) (s .palette) (subsOf K s) (haveOf K s) shown (sub .index) sub-in
+        many : length part / 3 ≡ haveOf (K .job .C) (s .rec)
+        many = part-colours (K .job) (s .palette) (subsOf (K .job .S) (s .rec)) (haveOf (K .job .C) (s .rec)) shown (sub .index) sub-in
 
     pub fit-moves : Moves K i s (draw K s)
     unfolding draw drawWith moved movedHints targetOf sampleColour
     fit-moves =
-        let place = targetOf (K .job) (s .palette) (subsOf K s) (haveOf K s) t (samplePlace K i) in
-        let x = nudged (alphaOf K s) (colourAt (s .palette) place) (sampleColour K i) in
+        let place = targetOf (K .job) (s .palette) (subsOf (K .job .S) (s .rec)) (haveOf (K .job .C) (s .rec)) t (samplePlace K i) in
+        let x = nudged (alphaOf (s .rec)) (colourAt (s .palette) place) (sampleColour K i) in
         record {
           sub = sub;
           colour = colour;
-          fits = chosen (K .job) (s .palette) (subsOf K s) (haveOf K s) shown t (D .tile i below) .least;
+          fits = chosen (K .job) (s .palette) (subsOf (K .job .S) (s .rec)) (haveOf (K .job .C) (s .rec)) shown t (D .tile i below) .least;
           nearest = nearest;
-          moves = put-here (s .palette) place x (target-in (K .job) (s .palette) (subsOf K s) (haveOf K s) shown t (samplePlace K i));
+          moves = put-here (s .palette) place x (target-in (K .job) (s .palette) (subsOf (K .job .S) (s .rec)) (haveOf (K .job .C) (s .rec)) shown t (samplePlace K i));
           stays = λ p n. put-elsewhere (s .palette) place x p n;
-          size = length-moved (K .job) (s .palette) (subsOf K s) (haveOf K s) t (samplePlace K i) (alphaOf K s);
+          size = length-moved (K .job) (s .palette) (subsOf (K .job .S) (s .rec)) (haveOf (K .job .C) (s .rec)) t (samplePlace K i) (alphaOf (s .rec));
           second = refl;
           hint = getD-set-same (s .hints) t (sub .index) 0 (omega (arith, D .tile i below, F .sound .hints));
           hints-stay = λ u n. getD-set-other (s .hints) t u (sub .index) 0 n;
-          hints = length-moved-hints (K .job) (s .palette) (s .hints) (subsOf K s) (haveOf K s) t;
+          hints = length-moved-hints (K .job) (s .palette) (s .hints) (subsOf (K .job .S) (s .rec)) (haveOf (K .job .C) (s .rec)) t;
           made = refl;
           one-less = refl;
           order = refl;
@@ -123,34 +123,34 @@ module _ (size : ℕ) (small : size ≤ 256) (K : Course) (given : Bool) (D : Sa
 
   fit-draws : (a : ℕ) (s : State) → Fit K s → Draws K s (sampled K a s) (advance K a s)
   unfolding sampled step
-  fit-draws zero s F = subst⁻¹ (λ (z : State). Draws K s [] z) (whilst-zero (going K) (step K) s) none
-  fit-draws (suc a) s F = elim (decide (going K s)) [
+  fit-draws zero s F = subst⁻¹ (λ (z : State). Draws K s [] z) (whilst-zero going (step K) s) none
+  fit-draws (suc a) s F = elim (decide (going s)) [
     | inl d ↦
-        subst⁻¹ (λ (b : Bool). Draws K s (cond b (sampleAt K s ∷ sampled K a (step K s)) []) (advance K (suc a) s)) d
-        (subst⁻¹ (λ (z : State). Draws K s (sampleAt K s ∷ sampled K a (step K s)) z) (whilst-step (going K) (step K) a s d)
+        subst⁻¹ (λ (b : Bool). Draws K s (cond b (sampleAt s ∷ sampled K a (step K s)) []) (advance K (suc a) s)) d
+        (subst⁻¹ (λ (z : State). Draws K s (sampleAt s ∷ sampled K a (step K s)) z) (whilst-step going (step K) a s d)
         (drawn (fit-moves s F) (fit-draws a (step K s) (step-fit size small K given D s F d))))
     | inr d ↦
-        subst⁻¹ (λ (b : Bool). Draws K s (cond b (sampleAt K s ∷ sampled K a (step K s)) []) (advance K (suc a) s)) d
-        (subst⁻¹ (λ (z : State). Draws K s [] z) (whilst-stop (going K) (step K) (suc a) s d) none)
+        subst⁻¹ (λ (b : Bool). Draws K s (cond b (sampleAt s ∷ sampled K a (step K s)) []) (advance K (suc a) s)) d
+        (subst⁻¹ (λ (z : State). Draws K s [] z) (whilst-stop going (step K) (suc a) s d) none)
   ]
 
 -- as many samples as draws are counted
 sampled-many : (K : Course) (a : ℕ) (s : State) → length (sampled K a s) ≡ drawsOf K a s
 unfolding sampled
-sampled-many K zero s = sym (times-zero (going K) (step K) s)
-sampled-many K (suc a) s = elim (decide (going K s)) [
-  | inl d ↦ ap (λ (b : Bool). length (cond b (sampleAt K s ∷ sampled K a (step K s)) [])) d ∙ ap suc (sampled-many K a (step K s)) ∙ sym (times-step (going K) (step K) a s d)
-  | inr d ↦ ap (λ (b : Bool). length (cond b (sampleAt K s ∷ sampled K a (step K s)) [])) d ∙ sym (times-stop (going K) (step K) (suc a) s d)
+sampled-many K zero s = sym (times-zero going (step K) s)
+sampled-many K (suc a) s = elim (decide (going s)) [
+  | inl d ↦ ap (λ (b : Bool). length (cond b (sampleAt s ∷ sampled K a (step K s)) [])) d ∙ ap suc (sampled-many K a (step K s)) ∙ sym (times-step going (step K) a s d)
+  | inr d ↦ ap (λ (b : Bool). length (cond b (sampleAt s ∷ sampled K a (step K s)) [])) d ∙ sym (times-stop going (step K) (suc a) s d)
 ]
 
 module _ (size : ℕ) (small : size ≤ 256) (K : Course) (m : Memory) where
-  pub tiles-chosen : Accepted size K m → (t : ℕ) → t < K .job .T → Chosen (K .job) (stateOf m .palette) (subsOf K (stateOf m)) (haveOf K (stateOf m)) t
+  pub tiles-chosen : Accepted size K m → (t : ℕ) → t < K .job .T → Chosen (K .job) (stateOf m .palette) (subsOf (K .job .S) (stateOf m .rec)) (haveOf (K .job .C) (stateOf m .rec)) t
   tiles-chosen A t l =
-      chosen (K .job) (stateOf m .palette) (subsOf K (stateOf m)) (haveOf K (stateOf m))
+      chosen (K .job) (stateOf m .palette) (subsOf (K .job .S) (stateOf m .rec)) (haveOf (K .job .C) (stateOf m .rec))
       (draw-shown size small K (job-passed size K true (A .passed) .ready) (stateOf m) (A .fit .rests .place) (A .fit .sound .held .size) (A .fit .sound .held .bound)) t l
 
   -- the next draw of an accepted memory
-  pub draw-moves : Accepted size K m → Moves K (sampleAt K (stateOf m)) (stateOf m) (draw K (stateOf m))
+  pub draw-moves : Accepted size K m → Moves K (sampleAt (stateOf m)) (stateOf m) (draw K (stateOf m))
   draw-moves A = fit-moves size small K true (job-passed size K true (A .passed)) (stateOf m) (A .fit)
 
   -- an accepted advance is as many draws as it reports
@@ -167,14 +167,14 @@ module _ (size : ℕ) (small : size ≤ 256) (K : Course) (m : Memory) where
   pub one-draw : advanceAnswer size K m ≡ 0 → 2 ≤ getD (m .words) 3 0 → stateOf (advanceCall size K m 1 .after) ≡ draw K (stateOf m)
   one-draw h l =
       let A = advance-opened size K m h in
-      advanced-state size K m 1 h ∙ whilst-step (going K) (step K) 0 (stateOf m) (A .1) ∙ whilst-zero (going K) (step K) (step K (stateOf m)) ∙ (unfold step in settle-idle K (draw K (stateOf m)) idle)
+      advanced-state size K m 1 h ∙ whilst-step going (step K) 0 (stateOf m) (A .1) ∙ whilst-zero going (step K) (step K (stateOf m)) ∙ (unfold step in settle-idle K (draw K (stateOf m)) idle)
     where
-      idle : due K (draw K (stateOf m)) ≡ false
+      idle : due (draw K (stateOf m)) ≡ false
       idle = unfold draw drawWith stateOf in more (draws (getD (m .words) 1 0)) (getD (m .words) 3 0) l
         where
           more : (t : Bool) (n : ℕ) → 2 ≤ n → t && eqb (n - 1) 0 ≡ false
           more true n h = ne-eqb (n - 1) 0 (λ (e : n - 1 ≡ 0). omega arith)
           more false n h = refl
 
-  pub one-moves : advanceAnswer size K m ≡ 0 → 2 ≤ getD (m .words) 3 0 → Moves K (sampleAt K (stateOf m)) (stateOf m) (stateOf (advanceCall size K m 1 .after))
-  one-moves h l = subst⁻¹ (Moves K (sampleAt K (stateOf m)) (stateOf m)) (one-draw h l) (draw-moves (advance-opened size K m h .0))
+  pub one-moves : advanceAnswer size K m ≡ 0 → 2 ≤ getD (m .words) 3 0 → Moves K (sampleAt (stateOf m)) (stateOf m) (stateOf (advanceCall size K m 1 .after))
+  one-moves h l = subst⁻¹ (Moves K (sampleAt (stateOf m)) (stateOf m)) (one-draw h l) (draw-moves (advance-opened size K m h .0))

@@ -44,7 +44,7 @@ module _ (size : ℕ) (small : size ≤ 256) (K : Course) where
   pub advance-draws : (m : Memory) (a : ℕ) → advanceAnswer size K m ≡ 0 → 1 ≤ advanceCall size K m (suc a) .drew
   unfolding advanceCall
   advance-draws m a h =
-      omega (arith, ap (λ (x : Outcome). x .drew) (done (advanceAnswer size K m) m (drawsOf K (suc a) (stateOf m)) (advance K (suc a) (stateOf m)) h), times-step (going K) (step K) a (stateOf m) (advance-opened size K m h .1))
+      omega (arith, ap (λ (x : Outcome). x .drew) (done (advanceAnswer size K m) m (drawsOf K (suc a) (stateOf m)) (advance K (suc a) (stateOf m)) h), times-step going (step K) a (stateOf m) (advance-opened size K m h .1))
 
   -- and where its allotment covers the draws that are missing it ends at a stop
   pub advance-stops : (m : Memory) (a : ℕ) → advanceAnswer size K m ≡ 0 → (K .job .S + K .job .C + 18) * b K ≤ getD (m .words) 4 0 + a

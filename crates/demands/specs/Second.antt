@@ -94,12 +94,12 @@ pub record Moves (K : Course) (i : ℕ) (s z : State) : Type 0 where
   pub sub : Near
   pub colour : Near
   -- the subpalette of least distance to the sample's tile, the lowest index on a tie, of those that are present
-  pub fits : Least (distances (K .job) (s .palette) (subsOf K s) (haveOf K s) (sampleTile K i)) (subsOf K s) sub
+  pub fits : Least (distances (K .job) (s .palette) (subsOf (K .job .S) (s .rec)) (haveOf (K .job .C) (s .rec)) (sampleTile K i)) (subsOf (K .job .S) (s .rec)) sub
   -- of its colours that are present the one nearest to the sample's, the lowest index on a tie
-  pub nearest : Least (gaps (K .job) (s .palette) (sub .index) (sampleColour K i)) (haveOf K s) colour
+  pub nearest : Least (gaps (K .job) (s .palette) (sub .index) (sampleColour K i)) (haveOf (K .job .C) (s .rec)) colour
   -- that one moves towards the sample's colour: alpha is 0.5 in stage 4, and 0.3 elsewhere
   pub moves : colourAt (z .palette) (placeOf (K .job .C) (sub .index) (colour .index))
-      ≡ nudged (alphaOf K s) (colourAt (s .palette) (placeOf (K .job .C) (sub .index) (colour .index))) (sampleColour K i)
+      ≡ nudged (alphaOf (s .rec)) (colourAt (s .palette) (placeOf (K .job .C) (sub .index) (colour .index))) (sampleColour K i)
   -- and no other place of either palette changes
   pub stays : (p : ℕ) → p ≢ placeOf (K .job .C) (sub .index) (colour .index) → colourAt (z .palette) p ≡ colourAt (s .palette) p
   pub size : length (z .palette) ≡ length (s .palette)
@@ -111,8 +111,8 @@ pub record Moves (K : Course) (i : ℕ) (s z : State) : Type 0 where
   -- one draw more is made and one less is left in the round; order and generator go on in the cycle, and the record's other words stay
   pub made : z .rec .made ≡ s .rec .made + 1
   pub one-less : z .rec .left ≡ s .rec .left - 1
-  pub order : z .order ≡ drawOne (cycleOf K s) .next .cards .order
-  pub generator : z .rec .generator ≡ drawOne (cycleOf K s) .next .cards .state
+  pub order : z .order ≡ drawOne (cycleOf (s .order) (s .rec)) .next .cards .order
+  pub generator : z .rec .generator ≡ drawOne (cycleOf (s .order) (s .rec)) .next .cards .state
   pub stage : z .rec .stage ≡ s .rec .stage
   pub rounds : z .rec .rounds ≡ s .rec .rounds
   pub error : z .rec .error ≡ s .rec .error
@@ -120,7 +120,7 @@ pub record Moves (K : Course) (i : ℕ) (s z : State) : Type 0 where
 -- from s to z by draws of these samples, each followed by what is then due
 pub data Draws (K : Course) : State → List ℕ → State → Type 0 where
   none : {s : State} → Draws K s [] s
-  drawn : {s z : State} {is : List ℕ} → Moves K (sampleAt K s) s (draw K s) → Draws K (settle K (draw K s)) is z → Draws K s (sampleAt K s ∷ is) z
+  drawn : {s z : State} {is : List ℕ} → Moves K (sampleAt s) s (draw K s) → Draws K (settle K (draw K s)) is z → Draws K s (sampleAt s ∷ is) z
 
 -- ---- whatever the hints, for a whole run
 -- memories that differ in their hints alone, of which they have as many
@@ -167,12 +167,12 @@ pub record Second (size : ℕ) : Type 0 where
   pub best-two : (J : Job) (palette : List Float) → Best-two size J palette
   pub assign : (J : Job) (palette : List Float) → Assign size J palette
   -- at every draw of an accepted memory, whatever hints it holds, each tile's choice is among the colours then present
-  pub tiles : (K : Course) (m : Memory) → Accepted size K m → (t : ℕ) → t < K .job .T → Chosen (K .job) (stateOf m .palette) (subsOf K (stateOf m)) (haveOf K (stateOf m)) t
+  pub tiles : (K : Course) (m : Memory) → Accepted size K m → (t : ℕ) → t < K .job .T → Chosen (K .job) (stateOf m .palette) (subsOf (K .job .S) (stateOf m .rec)) (haveOf (K .job .C) (stateOf m .rec)) t
   -- the draw itself
-  pub draw : (K : Course) (m : Memory) → Accepted size K m → Moves K (sampleAt K (stateOf m)) (stateOf m) (draw K (stateOf m))
+  pub draw : (K : Course) (m : Memory) → Accepted size K m → Moves K (sampleAt (stateOf m)) (stateOf m) (draw K (stateOf m))
   -- an accepted advance is such draws, as many as it reports
   pub advance : (K : Course) (m : Memory) (a : ℕ) → advanceAnswer size K m ≡ 0 → Draws K (stateOf m) (sampled K a (stateOf m)) (stateOf (advanceCall size K m a .after))
   pub advance-many : (K : Course) (m : Memory) (a : ℕ) → advanceAnswer size K m ≡ 0 → length (sampled K a (stateOf m)) ≡ advanceCall size K m a .drew
   -- by one draw inside a round: of the memory before and after
-  pub one-draw : (K : Course) (m : Memory) → advanceAnswer size K m ≡ 0 → 2 ≤ getD (m .words) 3 0 → Moves K (sampleAt K (stateOf m)) (stateOf m) (stateOf (advanceCall size K m 1 .after))
+  pub one-draw : (K : Course) (m : Memory) → advanceAnswer size K m ≡ 0 → 2 ≤ getD (m .words) 3 0 → Moves K (sampleAt (stateOf m)) (stateOf m) (stateOf (advanceCall size K m 1 .after))
   pub whatever-hints : (K : Course) (m x : Memory) → Hints-apart m x → Whatever-hints size K m x

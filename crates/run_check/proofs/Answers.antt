@@ -15,7 +15,7 @@ use Rattle.job.proofs.Ready.{sizes-of, sampled-ready}
 use Rattle.quantizer.specs.Course.{course}
 use Rattle.stages.specs.declared.Record.{Record}
 use Rattle.stages.specs.State.{stateWith}
-use Rattle.stages.specs.Record.{placeFits, roundsOf, drawsIn, before, madeBy, stateRules}
+use Rattle.stages.specs.Record.{stageOf, placeFits, madeBy, stateRules}
 use Rattle.stages.specs.Calls.{Memory, recordOf, stateOf, jobRules}
 use Rattle.run_record.specs.Sized.{sized, Sized}
 use Rattle.run_check.specs.Room.{Roomy, runAnswer}
@@ -27,7 +27,7 @@ near-fails k m xs rs i e h = fails k (componentsFit m xs) rs (rw (← e) (ne-eqb
 -- the rules read only the sizes of a course, and the lent memory
 held-rules : (J : Job) (n : ℕ) (samples : List ℕ) (m : Memory) (r : Record) → r ≡ recordOf (m .words) → (b : ℕ)
     → b ≡ answer (stateRules (sized (J .S) (J .C) n) (stateWith (m .order) [] (m .palette) (m .least) r)) → b ≡ answer (stateRules (course J n samples) (stateOf m))
-unfolding stateOf placeFits roundsOf drawsIn before madeBy
+unfolding stateOf stageOf placeFits madeBy
 held-rules J n samples m r q b h = rw q at h
 
 module _ (size : ℕ) (J : Job) (n : ℕ) (samples : List ℕ) where

@@ -11,18 +11,17 @@ use Rattle.quantizer_draw.specs.Draws.{Going}
 use Rattle.stages.specs.declared.Record.{Record}
 use Rattle.stages.specs.State.{stateWith}
 use Rattle.stages.specs.Stages.{cycleOf, subsOf, haveOf, alphaOf, draw, drawWith}
-use Rattle.run_record.specs.Sized.{sized}
 use Rattle.run_stage.specs.Counts.{counted}
 
 -- g and m are the record's generator and draws made
 module _ (K : Course) (o h : List ℕ) (p : List Float) (r : Record) (subs have : ℕ)
-    (es : subs ≡ subsOf (sized (K .job .S) (K .job .C) (K .n)) (stateWith [] [] [] [] r)) (eh : have ≡ haveOf (sized (K .job .S) (K .job .C) (K .n)) (stateWith [] [] [] [] r))
-    (g m : ℕ) (e : cycle (deck [] g) m ≡ cycleOf (sized 0 0 0) (stateWith [] [] [] [] r)) where
-  pub going-by : Going K (cycleOf K (stateWith o h p [] r)) p (subsOf K (stateWith o h p [] r)) (haveOf K (stateWith o h p [] r)) h → Going K (cycle (deck o g) m) p subs have h
+    (es : subs ≡ subsOf (K .job .S) r) (eh : have ≡ haveOf (K .job .C) r)
+    (g m : ℕ) (e : cycle (deck [] g) m ≡ cycleOf [] r) where
+  pub going-by : Going K (cycleOf o r) p (subsOf (K .job .S) r) (haveOf (K .job .C) r) h → Going K (cycle (deck o g) m) p subs have h
   unfolding subsOf haveOf
   going-by G = rw (es, eh, ap (λ (c : Cycle). c .cards .state) e, ap (λ (c : Cycle). c .made) e) G
 
-  pub drawn-by : (alpha : Float) → alpha ≡ alphaOf (sized (K .job .S) (K .job .C) (K .n)) (stateWith [] [] [] [] r) → (o2 h2 : List ℕ) (p2 : List Float) (g2 m2 : ℕ)
+  pub drawn-by : (alpha : Float) → alpha ≡ alphaOf r → (o2 h2 : List ℕ) (p2 : List Float) (g2 m2 : ℕ)
       → cycle (deck o2 g2) m2 ≡ drawOne (cycle (deck o g) m) .next
       → p2 ≡ movedBy K p subs have (drawOne (cycle (deck o g) m) .sample) alpha
       → h2 ≡ hintsBy K p subs have (drawOne (cycle (deck o g) m) .sample) h

@@ -7,6 +7,6 @@ use Rattle.stages.specs.Stages.{cycleOf, subsOf, haveOf}
 
 -- a course that passed, with its palette, hints and order; few rounds finished, and a draw left
 pub record Drawable (K : Course) (s : State) : Type 0 where
-  pub going : Going K (cycleOf K s) (s .palette) (subsOf K s) (haveOf K s) (s .hints)
+  pub going : Going K (cycleOf (s .order) (s .rec)) (s .palette) (subsOf (K .job .S) (s .rec)) (haveOf (K .job .C) (s .rec)) (s .hints)
   pub few : s .rec .rounds ≤ 16
   pub left : 1 ≤ s .rec .left

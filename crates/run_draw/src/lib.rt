@@ -27,9 +27,9 @@ pub fn draw(
     requires { ⌜ Drawable (course (job s c t weight (now tiles) (now colours) (now counts)) n (now samples)) (stateWith (now order) (now hints) (now palette) [] r) ⌝ }
     ensures { λ x. ⌜ stateWith (now (order .exit)) (now (hints .exit)) (now (palette .exit)) [] x ≡ draw (course (job s c t weight (now (tiles .entry)) (now (colours .entry)) (now (counts .entry))) n (now (samples .entry))) (stateWith (now (order .entry)) (now (hints .entry)) (now (palette .entry)) [] r) ⌝ }
 {
-    let subs = run_stage::subs_of(s, c, n, r);
-    let have = run_stage::have_of(s, c, n, r);
-    let alpha = run_stage::alpha_of(s, c, n, r);
+    let subs = run_stage::subs_of(s, r);
+    let have = run_stage::have_of(c, r);
+    let alpha = run_stage::alpha_of(r);
     let at = run_stage::cycle_of(r);
     let after = quantizer_draw::draw(
         s,

@@ -14,18 +14,17 @@ use Rattle.job.specs.Job.{two}
 use Rattle.job.proofs.Ready.{two-within, components-within}
 use Rattle.quantizer.specs.Course.{Course, b}
 use Rattle.stages.specs.declared.Record.{Record}
-use Rattle.stages.specs.State.{State, stateWith, at}
-use Rattle.stages.specs.Stages.{finishRound, settle, handIn}
+use Rattle.stages.specs.State.{State, stateWith, placed, beside}
+use Rattle.stages.specs.Stages.{finishRound, settle, refinedOnce, handIn}
 use Rattle.stages.specs.Calls.{Memory, memory, recordOf, wordsOf, stateOf, memoryOf, outcome, coloursRoom, handInAnswer, handInCall}
 use Rattle.calls.proofs.Cases.{decide}
 use Rattle.calls.specs.Place.{Placed}
 use Rattle.calls.proofs.Place.{final-placed, made-at-3}
 use Rattle.calls.proofs.Settling.{settle-done, settle-more, finish-placed}
-use Rattle.calls.specs.Sound.{Held}
 use Rattle.calls.proofs.Accepted.{job-passed}
 use Rattle.calls.proofs.Answers.{handIn-opened}
 use Rattle.calls.proofs.Next as next
-use Rattle.run_refine.specs.Refines.{refinedTimes, placedAt, finalDraws, Handed}
+use Rattle.run_refine.specs.Refines.{refinedTimes, hintsTimes, finalDraws, Handed}
 
 -- ---- what follows a stop
 module _ (K : Course) (o h : List ℕ) (p l : List Float) (r : Record) (A : Handed K (stateWith o h p l r)) where
@@ -37,26 +36,26 @@ module _ (K : Course) (o h : List ℕ) (p l : List Float) (r : Record) (A : Hand
     some : 1 ≤ K .job .C
     some = A .refinable .ready .sizes .some
 
-    first-placed : Placed K (stateWith o h p l (placedAt r 4 0 (10 * b K)))
+    first-placed : Placed K (stateWith o h p l (placed r 4 0 (10 * b K)))
     first-placed = final-placed K subs some (stateWith o h p l r) (made-at-3 K subs some (stateWith o h p l r) (A .place) k)
 
-    settled : (eqb (10 * b K) 0 ≡ true) ⊎ (eqb (10 * b K) 0 ≡ false) → stateWith o h p l (finalDraws (K .n) r) ≡ settle K (stateWith o h p l (placedAt r 4 0 (10 * b K)))
-    unfolding finalDraws finishRound
+    settled : (eqb (10 * b K) 0 ≡ true) ⊎ (eqb (10 * b K) 0 ≡ false) → stateWith o h p l (finalDraws (K .n) r) ≡ settle K (stateWith o h p l (placed r 4 0 (10 * b K)))
+    unfolding finalDraws finishRound beside
     settled (inl t) =
-        let s = stateWith o h p l (placedAt r 4 0 (10 * b K)) in
+        let s = stateWith o h p l (placed r 4 0 (10 * b K)) in
         rw t (sym (settle-more K subs some s first-placed t ∙ settle-done K subs some (finishRound K s) (finish-placed K subs some s first-placed t) refl))
-    settled (inr t) = rw t (sym (settle-done K subs some (stateWith o h p l (placedAt r 4 0 (10 * b K))) first-placed t))
+    settled (inr t) = rw t (sym (settle-done K subs some (stateWith o h p l (placed r 4 0 (10 * b K))) first-placed t))
 
     pub final : (x : Record) → x ≡ finalDraws (K .n) r → stateWith o h p l x ≡ handIn K p (stateWith o h p l r)
     unfolding handIn
     final x e = rw (eq-eqb (r .stage) 3 k) (ap (stateWith o h p l) e ∙ settled (decide (eqb (10 * b K) 0)))
 
-  pub refined-on : r .stage ≢ 3 → r .stage ≡ 5 → (h2 : List ℕ) (p2 : List Float) → stateWith o h2 p2 l r ≡ refinedTimes K 4 (stateWith o h p l r)
-      → stateWith o h2 p2 l (placedAt r 6 0 0) ≡ handIn K p (stateWith o h p l r)
-  unfolding handIn refinedTimes
-  refined-on a k h2 p2 e = rw (ne-eqb (r .stage) 3 a, eq-eqb (r .stage) 5 k) (ap (λ (s : State). at s 6 0 0) e)
+  pub refined-on : r .stage ≢ 3 → r .stage ≡ 5 → (h2 : List ℕ) (p2 : List Float) → (p2 ≡ refinedTimes (K .job) 4 p) × (h2 ≡ hintsTimes (K .job) 4 p h)
+      → stateWith o h2 p2 l (placed r 6 0 0) ≡ handIn K p (stateWith o h p l r)
+  unfolding handIn refinedOnce refinedTimes hintsTimes
+  refined-on a k h2 p2 e = rw (ne-eqb (r .stage) 3 a, eq-eqb (r .stage) 5 k, e .0, e .1)
 
-  pub last-on : r .stage ≢ 3 → r .stage ≢ 5 → stateWith o h p l (placedAt r 7 0 0) ≡ handIn K p (stateWith o h p l r)
+  pub last-on : r .stage ≢ 3 → r .stage ≢ 5 → stateWith o h p l (placed r 7 0 0) ≡ handIn K p (stateWith o h p l r)
   unfolding handIn
   last-on a k = rw (ne-eqb (r .stage) 3 a, ne-eqb (r .stage) 5 k)
 
@@ -88,7 +87,8 @@ module _ (size : ℕ) (small : size ≤ 256) (K : Course) (m : Memory) (reduced 
               size = size;
               small = small;
               ready = D .ready;
-              held = subst⁻¹ (Held K) ep (record { size = sized; bound = bounded-wider reduced 2 4 (omega arith) (components-within two reduced 2 two-within (o .3)) });
+              all = rw ep sized;
+              bound = rw ep (bounded-wider reduced 2 4 (omega arith) (components-within two reduced 2 two-within (o .3)));
               each = o .0 .roomy .hints;
             };
             few = D .few;

@@ -33,22 +33,7 @@ fn go_on(
         return run_refine::final_draws(n, r);
     }
     if r.stage == 5 {
-        run_refine::refine_four(
-            s,
-            c,
-            t,
-            n,
-            weight,
-            tiles,
-            colours,
-            counts,
-            samples,
-            order,
-            hints,
-            palette,
-            least,
-            r,
-        );
+        run_refine::refine_four(s, c, t, weight, tiles, colours, counts, palette, hints);
         return Record {
             generator: r.generator,
             stage: 6,

@@ -1,123 +1,99 @@
 -- The draws that a place implies, and that no sum of theirs wraps. Assumes nothing.
 use Prim.Native.Nat.{ℕ, _+_, _-_, _*_, _/_, _≤_, _<_}
-use mathlib.Core.Path.{_≡_, ap, _∙_}
+use mathlib.Core.Path.{_≡_, refl, ap, _∙_}
 use mathlib.Core.Bool.{Bool, true, false, cond, _&&_}
-use native.Mathlib.Nat.{mul-le-mul, div-le-of-le-mul}
 use native.Mathlib.Omega.{arith}
 use lib.Dec.{eqb, leb, ltb}
 use mir.Val.{Fits}
 use mir.Syntax.{w64}
 use mir.Facts.{fits-le, fits-lit}
-use borrow.Author.Tests.{eq-eqb, ne-eqb, leb-true, ltb-true}
+use borrow.Author.Tests.{leb-true, ltb-true}
 use Rattle.lists.proofs.Tests.{and-l, and-r}
 use Rattle.quantizer.specs.Course.{Course, b}
-use Rattle.stages.specs.State.{draws}
-use Rattle.stages.specs.Record.{roundsOf, drawsIn, before, placeFits, madeBy}
-use Rattle.run_record.specs.Sized.{sized, Sized, Earlier}
-
--- ---- rounds before a stage
-module _ (s c n k : ℕ) (Z : Sized s c n) where
-  again : (x y : ℕ) → x ≡ y → x * (n / 10) ≡ y * (n / 10)
-  again x y e = rw e
-
-  pub earlier0 : k ≡ 0 → Earlier s c n k 0
-  unfolding before
-  earlier0 h = record { rounds = rw (eq-eqb k 0 h); bound = omega arith }
-
-  module _ (n0 : k ≡ 0 → ⊥) where
-    pub earlier1 : k ≡ 1 → Earlier s c n k (s - 1)
-    unfolding before
-    earlier1 h = record { rounds = rw (ne-eqb k 0 n0, eq-eqb k 1 h); bound = omega (arith, Z .few) }
-
-    module _ (n1 : k ≡ 1 → ⊥) where
-      pub earlier2 : k ≡ 2 → Earlier s c n k (s - 1 + (c - 1))
-      unfolding before
-      earlier2 h = record { rounds = rw (ne-eqb k 0 n0, ne-eqb k 1 n1, eq-eqb k 2 h); bound = omega (arith, Z .few, Z .cap) }
-
-      module _ (n2 : k ≡ 2 → ⊥) where
-        pub earlier4 : k ≡ 4 → Earlier s c n k (s - 1 + (c - 1) + 10)
-        unfolding before
-        earlier4 h = record {
-          rounds = rw (ne-eqb k 0 n0, ne-eqb k 1 n1, ne-eqb k 2 n2, eq-eqb k 4 h) (again _ _ (omega (arith, Z .subs, Z .some)));
-          bound = omega (arith, Z .few, Z .cap);
-        }
-
-        module _ (n4 : k ≡ 4 → ⊥) where
-          pub earlier3 : k ≡ 3 → Earlier s c n k (s - 1 + (c - 1) + 10)
-          unfolding before
-          earlier3 h = record {
-            rounds = rw (ne-eqb k 0 n0, ne-eqb k 1 n1, ne-eqb k 2 n2, ne-eqb k 4 n4, eq-eqb k 3 h) (again _ _ (omega (arith, Z .subs, Z .some)));
-            bound = omega (arith, Z .few, Z .cap);
-          }
-
-          pub earlier-past : (k ≡ 3 → ⊥) → Earlier s c n k (s - 1 + (c - 1) + 20)
-          unfolding before
-          earlier-past n3 = record {
-            rounds = rw (ne-eqb k 0 n0, ne-eqb k 1 n1, ne-eqb k 2 n2, ne-eqb k 4 n4, ne-eqb k 3 n3) (again _ _ (omega (arith, Z .subs, Z .some)));
-            bound = omega (arith, Z .few, Z .cap);
-          }
+use Rattle.stages.specs.declared.Stage.{Stage}
+use Rattle.stages.specs.State.{draws, beside}
+use Rattle.stages.specs.Record.{stageOf, placeFits, madeBy}
+use Rattle.run_record.specs.Sized.{sized, Sized}
+use Rattle.run_record.proofs.Lines.{tenths-small}
 
 -- ---- a place that fits
 module _ (K : Course) (k r l : ℕ) where
   module _ (fits : placeFits K k r l ≡ true) (d : Bool) (e : d ≡ draws k) (y : d ≡ true) where
-    drawing : ltb r (roundsOf K k) && (leb 1 l && leb l (drawsIn K k)) ≡ true
+    drawing : ltb r (stageOf K k .rounds) && (leb 1 l && leb l (stageOf K k .each)) ≡ true
     unfolding placeFits
     drawing = rw (← e, y) at (and-r (leb k 7) _ fits)
 
-    pub rounds-below : r < roundsOf K k
-    rounds-below = ltb-true r (roundsOf K k) (and-l (ltb r (roundsOf K k)) _ drawing)
+    pub rounds-below : r < stageOf K k .rounds
+    rounds-below = ltb-true r (stageOf K k .rounds) (and-l (ltb r (stageOf K k .rounds)) _ drawing)
 
-    pub left-within : l ≤ drawsIn K k
-    left-within = leb-true l (drawsIn K k) (and-r (leb 1 l) _ (and-r (ltb r (roundsOf K k)) _ drawing))
+    pub left-within : l ≤ stageOf K k .each
+    left-within = leb-true l (stageOf K k .each) (and-r (leb 1 l) _ (and-r (ltb r (stageOf K k .rounds)) _ drawing))
 
-  -- ---- word 4, and bounds
-  pub made-quiet : (d : Bool) → d ≡ draws k → d ≡ false → (x : ℕ) → x ≡ before K k → x ≡ madeBy K k r l
+  -- ---- word 4
+  pub made-quiet : (d : Bool) → d ≡ draws k → d ≡ false → (line : Stage) → line ≡ stageOf K k → line .before ≡ madeBy K k r l
   unfolding madeBy
-  made-quiet d e y x h = rw (← e, y) h
+  made-quiet d e y line h = rw (← e, y) (ap (λ (x : Stage). x .before) h)
 
-  pub made-drawing : (d : Bool) → d ≡ draws k → d ≡ true → (x e q : ℕ) → x ≡ before K k → e ≡ b K → q ≡ drawsIn K k → x + r * e + (q - l) ≡ madeBy K k r l
+  pub made-drawing : (d : Bool) → d ≡ draws k → d ≡ true → (line : Stage) → line ≡ stageOf K k → (t : ℕ) → t ≡ b K → line .before + r * t + (line .each - l) ≡ madeBy K k r l
   unfolding madeBy
-  made-drawing d i y x e q h f g = rw (← i, y, ← h, ← f, ← g)
+  made-drawing d e y line h t f = rw (← e, y, ← h, f)
 
-module _ (s c n k : ℕ) (Z : Sized s c n) where
-  tenth : n / 10 ≤ 1639
-  tenth = div-le-of-le-mul 10 (omega (arith, Z .short))
+-- ---- bounds of a stage's line
+pub record Small (line : Stage) : Type 0 where
+  pub rounds : line .rounds ≤ 16
+  pub each : line .each ≤ 16390
+  pub before : line .before ≤ 81950
 
-  pub rounds-few : roundsOf (sized s c n) k ≤ 16
-  unfolding roundsOf
-  rounds-few = by (eqb k 0) (eqb k 1) (eqb k 2) (eqb k 4)
+module _ (s c n : ℕ) (Z : Sized s c n) where
+  tenths : (x : ℕ) → x ≤ 50 → x * (n / 10) ≤ 81950
+  tenths = tenths-small n (n / 10) refl (Z .short)
+
+  one : n / 10 ≤ 1639
+  one = let few : 50 * (n / 10) ≤ 81950 = tenths 50 (omega arith) in omega arith
+
+  pub line-small : (k : ℕ) → Small (stageOf (sized s c n) k)
+  unfolding stageOf beside
+  line-small k = by (eqb k 0) (eqb k 1) (eqb k 2) (eqb k 3) (eqb k 4)
     where
-      by : (t0 t1 t2 t4 : Bool) → cond t0 (s - 1) (cond t1 (c - 1) (cond t2 10 (cond t4 1 0))) ≤ 16
-      by true t1 t2 t4 = omega (arith, Z .few)
-      by false true t2 t4 = omega (arith, Z .cap)
-      by false false true t4 = omega arith
-      by false false false true = omega arith
-      by false false false false = omega arith
+      by : (t0 t1 t2 t3 t4 : Bool)
+          → Small (cond t0 (record { rounds = s - 1; each = n / 10; before = 0 })
+          (cond t1 (record { rounds = c - 1; each = n / 10; before = (s - 1) * (n / 10) })
+          (cond t2 (record { rounds = 10; each = n / 10; before = (s - 1 + (c - 1)) * (n / 10) })
+          (cond t3 (record { rounds = 0; each = 0; before = (s + c + 8) * (n / 10) })
+          (cond t4 (record { rounds = 1; each = 10 * (n / 10); before = (s + c + 8) * (n / 10) })
+          (record { rounds = 0; each = 0; before = (s + c + 18) * (n / 10) }))))))
+      by true t1 t2 t3 t4 = record { rounds = omega (arith, Z .few); each = omega (arith, one); before = omega arith }
+      by false true t2 t3 t4 = record { rounds = omega (arith, Z .cap); each = omega (arith, one); before = tenths (s - 1) (omega (arith, Z .few)) }
+      by false false true t3 t4 = record { rounds = omega arith; each = omega (arith, one); before = tenths (s - 1 + (c - 1)) (omega (arith, Z .few, Z .cap)) }
+      by false false false true t4 = record { rounds = omega arith; each = omega arith; before = tenths (s + c + 8) (omega (arith, Z .few, Z .cap)) }
+      by false false false false true = record { rounds = omega arith; each = omega (arith, one); before = tenths (s + c + 8) (omega (arith, Z .few, Z .cap)) }
+      by false false false false false = record { rounds = omega arith; each = omega arith; before = tenths (s + c + 18) (omega (arith, Z .few, Z .cap)) }
 
-  pub draws-few : drawsIn (sized s c n) k ≤ 16390
-  unfolding drawsIn
-  draws-few = by (eqb k 4)
-    where
-      by : (t : Bool) → cond t (10 * (n / 10)) (n / 10) ≤ 16390
-      by true = omega (arith, tenth)
-      by false = omega (arith, tenth)
+  -- what the code holds at a place of a stage that draws
+  module _ (k r l : ℕ) (fits : placeFits (sized s c n) k r l ≡ true) (d : Bool) (e : d ≡ draws k) (y : d ≡ true) (line : Stage) (h : line ≡ stageOf (sized s c n) k) where
+    pub few-rounds : r ≤ 16
+    few-rounds = omega (arith, rounds-below (sized s c n) k r l fits d e y, line-small k .rounds)
 
-  -- rounds of e draws each
-  module _ (e : ℕ) (E : e ≡ n / 10) where
-    pub drawn-before : (x : ℕ) → Earlier s c n k x → x * e ≡ before (sized s c n) k
-    drawn-before x p = ap (λ (y : ℕ). x * y) E ∙ p .rounds
+    pub early : line .before ≤ 81950
+    early = rw h (line-small k .before)
 
-    few : e ≤ 1639
-    few = rw E tenth
+    pub left-in : l ≤ line .each
+    left-in = rw h (left-within (sized s c n) k r l fits d e y)
 
-    product-small : (x : ℕ) → x ≤ 50 → x * e ≤ 81950
-    product-small x h = mul-le-mul h few
+    pub rest-small : line .each - l ≤ 16390
+    rest-small = let each : line .each ≤ 16390 = rw h (line-small k .each) in omega arith
 
-    pub product-fits : (x : ℕ) → x ≤ 50 → Fits w64 (x * e)
-    product-fits x h = fits-le (product-small x h) (fits-lit {n = 81950} tt)
+  -- ---- no sum wraps
+  module _ (t : ℕ) (e : t ≡ n / 10) (r : ℕ) (few : r ≤ 16) where
+    turns : r * t ≤ 81950
+    turns = tenths-small n t e (Z .short) r (omega arith)
 
-    pub sum-fits : (x y : ℕ) → x ≤ 50 → y ≤ 50 → Fits w64 (x * e + y * e)
-    sum-fits x y h g = fits-le (let p = product-small x h in let q = product-small y g in omega arith) (fits-lit {n = 163900} tt)
+    pub turns-fit : Fits w64 (r * t)
+    turns-fit = fits-le turns (fits-lit {n = 81950} tt)
 
-    pub all-fits : (x y z : ℕ) → x ≤ 50 → y ≤ 50 → z ≤ 16390 → Fits w64 (x * e + y * e + z)
-    all-fits x y z h g i = fits-le (let p = product-small x h in let q = product-small y g in omega arith) (fits-lit {n = 180290} tt)
+    module _ (before : ℕ) (early : before ≤ 81950) where
+      pub sum-fits : Fits w64 (before + r * t)
+      sum-fits = fits-le (omega (arith, turns)) (fits-lit {n = 163900} tt)
+
+      pub all-fits : (x : ℕ) → x ≤ 16390 → Fits w64 (before + r * t + x)
+      all-fits x h = fits-le (omega (arith, turns)) (fits-lit {n = 180290} tt)

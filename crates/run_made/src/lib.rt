@@ -5,53 +5,26 @@ ghost use mathlib.Core.Path.{_≡_};
 ghost use mathlib.Core.Bool.{true};
 ghost use mathlib.Core.List.{[]};
 ghost use Rattle.job.specs.Rules.{answer};
-ghost use Rattle.stages.specs.State.{stateWith};
 ghost use Rattle.stages.specs.Record.{placeFits, madeBy, recordRules};
-ghost use Rattle.run_record.specs.Sized.{sized, Sized, Earlier};
-
-// The rounds of a tenth of the samples that lie before a stage.
-fn rounds_before(s: usize, c: usize, n: usize, stage: u64) -> u64
-    requires { ⌜ Sized s c n ⌝ }
-    ensures { λ r. ⌜ Earlier s c n stage r ⌝ }
-{
-    let seeding = s as u64 - 1;
-    let growing = c as u64 - 1;
-    if stage == 0 {
-        return 0;
-    }
-    if stage == 1 {
-        return seeding;
-    }
-    if stage == 2 {
-        return seeding + growing;
-    }
-    if stage == 4 {
-        return seeding + growing + 10;
-    }
-    if stage == 3 {
-        return seeding + growing + 10;
-    }
-    seeding + growing + 20
-}
+ghost use Rattle.run_record.specs.Sized.{sized, Sized};
 
 // Word 4, from words 1 to 3 of a record whose place fits.
 fn made_by(s: usize, c: usize, n: usize, stage: u64, rounds: u64, left: u64) -> u64
     requires { ⌜ Sized s c n × (placeFits (sized s c n) stage rounds left ≡ true) ⌝ }
     ensures { λ r. ⌜ r ≡ madeBy (sized s c n) stage rounds left ⌝ }
 {
-    let b = sample_cycle::base_iterations(n);
-    let earlier = rounds_before(s, c, n, stage) * b;
+    let line = run_record::stage_of(s, c, n, stage);
     if !run_record::makes_draws(stage) {
-        return earlier;
+        return line.before;
     }
-    let now = run_record::draws_in(s, c, n, stage) - left;
-    earlier + rounds * b + now
+    let b = sample_cycle::base_iterations(n);
+    line.before + rounds * b + (line.each - left)
 }
 
 // Number 10, or 0.
 pub fn check_record(s: usize, c: usize, n: usize, r: Record) -> u32
     requires { ⌜ Sized s c n ⌝ }
-    ensures { λ x. ⌜ x ≡ answer (recordRules (sized s c n) (stateWith [] [] [] [] r)) ⌝ }
+    ensures { λ x. ⌜ x ≡ answer (recordRules (sized s c n) r) ⌝ }
 {
     if !run_place::place_fits(s, c, n, r.stage, r.rounds, r.left) {
         return 10;

@@ -6,7 +6,8 @@ use lib.Dec.{eqb, leb}
 use borrow.Author.Tests.{eq-eqb, ne-eqb, le-leb, lt-leb, lt-ltb, le-ltb}
 use Rattle.quantizer.specs.Course.{Course}
 use Rattle.stages.specs.State.{draws}
-use Rattle.stages.specs.Record.{roundsOf, drawsIn, placeFits}
+use Rattle.stages.specs.declared.Stage.{Stage}
+use Rattle.stages.specs.Record.{stageOf, placeFits}
 
 module _ (K : Course) (k r l : ℕ) where
   pub place-late : 7 < k → false ≡ placeFits K k r l
@@ -15,18 +16,19 @@ module _ (K : Course) (k r l : ℕ) where
 
   module _ (early : k ≤ 7) where
     module _ (d : Bool) (e : d ≡ draws k) (y : d ≡ true) where
-      pub rounds-over : (m : ℕ) → m ≡ roundsOf K k → m ≤ r → false ≡ placeFits K k r l
-      unfolding placeFits
-      rounds-over m f h = rw (le-leb k 7 early, ← e, y, ← f, le-ltb r m h)
-
-      module _ (m : ℕ) (f : m ≡ roundsOf K k) (few : r < m) where
-        pub none-left : l < 1 → false ≡ placeFits K k r l
+      module _ (line : Stage) (f : line ≡ stageOf K k) where
+        pub rounds-over : line .rounds ≤ r → false ≡ placeFits K k r l
         unfolding placeFits
-        none-left h = rw (le-leb k 7 early, ← e, y, ← f, lt-ltb r m few, lt-leb 1 l h)
+        rounds-over h = rw (le-leb k 7 early, ← e, y, ← f, le-ltb r (line .rounds) h)
 
-        pub some-left : 1 ≤ l → (q : ℕ) → q ≡ drawsIn K k → leb l q ≡ placeFits K k r l
-        unfolding placeFits
-        some-left h q g = rw (le-leb k 7 early, ← e, y, ← f, lt-ltb r m few, le-leb 1 l h, ← g)
+        module _ (few : r < line .rounds) where
+          pub none-left : l < 1 → false ≡ placeFits K k r l
+          unfolding placeFits
+          none-left h = rw (le-leb k 7 early, ← e, y, ← f, lt-ltb r (line .rounds) few, lt-leb 1 l h)
+
+          pub some-left : 1 ≤ l → leb l (line .each) ≡ placeFits K k r l
+          unfolding placeFits
+          some-left h = rw (le-leb k 7 early, ← e, y, ← f, lt-ltb r (line .rounds) few, le-leb 1 l h)
 
     module _ (d : Bool) (e : d ≡ draws k) (y : d ≡ false) where
       pub rounds-stray : (r ≡ 0 → ⊥) → false ≡ placeFits K k r l

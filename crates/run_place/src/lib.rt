@@ -13,13 +13,14 @@ pub fn place_fits(s: usize, c: usize, n: usize, stage: u64, rounds: u64, left: u
         return false;
     }
     if run_record::makes_draws(stage) {
-        if rounds >= run_record::rounds_of(s, c, n, stage) {
+        let line = run_record::stage_of(s, c, n, stage);
+        if rounds >= line.rounds {
             return false;
         }
         if left < 1 {
             return false;
         }
-        return left <= run_record::draws_in(s, c, n, stage);
+        return left <= line.each;
     }
     if rounds != 0 {
         return false;

@@ -1,1 +1,2 @@
 mod Goes
+pub mod Lines

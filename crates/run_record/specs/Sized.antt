@@ -1,11 +1,9 @@
 -- The sizes that the record's rules read, as a course of no tiles: the rules of any course are those of its sizes. Definitions only. Assumes nothing.
-use Prim.Native.Nat.{ℕ, _*_, _≤_}
-use mathlib.Core.Path.{_≡_}
+use Prim.Native.Nat.{ℕ, _≤_}
 use mathlib.Core.List.{List, []}
 use lib.Ieee.{nan}
 use Rattle.job.specs.Job.{job, mostSubpalettes, mostColours, mostSamples}
-use Rattle.quantizer.specs.Course.{Course, course, b}
-use Rattle.stages.specs.Record.{before}
+use Rattle.quantizer.specs.Course.{Course, course}
 
 -- S, C and n
 abbrev pub sized : ℕ → ℕ → ℕ → Course
@@ -17,8 +15,3 @@ pub record Sized (s c n : ℕ) : Type 0 where
   pub some : 1 ≤ c
   pub cap : c ≤ mostColours
   pub short : n ≤ mostSamples
-
--- r rounds of b draws lie before the stage
-pub record Earlier (s c n stage r : ℕ) : Type 0 where
-  pub rounds : r * b (sized s c n) ≡ before (sized s c n) stage
-  pub bound : r ≤ 50

@@ -1,11 +1,12 @@
 // What the words of a record say by themselves: their names, what a stage does, its rounds and their draws.
 use stages::Record;
+use stages::Stage;
 ghost use mathlib.Core.Path.{_≡_};
 ghost use mathlib.Core.Bool.{_&&_};
 ghost use lib.Dec.{ltb};
 ghost use lib.ListN.{length};
 ghost use Rattle.stages.specs.State.{draws, stops};
-ghost use Rattle.stages.specs.Record.{roundsOf, drawsIn};
+ghost use Rattle.stages.specs.Record.{stageOf};
 ghost use Rattle.stages.specs.Calls.{recordOf};
 ghost use Rattle.run_record.specs.Sized.{sized, Sized};
 
@@ -47,36 +48,59 @@ pub fn is_stop(stage: u64) -> bool
     stage == 6
 }
 
-// The rounds of a stage that makes draws.
-pub fn rounds_of(s: usize, c: usize, n: usize, stage: u64) -> u64
+// A stage's line in the table of the stages.
+pub fn stage_of(s: usize, c: usize, n: usize, stage: u64) -> Stage
     requires { ⌜ Sized s c n ⌝ }
-    ensures { λ r. ⌜ r ≡ roundsOf (sized s c n) stage ⌝ }
-{
-    if stage == 0 {
-        return s as u64 - 1;
-    }
-    if stage == 1 {
-        return c as u64 - 1;
-    }
-    if stage == 2 {
-        return 10;
-    }
-    if stage == 4 {
-        return 1;
-    }
-    0
-}
-
-// The draws of one of its rounds.
-pub fn draws_in(s: usize, c: usize, n: usize, stage: u64) -> u64
-    requires { ⌜ Sized s c n ⌝ }
-    ensures { λ r. ⌜ r ≡ drawsIn (sized s c n) stage ⌝ }
+    ensures { λ r. ⌜ r ≡ stageOf (sized s c n) stage ⌝ }
 {
     let b = sample_cycle::base_iterations(n);
-    if stage == 4 {
-        return 10 * b;
+    let seeding = s as u64 - 1;
+    let growing = c as u64 - 1;
+    let both = s as u64 + c as u64;
+    let seeded = seeding * b;
+    let grown = (seeding + growing) * b;
+    let replaced = (both + 8) * b;
+    let ended = (both + 18) * b;
+    if stage == 0 {
+        return Stage {
+            rounds: seeding,
+            each: b,
+            before: 0,
+        };
     }
-    b
+    if stage == 1 {
+        return Stage {
+            rounds: growing,
+            each: b,
+            before: seeded,
+        };
+    }
+    if stage == 2 {
+        return Stage {
+            rounds: 10,
+            each: b,
+            before: grown,
+        };
+    }
+    if stage == 3 {
+        return Stage {
+            rounds: 0,
+            each: 0,
+            before: replaced,
+        };
+    }
+    if stage == 4 {
+        return Stage {
+            rounds: 1,
+            each: 10 * b,
+            before: replaced,
+        };
+    }
+    Stage {
+        rounds: 0,
+        each: 0,
+        before: ended,
+    }
 }
 
 // Whether one more draw is allotted, and the stage makes it.

@@ -2,66 +2,83 @@
 use Prim.Native.Nat.{ℕ, suc, _+_, _*_, _/_, _≤_, _<_}
 use mathlib.Core.Path.{_≡_, refl, ap, _∙_}
 use mathlib.Core.Logic.{_≢_}
-use mathlib.Core.List.{List}
+use mathlib.Core.List.{List, []}
 use native.Mathlib.Omega.{arith}
 use lib.Ieee.{Float}
 use borrow.Author.Tests.{eq-eqb, ne-eqb}
+use Rattle.job.specs.Job.{Job}
 use Rattle.palette_tile.specs.Tiles.{Shown, hintsOf}
-use Rattle.quantizer.specs.Course.{Course}
+use Rattle.quantizer.specs.Course.{Course, course}
 use Rattle.quantizer.specs.Refining.{refined}
 use Rattle.stages.specs.declared.Record.{Record}
-use Rattle.stages.specs.State.{State, stateWith}
-use Rattle.stages.specs.Stages.{refinedOnce}
+use Rattle.stages.specs.State.{placed}
+use Rattle.calls.specs.Sound.{Held}
 use Rattle.calls.proofs.Sound.{all-shown, refined-held, hinted}
-use Rattle.run_refine.specs.Refines.{refinedTimes, placedAt, finalDraws, Refinable}
+use Rattle.run_refine.specs.Refines.{refinedTimes, hintsTimes, finalDraws, Refinable}
 
 -- ---- the final draws: ten rounds of d draws in one
-pub none-begin : (n d : ℕ) (r : Record) → d ≡ n / 10 → 10 * d ≡ 0 → placedAt r 5 0 0 ≡ finalDraws n r
+pub none-begin : (n d : ℕ) (r : Record) → d ≡ n / 10 → 10 * d ≡ 0 → placed r 5 0 0 ≡ finalDraws n r
 unfolding finalDraws
 none-begin n d r h e = rw (← h, eq-eqb (10 * d) 0 e)
 
-pub some-begin : (n d : ℕ) (r : Record) → d ≡ n / 10 → 10 * d ≢ 0 → placedAt r 4 0 (10 * d) ≡ finalDraws n r
+pub some-begin : (n d : ℕ) (r : Record) → d ≡ n / 10 → 10 * d ≢ 0 → placed r 4 0 (10 * d) ≡ finalDraws n r
 unfolding finalDraws
 some-begin n d r h e = rw (← h, ne-eqb (10 * d) 0 e)
 
 -- ---- refinements
-pub shown-of : (K : Course) (s : State) → Refinable K s → Shown (K .job) (s .palette) (K .job .S) (K .job .C)
-shown-of K s A = all-shown (A .size) (A .small) K (A .ready) (s .palette) (A .held)
+module _ (J : Job) where
+  -- a course of that job: the laws on what a run holds are over courses
+  abbrev alone : Course
+  alone = course J 0 []
 
--- the loop, after i refinements of `from`
-pub record Refining (K : Course) (from s : State) (i : ℕ) : Type 0 where
-  pub most : i ≤ 4
-  pub refinable : Refinable K s
-  pub same : s ≡ refinedTimes K i from
+  held-of : (h : List ℕ) (p : List Float) → Refinable J h p → Held alone p
+  held-of h p A = record { size = A .all; bound = A .bound }
 
--- the record plays no part
-pub begun : (K : Course) (o h : List ℕ) (p l : List Float) (r : Record) → Refinable K (stateWith o h p l r) → (q : Record) → Refining K (stateWith o h p l q) (stateWith o h p l q) 0
-unfolding refinedTimes
-begun K o h p l r A q = record { most = omega arith; refinable = record { size = A .size; small = A .small; ready = A .ready; held = A .held; each = A .each }; same = refl }
+  pub shown-of : (h : List ℕ) (p : List Float) → Refinable J h p → Shown J p (J .S) (J .C)
+  shown-of h p A = all-shown (A .size) (A .small) alone (A .ready) p (held-of h p A)
 
-pub again : (K : Course) (o h : List ℕ) (p l : List Float) (r : Record) (from : State) (i : ℕ) → Refining K from (stateWith o h p l r) i → i < 4
-    → (h2 : List ℕ) (p2 : List Float) → p2 ≡ refined (K .job) p → h2 ≡ hintsOf (K .job) p (K .job .S) (K .job .C) h (K .job .T) → Refining K from (stateWith o h2 p2 l r) (i + 1)
-again K o h p l r from i A t h2 p2 ep eh =
-    record {
-      most = omega arith;
-      refinable = record {
-        size = A .refinable .size;
-        small = A .refinable .small;
-        ready = A .refinable .ready;
-        held = rw ep (refined-held (A .refinable .size) (A .refinable .small) K (A .refinable .ready) p (A .refinable .held));
-        each = rw eh (hinted (A .refinable .size) (A .refinable .small) K (A .refinable .ready) p (K .job .S) (K .job .C) h (A .refinable .each));
-      };
-      same = once ∙ ap (refinedOnce K) (A .same) ∙ more i;
-    }
-  where
-    once : stateWith o h2 p2 l r ≡ refinedOnce K (stateWith o h p l r)
-    once = unfold refinedOnce in rw (ep, eh)
+  -- the loop, after i refinements of p₀ with the hints h₀
+  pub record Refining (h₀ : List ℕ) (p₀ : List Float) (h : List ℕ) (p : List Float) (i : ℕ) : Type 0 where
+    pub most : i ≤ 4
+    pub refinable : Refinable J h p
+    pub palette : p ≡ refinedTimes J i p₀
+    pub hints : h ≡ hintsTimes J i p₀ h₀
 
-    count : (j : ℕ) → j + 1 ≡ suc j
-    count j = omega arith
+  pub begun : (h : List ℕ) (p : List Float) → Refinable J h p → Refining h p h p 0
+  unfolding refinedTimes hintsTimes
+  begun h p A = record { most = omega arith; refinable = A; palette = refl; hints = refl }
 
-    more : (j : ℕ) → refinedOnce K (refinedTimes K j from) ≡ refinedTimes K (j + 1) from
-    more j = rw (count j) (unfold refinedTimes in refl)
+  pub again : (h₀ : List ℕ) (p₀ : List Float) (h : List ℕ) (p : List Float) (i : ℕ) → Refining h₀ p₀ h p i → i < 4
+      → (h2 : List ℕ) (p2 : List Float) → p2 ≡ refined J p → h2 ≡ hintsOf J p (J .S) (J .C) h (J .T) → Refining h₀ p₀ h2 p2 (i + 1)
+  again h₀ p₀ h p i A t h2 p2 ep eh =
+      let R = A .refinable in
+      let next = refined-held (R .size) (R .small) alone (R .ready) p (held-of h p R) in
+      record {
+        most = omega arith;
+        refinable = record {
+          size = R .size;
+          small = R .small;
+          ready = R .ready;
+          all = rw ep (next .size);
+          bound = rw ep (next .bound);
+          each = rw eh (hinted (R .size) (R .small) alone (R .ready) p (J .S) (J .C) h (R .each));
+        };
+        palette = ep ∙ ap (refined J) (A .palette) ∙ more-colours i;
+        hints = eh ∙ ap (λ (q : List Float). hintsOf J q (J .S) (J .C) h (J .T)) (A .palette)
+            ∙ ap (λ (g : List ℕ). hintsOf J (refinedTimes J i p₀) (J .S) (J .C) g (J .T)) (A .hints) ∙ more-hints i;
+      }
+    where
+      count : (j : ℕ) → j + 1 ≡ suc j
+      count j = omega arith
 
-pub ended : (K : Course) (from s : State) (i : ℕ) → Refining K from s i → 4 ≤ i → s ≡ refinedTimes K 4 from
-ended K from s i A t = let e : i ≡ 4 = omega (arith, A .most) in A .same ∙ ap (λ (j : ℕ). refinedTimes K j from) e
+      more-colours : (j : ℕ) → refined J (refinedTimes J j p₀) ≡ refinedTimes J (j + 1) p₀
+      more-colours j = rw (count j) (unfold refinedTimes in refl)
+
+      more-hints : (j : ℕ) → hintsOf J (refinedTimes J j p₀) (J .S) (J .C) (hintsTimes J j p₀ h₀) (J .T) ≡ hintsTimes J (j + 1) p₀ h₀
+      more-hints j = rw (count j) (unfold hintsTimes in refl)
+
+  pub ended : (h₀ : List ℕ) (p₀ : List Float) (h : List ℕ) (p : List Float) (i : ℕ) → Refining h₀ p₀ h p i → 4 ≤ i
+      → (p ≡ refinedTimes J 4 p₀) × (h ≡ hintsTimes J 4 p₀ h₀)
+  ended h₀ p₀ h p i A t =
+      let e : i ≡ 4 = omega (arith, A .most) in
+      (A .palette ∙ ap (λ (j : ℕ). refinedTimes J j p₀) e, A .hints ∙ ap (λ (j : ℕ). hintsTimes J j p₀ h₀) e)

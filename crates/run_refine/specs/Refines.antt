@@ -2,39 +2,47 @@
 use Prim.Native.Nat.{ℕ, zero, suc, _*_, _/_, _≤_}
 use mathlib.Core.Path.{_≡_}
 use mathlib.Core.Bool.{cond}
+use mathlib.Core.List.{List}
 use lib.Dec.{eqb}
+use lib.Ieee.{Float}
 use lib.ListN.{length}
+use Rattle.color.specs.Color.{Bounded}
+use Rattle.job.specs.Job.{Job}
 use Rattle.job.specs.Gives.{Ready}
+use Rattle.palette_tile.specs.Tiles.{hintsOf}
 use Rattle.quantizer.specs.Course.{Course}
+use Rattle.quantizer.specs.Refining.{refined}
 use Rattle.stages.specs.declared.Record.{Record}
-use Rattle.stages.specs.State.{State}
-use Rattle.stages.specs.Stages.{refinedOnce}
+use Rattle.stages.specs.State.{State, placed}
 use Rattle.calls.specs.Place.{Placed}
-use Rattle.calls.specs.Sound.{Held}
 
--- as many refinements
-unfoldable pub refinedTimes : Course → ℕ → State → State
-refinedTimes K zero s = s
-refinedTimes K (suc k) s = refinedOnce K (refinedTimes K k s)
+module _ (J : Job) where
+  open Job J using (S, C, T)
 
--- a record at another place
-abbrev pub placedAt : Record → ℕ → ℕ → ℕ → Record
-placedAt r stage rounds left = record { generator = r .generator; stage = stage; rounds = rounds; left = left; made = r .made; error = r .error }
+  -- the palette and the hints after as many refinements
+  unfoldable pub refinedTimes : ℕ → List Float → List Float
+  refinedTimes zero p = p
+  refinedTimes (suc k) p = refined J (refinedTimes k p)
+
+  unfoldable pub hintsTimes : ℕ → List Float → List ℕ → List ℕ
+  hintsTimes zero p h = h
+  hintsTimes (suc k) p h = hintsOf J (refinedTimes k p) S C (hintsTimes k p h) T
+
+  -- a palette of all its colours and a hint for each tile, of a job that passed
+  pub record Refinable (h : List ℕ) (p : List Float) : Type 0 where
+    pub size : ℕ
+    pub small : size ≤ 256
+    pub ready : Ready size J
+    pub all : length p ≡ 3 * (S * C)
+    pub bound : Bounded p 4
+    pub each : length h ≡ T
 
 -- the final draws of n samples begin; where there are none they are over
 unfoldable pub finalDraws : ℕ → Record → Record
-finalDraws n r = cond (eqb (10 * (n / 10)) 0) (placedAt r 5 0 0) (placedAt r 4 0 (10 * (n / 10)))
+finalDraws n r = cond (eqb (10 * (n / 10)) 0) (placed r 5 0 0) (placed r 4 0 (10 * (n / 10)))
 
--- a palette of all its colours and a hint for each tile, of a job that passed
-pub record Refinable (K : Course) (s : State) : Type 0 where
-  pub size : ℕ
-  pub small : size ≤ 256
-  pub ready : Ready size (K .job)
-  pub held : Held K (s .palette)
-  pub each : length (s .hints) ≡ K .job .T
-
--- and few samples, at a place of the record
+-- what a hand-in asks: that, and few samples, at a place of the record
 pub record Handed (K : Course) (s : State) : Type 0 where
-  pub refinable : Refinable K s
+  pub refinable : Refinable (K .job) (s .hints) (s .palette)
   pub few : K .n ≤ 16384
   pub place : Placed K s

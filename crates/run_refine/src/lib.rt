@@ -1,12 +1,9 @@
 // What a hand-in does after a stop, by itself: the final draws begin, or the palette is refined four times.
-// The order, the second palette and the samples are not read; they are named in what is promised.
 use stages::Record;
 ghost use mathlib.Core.Path.{_≡_};
 ghost use Prim.Native.Nat.{_≤_};
 ghost use Rattle.job.specs.Job.{job};
-ghost use Rattle.quantizer.specs.Course.{course};
-ghost use Rattle.stages.specs.State.{stateWith};
-ghost use Rattle.run_refine.specs.Refines.{refinedTimes, finalDraws, Refinable};
+ghost use Rattle.run_refine.specs.Refines.{refinedTimes, hintsTimes, finalDraws, Refinable};
 
 // The final draws begin; with fewer than ten samples there are none, and the next stop is reached at once.
 pub fn final_draws(n: usize, r: Record) -> Record
@@ -39,20 +36,15 @@ pub fn refine_four(
     s: usize,
     c: usize,
     t: usize,
-    n: usize,
     weight: f32,
     tiles: &[u32],
     colours: &[f32],
     counts: &[u32],
-    samples: &[u32],
-    order: &[u32],
-    hints: &mut [u32],
     palette: &mut [f32],
-    least: &[f32],
-    r: Record,
+    hints: &mut [u32],
 )
-    requires { ⌜ Refinable (course (job s c t weight (now tiles) (now colours) (now counts)) n (now samples)) (stateWith (now order) (now hints) (now palette) (now least) r) ⌝ }
-    ensures { λ _. ⌜ stateWith (now (order .entry)) (now (hints .exit)) (now (palette .exit)) (now (least .entry)) r ≡ refinedTimes (course (job s c t weight (now (tiles .entry)) (now (colours .entry)) (now (counts .entry))) n (now (samples .entry))) 4 (stateWith (now (order .entry)) (now (hints .entry)) (now (palette .entry)) (now (least .entry)) r) ⌝ }
+    requires { ⌜ Refinable (job s c t weight (now tiles) (now colours) (now counts)) (now hints) (now palette) ⌝ }
+    ensures { λ _. ⌜ (now (palette .exit) ≡ refinedTimes (job s c t weight (now (tiles .entry)) (now (colours .entry)) (now (counts .entry))) 4 (now (palette .entry))) × (now (hints .exit) ≡ hintsTimes (job s c t weight (now (tiles .entry)) (now (colours .entry)) (now (counts .entry))) 4 (now (palette .entry)) (now (hints .entry))) ⌝ }
 {
     let mut i = 0usize;
     while i < 4 {

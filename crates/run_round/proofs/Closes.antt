@@ -17,7 +17,7 @@ use Rattle.calls.proofs.Sound.{all-shown, finish-sound}
 use Rattle.run_round.specs.Settles.{Standing, Ripe, seeds, grows, replaces, finishes, Closing}
 use Rattle.run_round.proofs.Orders.{ordered, seeding-any, growing-any, replacing-any, final-any}
 
-module _ (K : Course) (s : State) (A : Standing K s) (d : due K s ≡ true) where
+module _ (K : Course) (s : State) (A : Standing K s) (d : due s ≡ true) where
   drawing : draws (s .rec .stage) ≡ true
   drawing = and-l (draws (s .rec .stage)) _ d
 
@@ -87,10 +87,10 @@ pub record Settling (K : Course) (from s : State) : Type 0 where
 pub begun : (K : Course) (s : State) → Standing K s → Settling K s s
 begun K s A = record { standing = A; same = refl }
 
-pub again : (K : Course) (from s : State) → Settling K from s → due K s ≡ true → (x : State) → x .order ≡ s .order → ordered [] x ≡ finishRound (course (K .job) (K .n) []) (ordered [] s) → Settling K from x
+pub again : (K : Course) (from s : State) → Settling K from s → due s ≡ true → (x : State) → x .order ≡ s .order → ordered [] x ≡ finishRound (course (K .job) (K .n) []) (ordered [] s) → Settling K from x
 again K from s A d x o e =
     subst⁻¹ (Settling K from) (closed K s (A .standing) d x o e)
     (record { standing = standing-on K s (A .standing) d; same = A .same ∙ settle-more K (A .standing .ready .sizes .subs) (A .standing .ready .sizes .some) s (A .standing .place) d })
 
-pub ended : (K : Course) (from s : State) → Settling K from s → due K s ≡ false → s ≡ settle K from
+pub ended : (K : Course) (from s : State) → Settling K from s → due s ≡ false → s ≡ settle K from
 ended K from s A d = sym (A .same ∙ settle-done K (A .standing .ready .sizes .subs) (A .standing .ready .sizes .some) s (A .standing .place) d)

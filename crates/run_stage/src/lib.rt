@@ -9,9 +9,7 @@ ghost use Prim.Native.Nat.{_≤_};
 ghost use lib.Dec.{eqb};
 ghost use Rattle.prng.specs.Shuffle.{deck};
 ghost use Rattle.cycle.specs.Cycle.{cycle};
-ghost use Rattle.stages.specs.State.{stateWith};
 ghost use Rattle.stages.specs.Stages.{cycleOf, subsOf, haveOf, alphaOf};
-ghost use Rattle.run_record.specs.Sized.{sized};
 ghost use Rattle.run_stage.specs.Counts.{counted};
 
 // How far a colour moves: 0.3, in stage 4 0.5.
@@ -27,9 +25,9 @@ pub fn is_finished(stage: u64) -> bool
 }
 
 // The subpalettes present.
-pub fn subs_of(s: usize, c: usize, n: usize, r: Record) -> usize
+pub fn subs_of(s: usize, r: Record) -> usize
     requires { ⌜ r .rounds ≤ 16 ⌝ }
-    ensures { λ x. ⌜ x ≡ subsOf (sized s c n) (stateWith [] [] [] [] r) ⌝ }
+    ensures { λ x. ⌜ x ≡ subsOf s r ⌝ }
 {
     let rounds = r.rounds as usize;
     if r.stage == 0 {
@@ -39,9 +37,9 @@ pub fn subs_of(s: usize, c: usize, n: usize, r: Record) -> usize
 }
 
 // The colours of each that are present.
-pub fn have_of(s: usize, c: usize, n: usize, r: Record) -> usize
+pub fn have_of(c: usize, r: Record) -> usize
     requires { ⌜ r .rounds ≤ 16 ⌝ }
-    ensures { λ x. ⌜ x ≡ haveOf (sized s c n) (stateWith [] [] [] [] r) ⌝ }
+    ensures { λ x. ⌜ x ≡ haveOf c r ⌝ }
 {
     let rounds = r.rounds as usize;
     if r.stage == 0 {
@@ -53,8 +51,8 @@ pub fn have_of(s: usize, c: usize, n: usize, r: Record) -> usize
     c
 }
 
-pub fn alpha_of(s: usize, c: usize, n: usize, r: Record) -> f32
-    ensures { λ x. ⌜ x ≡ alphaOf (sized s c n) (stateWith [] [] [] [] r) ⌝ }
+pub fn alpha_of(r: Record) -> f32
+    ensures { λ x. ⌜ x ≡ alphaOf r ⌝ }
 {
     if r.stage == 4 {
         return LAST_NUDGE;
@@ -64,7 +62,7 @@ pub fn alpha_of(s: usize, c: usize, n: usize, r: Record) -> f32
 
 // The cycle of samples, without its order.
 pub fn cycle_of(r: Record) -> SampleCycle
-    ensures { λ x. ⌜ cycle (deck [] (x .prng .state)) (x .made) ≡ cycleOf (sized 0 0 0) (stateWith [] [] [] [] r) ⌝ }
+    ensures { λ x. ⌜ cycle (deck [] (x .prng .state)) (x .made) ≡ cycleOf [] r ⌝ }
 {
     let prng = Prng { state: r.generator };
     SampleCycle { prng, made: r.made }

@@ -12,12 +12,12 @@ use Rattle.stages.specs.State.{stateWith}
 use Rattle.stages.specs.Record.{four, orderFits, leastFits, recordRules, stateRules}
 
 -- ---- the record, then the working colours and the order
-module _ (K : Course) (order : List ℕ) (palette least : List Float) (r : Record) (a : ℕ) (e : a ≡ answer (recordRules K (stateWith [] [] [] [] r))) where
+module _ (K : Course) (order : List ℕ) (palette least : List Float) (r : Record) (a : ℕ) (e : a ≡ answer (recordRules K r)) where
   pub record-stops : (a ≡ 0 → ⊥) → a ≡ answer (stateRules K (stateWith order [] palette least r))
   unfolding numbered
-  record-stops h = stops (recordRules K (stateWith [] [] [] [] r)) _ a refl e h
+  record-stops h = stops (recordRules K r) _ a refl e h
 
   pub record-goes : a ≡ 0 → (b : ℕ) → b ≡ answer (rule 7 (componentsFit four palette) ∷ rule 7 (leastFits (r .stage) least) ∷ rule 9 (orderFits (K .n) order) ∷ [])
       → b ≡ answer (stateRules K (stateWith order [] palette least r))
   unfolding numbered
-  record-goes z b h = goes (recordRules K (stateWith [] [] [] [] r)) _ a b refl e z h
+  record-goes z b h = goes (recordRules K r) _ a b refl e z h

@@ -24,13 +24,13 @@ use Rattle.run_steps.specs.Running.{Running, Ongoing}
 pub record Advancing (K : Course) (a : ℕ) (first : State) (m : ℕ) (s : State) : Type 0 where
   pub from : Fit K first
   pub running : Running K s
-  pub far : Far (going K) (step K) a first m s
+  pub far : Far going (step K) a first m s
 
 pub begun : (K : Course) (a : ℕ) (o h : List ℕ) (p l : List Float) (w : List ℕ) (r : Record) → r ≡ recordOf w → Running K (stateWith o h p l (recordOf w))
     → Advancing K a (stateWith o h p l r) 0 (stateWith o h p l r)
 begun K a o h p l w r e R =
     let Q = subst (λ (x : Record). Running K (stateWith o h p l x)) (sym e) R in
-    record { from = Q .fit; running = Q; far = far-start (going K) (step K) a (stateWith o h p l r) }
+    record { from = Q .fit; running = Q; far = far-start going (step K) a (stateWith o h p l r) }
 
 module _ {K : Course} {a : ℕ} {first : State} {m : ℕ} {s : State} (A : Advancing K a first m s) where
   module _ (t : Bool) (e : t ≡ (ltb m a && draws (s .rec .stage))) where
@@ -47,13 +47,13 @@ module _ {K : Course} {a : ℕ} {first : State} {m : ℕ} {s : State} (A : Advan
         record {
           from = A .from;
           running = record { size = R .size; small = R .small; room = R .room; passed = R .passed; fit = subst (Fit K) (sym q) (step-fit (R .size) (R .small) K (R .room) (R .passed) s (R .fit) d) };
-          far = subst (Far (going K) (step K) a first (m + 1)) (sym q) (far-step (going K) (step K) (A .far) (allotted h) d);
+          far = subst (Far going (step K) a first (m + 1)) (sym q) (far-step going (step K) (A .far) (allotted h) d);
         }
 
     ended : t ≡ false → (s ≡ advance K a first) × (m ≡ drawsOf K a first)
     ended h = elim (decide (ltb m a)) [
-      | inl y ↦ far-stop (going K) (step K) (A .far) (subst (λ (x : Bool). (x && draws (s .rec .stage)) ≡ false) y (sym e ∙ h))
-      | inr n ↦ far-end (going K) (step K) (A .far) (ltb-false m a n)
+      | inl y ↦ far-stop going (step K) (A .far) (subst (λ (x : Bool). (x && draws (s .rec .stage)) ≡ false) y (sym e ∙ h))
+      | inr n ↦ far-end going (step K) (A .far) (ltb-false m a n)
     ]
 
 -- the lengths of the memory stay

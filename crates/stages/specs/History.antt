@@ -11,13 +11,13 @@ use Rattle.stages.specs.Stages.{cycleOf, step, going}
 use Rattle.stages.specs.Calls.{Memory, stateOf, startAnswer, advanceAnswer, handInAnswer, startCall, advanceCall, handInCall}
 
 -- the sample that moves the palette at the next draw
-abbrev pub sampleAt : Course → State → ℕ
-sampleAt K s = drawOne (cycleOf K s) .sample
+abbrev pub sampleAt : State → ℕ
+sampleAt s = drawOne (cycleOf (s .order) (s .rec)) .sample
 
 -- the samples that an advance by a draws, in their order
 unfoldable pub sampled : Course → ℕ → State → List ℕ
 sampled K zero s = []
-sampled K (suc a) s = let rest = sampled K a (step K s) in cond (going K s) (sampleAt K s ∷ rest) []
+sampled K (suc a) s = let rest = sampled K a (step K s) in cond (going s) (sampleAt s ∷ rest) []
 
 -- calls on one job since its start from a seed, each accepted: the memory that the last one left, and all samples drawn until then
 pub data Run (size : ℕ) (K : Course) (seed : ℕ) : Memory → List ℕ → Type 0 where

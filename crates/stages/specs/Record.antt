@@ -10,7 +10,9 @@ use Rattle.job.specs.Job.{Job}
 use Rattle.job.specs.Rules.{Rule, rule}
 use Rattle.job.specs.Checks.{componentsFit}
 use Rattle.quantizer.specs.Course.{Course, b}
-use Rattle.stages.specs.State.{State, draws, byStage}
+use Rattle.stages.specs.declared.Record.{Record}
+use Rattle.stages.specs.declared.Stage.{Stage}
+use Rattle.stages.specs.State.{State, draws, beside}
 
 -- the greatest magnitude of a working colour's component
 abbrev pub four : Float
@@ -31,38 +33,42 @@ errorFits stage error = cond (eqb stage 2) (ltb error 0x7f800000) (eqb error 0)
 unfoldable pub leastFits : ℕ → List Float → Bool
 leastFits stage least = cond (eqb stage 2) (componentsFit four least) true
 
+abbrev pub stageWith : ℕ → ℕ → ℕ → Stage
+stageWith rounds each before = record { rounds = rounds; each = each; before = before }
+
 module _ (K : Course) where
   open Job (K .job) using (S, C)
 
-  -- rounds of a stage that draws, draws of one of its rounds, and the draws made before the stage
-  unfoldable pub roundsOf : ℕ → ℕ
-  roundsOf k = byStage k (S - 1) (C - 1) 10 1 0
-
-  unfoldable pub drawsIn : ℕ → ℕ
-  drawsIn k = cond (eqb k 4) (10 * b K) (b K)
-
-  unfoldable pub before : ℕ → ℕ
-  before k = byStage k 0 (S - 1) (S - 1 + (C - 1)) (S + C + 8) (cond (eqb k 3) (S + C + 8) (S + C + 18)) * b K
+  -- the table of the stages: rounds, draws in a round, draws before the stage. At a stop and at the finish there are neither rounds nor draws
+  unfoldable pub stageOf : ℕ → Stage
+  stageOf k =
+      beside k
+      ((0, stageWith (S - 1) (b K) 0)
+      ∷ (1, stageWith (C - 1) (b K) ((S - 1) * b K))
+      ∷ (2, stageWith 10 (b K) ((S - 1 + (C - 1)) * b K))
+      ∷ (3, stageWith 0 0 ((S + C + 8) * b K))
+      ∷ (4, stageWith 1 (10 * b K) ((S + C + 8) * b K)) ∷ [])
+      (stageWith 0 0 ((S + C + 18) * b K))
 
   -- words 1 to 3
   unfoldable pub placeFits : ℕ → ℕ → ℕ → Bool
-  placeFits stage rounds left =
-      leb stage 7 && cond (draws stage) (ltb rounds (roundsOf stage) && (leb 1 left && leb left (drawsIn stage))) (eqb rounds 0 && eqb left 0)
+  placeFits k rounds left =
+      leb k 7 && cond (draws k) (ltb rounds (stageOf k .rounds) && (leb 1 left && leb left (stageOf k .each))) (eqb rounds 0 && eqb left 0)
 
   -- word 4, from words 1 to 3
   unfoldable pub madeBy : ℕ → ℕ → ℕ → ℕ
-  madeBy stage rounds left = cond (draws stage) (before stage + rounds * b K + (drawsIn stage - left)) (before stage)
+  madeBy k rounds left = cond (draws k) (stageOf k .before + rounds * b K + (stageOf k .each - left)) (stageOf k .before)
 
-  abbrev pub recordRules : State → List Rule
-  recordRules s =
-      rule 10 (placeFits (s .rec .stage) (s .rec .rounds) (s .rec .left))
-      ∷ rule 10 (eqb (s .rec .made) (madeBy (s .rec .stage) (s .rec .rounds) (s .rec .left)))
-      ∷ rule 10 (errorFits (s .rec .stage) (s .rec .error)) ∷ []
+  abbrev pub recordRules : Record → List Rule
+  recordRules r =
+      rule 10 (placeFits (r .stage) (r .rounds) (r .left))
+      ∷ rule 10 (eqb (r .made) (madeBy (r .stage) (r .rounds) (r .left)))
+      ∷ rule 10 (errorFits (r .stage) (r .error)) ∷ []
 
   -- of the first palette every place is looked at
   abbrev pub stateRules : State → List Rule
   stateRules s =
-      recordRules s
+      recordRules (s .rec)
       ++ (rule 7 (componentsFit four (s .palette))
       ∷ rule 7 (leastFits (s .rec .stage) (s .least))
       ∷ rule 9 (orderFits (K .n) (s .order)) ∷ [])

@@ -1,7 +1,7 @@
 -- The run, stage by stage: what opens and closes a round, one draw, and what each call does to a state that it accepts. Definitions only. Assumes nothing.
 use Prim.Native.Nat.{ℕ, _+_, _-_, _*_}
 use mathlib.Core.Bool.{Bool, cond, _&&_}
-use mathlib.Core.List.{List}
+use mathlib.Core.List.{List, [], _∷_}
 use lib.Dec.{ltb, eqb}
 use lib.Ieee.{Float, binary32, lt, ofBits, toBits}
 use Rattle.prng.specs.Shuffle.{deck}
@@ -16,8 +16,31 @@ use Rattle.quantizer.specs.Growing.{grown, grownHints}
 use Rattle.quantizer.specs.Replacing.{replaced, replacedHints}
 use Rattle.quantizer.specs.Refining.{refined}
 use Rattle.quantizer.specs.Drawing.{moved, movedHints}
+use Rattle.stages.specs.declared.Record.{Record}
 use Rattle.stages.specs.Whilst.{whilst, times}
-use Rattle.stages.specs.State.{State, at, painted, kept, draws, byStage}
+use Rattle.stages.specs.State.{State, at, painted, kept, draws, beside}
+
+-- ---- what a record says by itself. The subpalettes that are present, of S, and the colours of each, of C
+unfoldable pub subsOf : ℕ → Record → ℕ
+subsOf S r = cond (eqb (r .stage) 0) (r .rounds + 2) S
+
+unfoldable pub haveOf : ℕ → Record → ℕ
+haveOf C r = cond (eqb (r .stage) 0) 1 (cond (eqb (r .stage) 1) (r .rounds + 2) C)
+
+-- how far a colour moves: 0.3, in stage 4 0.5
+unfoldable pub alphaOf : Record → Float
+alphaOf r = cond (eqb (r .stage) 4) (ofBits binary32 0x3f000000) (ofBits binary32 0x3e99999a)
+
+-- the cycle of samples, in its present order
+abbrev pub cycleOf : List ℕ → Record → Cycle
+cycleOf order r = cycle (deck order (r .generator)) (r .made)
+
+-- a run is at a stage that draws; and no draw is left in its round
+abbrev pub going : State → Bool
+going s = draws (s .rec .stage)
+
+abbrev pub due : State → Bool
+due s = going s && eqb (s .rec .left) 0
 
 module _ (K : Course) where
   open Job (K .job) using (S, C, T)
@@ -70,50 +93,29 @@ module _ (K : Course) where
   closeReplacing s = cond (ltb (s .rec .rounds + 1) 10) (openReplacing (s .rec .rounds + 1) (judged s)) (enterReducing (judged s))
 
   unfoldable pub finishRound : State → State
-  finishRound s = byStage (s .rec .stage) (closeSeeding s) (closeGrowing s) (closeReplacing s) (at s 5 0 0) s
+  finishRound s = beside (s .rec .stage) ((0, closeSeeding s) ∷ (1, closeGrowing s) ∷ (2, closeReplacing s) ∷ (4, at s 5 0 0) ∷ []) s
 
   -- ---- all that needs no draw. A run has S + C + 9 rounds, so the bound is never met
-  abbrev pub due : State → Bool
-  due s = draws (s .rec .stage) && eqb (s .rec .left) 0
-
   unfoldable pub settle : State → State
   settle s = whilst due finishRound (S + C + 20) s
 
-  -- ---- one draw
-  abbrev pub cycleOf : State → Cycle
-  cycleOf s = cycle (deck (s .order) (s .rec .generator)) (s .rec .made)
-
-  -- the subpalettes and the colours of each that are present, and how far a colour moves
-  unfoldable pub subsOf : State → ℕ
-  subsOf s = cond (eqb (s .rec .stage) 0) (s .rec .rounds + 2) S
-
-  unfoldable pub haveOf : State → ℕ
-  haveOf s = byStage (s .rec .stage) 1 (s .rec .rounds + 2) C C C
-
-  unfoldable pub alphaOf : State → Float
-  alphaOf s = cond (eqb (s .rec .stage) 4) (ofBits binary32 0x3f000000) (ofBits binary32 0x3e99999a)
-
-  -- the cycle went on to d: its sample moves the palette
+  -- ---- one draw. The cycle went on to d: its sample moves the palette
   unfoldable pub drawWith : Drawn → State → State
   drawWith d s =
       record {
         order = d .next .cards .order;
-        hints = movedHints (K .job) (s .palette) (subsOf s) (haveOf s) (sampleTile K (d .sample)) (s .hints);
-        palette = moved (K .job) (s .palette) (subsOf s) (haveOf s) (sampleTile K (d .sample)) (samplePlace K (d .sample)) (alphaOf s);
+        hints = movedHints (K .job) (s .palette) (subsOf S (s .rec)) (haveOf C (s .rec)) (sampleTile K (d .sample)) (s .hints);
+        palette = moved (K .job) (s .palette) (subsOf S (s .rec)) (haveOf C (s .rec)) (sampleTile K (d .sample)) (samplePlace K (d .sample)) (alphaOf (s .rec));
         least = s .least;
         rec = record { generator = d .next .cards .state; stage = s .rec .stage; rounds = s .rec .rounds; left = s .rec .left - 1; made = s .rec .made + 1; error = s .rec .error };
       }
 
   unfoldable pub draw : State → State
-  draw s = drawWith (drawOne (cycleOf s)) s
+  draw s = drawWith (drawOne (cycleOf (s .order) (s .rec))) s
 
   -- ---- the calls, on what they accept. A draw is followed by all that is then due, so a state between calls has nothing due
   unfoldable pub step : State → State
   step s = settle (draw s)
-
-  -- a run is at a stage that draws
-  abbrev pub going : State → Bool
-  going s = draws (s .rec .stage)
 
   abbrev pub advance : ℕ → State → State
   advance a s = whilst going step a s

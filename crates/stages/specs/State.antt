@@ -2,7 +2,7 @@
 -- Stages: 0 seeding, 1 growing, 2 replacing, 3 stop for reduction, 4 final draws, 5 stop, 6 stop, 7 finished.
 use Prim.Native.Nat.{ℕ}
 use mathlib.Core.Bool.{Bool, cond, _||_}
-use mathlib.Core.List.{List}
+use mathlib.Core.List.{List, [], _∷_}
 use lib.Dec.{ltb, eqb}
 use lib.Ieee.{Float}
 use Rattle.stages.specs.declared.Record.{Record}
@@ -34,12 +34,14 @@ painted s hints palette = stateWith (s .order) hints palette (s .least) (s .rec)
 abbrev pub kept : State → List Float → ℕ → State
 kept s least error = stateWith (s .order) (s .hints) (s .palette) least (noted (s .rec) error)
 
--- ---- the stages that draw; those that wait for reduced colours; and a value for each that draws and one for the rest
+-- ---- the stages that draw, and those that wait for reduced colours
 abbrev pub draws : ℕ → Bool
 draws k = ltb k 3 || eqb k 4
 
 abbrev pub stops : ℕ → Bool
 stops k = eqb k 3 || eqb k 5 || eqb k 6
 
-abbrev pub byStage {ℓ} : {A : Type ℓ} → ℕ → A → A → A → A → A → A
-byStage k a0 a1 a2 a4 e = cond (eqb k 0) a0 (cond (eqb k 1) a1 (cond (eqb k 2) a2 (cond (eqb k 4) a4 e)))
+-- ---- what stands beside k in a table, or e where k is not there
+unfoldable pub beside {ℓ} : {A : Type ℓ} → ℕ → List (ℕ × A) → A → A
+beside k [] e = e
+beside k ((n, a) ∷ rest) e = cond (eqb k n) a (beside k rest e)

@@ -11,3 +11,10 @@ pub struct Record {
     pub made: u64,
     pub error: u64,
 }
+
+// A stage: its rounds, the draws in one of them, and the draws made before it.
+pub struct Stage {
+    pub rounds: u64,
+    pub each: u64,
+    pub before: u64,
+}

@@ -39,7 +39,7 @@ module _ (K : Course) where
   -- where no draw is to be made, none is
   pub stays : (s : State) → draws (s .rec .stage) ≡ false → goOn K s ≡ s
   unfolding goOn
-  stays s d = whilst-stop (going K) (step K) all s d
+  stays s d = whilst-stop going (step K) all s d
 
   pub handed-late : (reduced : List Float) (s : State) → s .rec .stage ≡ 3 → handIns (handIn K reduced s .rec .stage) ≡ 2
   handed-late reduced s e = omega (arith, hand-in-one K reduced s (ap stops e), ap handIns e ∙ three)

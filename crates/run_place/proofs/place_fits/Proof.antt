@@ -10,20 +10,32 @@ returns c = place-late _ _ _ _ (c .if1 .taken)
 makes-draws-requires : tie.Need-makes-draws-requires
 makes-draws-requires c κs = search needs
 
-rounds-of-requires : tie.Need-rounds-of-requires
-rounds-of-requires c κs = search needs
+stage-of-requires : tie.Need-stage-of-requires
+stage-of-requires c κs = search needs
 
 returns-2 : tie.Need-returns-2
-returns-2 c = rounds-over _ _ _ _ (c .before .before .before .before .if1 .left) _ (c .before .before .before .makes-draws .ensures) (c .before .before .if2 .taken) _ (c .before .rounds-of .ensures) (c .if3 .taken)
+returns-2 c =
+    let line = c .before .before in
+    let draws = line .before in
+    let called = draws .before in
+    rounds-over _ _ _ _ (called .before .if1 .left) _ (called .makes-draws .ensures) (draws .if2 .taken) _ (line .stage-of .ensures) (c .if3 .taken)
 
 returns-3 : tie.Need-returns-3
-returns-3 c = none-left _ _ _ _ (c .before .before .before .before .before .if1 .left) _ (c .before .before .before .before .makes-draws .ensures) (c .before .before .before .if2 .taken) _ (c .before .before .rounds-of .ensures) (c .before .if3 .left) (c .if4 .taken)
-
-draws-in-requires : tie.Need-draws-in-requires
-draws-in-requires c κs = search needs
+returns-3 c =
+    let few = c .before in
+    let line = few .before .before in
+    let draws = line .before in
+    let called = draws .before in
+    none-left _ _ _ _ (called .before .if1 .left) _ (called .makes-draws .ensures) (draws .if2 .taken) _ (line .stage-of .ensures) (few .if3 .left) (c .if4 .taken)
 
 returns-4 : tie.Need-returns-4
-returns-4 c = some-left _ _ _ _ (c .before .before .before .before .before .before .if1 .left) _ (c .before .before .before .before .before .makes-draws .ensures) (c .before .before .before .before .if2 .taken) _ (c .before .before .before .rounds-of .ensures) (c .before .before .if3 .left) (c .before .if4 .left) _ (c .draws-in .ensures)
+returns-4 c =
+    let some = c .before in
+    let few = some .before in
+    let line = few .before .before in
+    let draws = line .before in
+    let called = draws .before in
+    some-left _ _ _ _ (called .before .if1 .left) _ (called .makes-draws .ensures) (draws .if2 .taken) _ (line .stage-of .ensures) (few .if3 .left) (some .if4 .left)
 
 returns-5 : tie.Need-returns-5
 returns-5 c = rounds-stray _ _ _ _ (c .before .before .before .if1 .left) _ (c .before .before .makes-draws .ensures) (c .before .if2 .left) (c .if5 .taken)
@@ -37,10 +49,9 @@ place-fits-spec =
     (tie.spec
     returns
     makes-draws-requires
-    rounds-of-requires
+    stage-of-requires
     returns-2
     returns-3
-    draws-in-requires
     returns-4
     returns-5
     returns-6)

@@ -4,10 +4,10 @@ use Rattle.run_stage.proofs.alpha_of.Statement.{statement}
 use Rattle.run_stage.proofs.alpha_of.Tie as tie
 
 returns : tie.Need-returns
-returns c = nudge-last _ _ _ _ (c .if1 .taken)
+returns c = nudge-last _ (c .if1 .taken)
 
 returns-2 : tie.Need-returns-2
-returns-2 c = nudge-before _ _ _ _ (c .if1 .left)
+returns-2 c = nudge-before _ (c .if1 .left)
 
 pub alpha-of-spec : {M : Type 1} → statement M
 alpha-of-spec = tie.close (tie.spec returns returns-2)

@@ -18,7 +18,7 @@ unfolding haveOf
 returns-2 c = rw (ne-eqb _ _ (c .before .before .if1 .left), eq-eqb _ _ (c .if2 .taken))
 
 returns-3 : tie.Need-returns-3
-returns-3 c = have-late _ _ _ (c .before .before .before .before .args .r) (c .before .before .if1 .left) (c .if2 .left)
+returns-3 c = have-late _ (c .before .before .before .before .args .r) (c .before .before .if1 .left) (c .if2 .left)
 
 pub have-of-spec : {M : Type 1} → statement M
 have-of-spec = tie.close (tie.spec returns add-result returns-2 returns-3)

@@ -1,0 +1,88 @@
+-- `run_record::stage_of` meets its contract, return by return. Assumes nothing.
+use native.Mathlib.Omega.{arith}
+use Rattle.run_record.proofs.Lines.{line0, line1, line2, line3, line4, line-past, tenths-fit}
+use borrow.Author.Needs.{needs}
+use Rattle.run_record.proofs.stage_of.Statement.{statement}
+use Rattle.run_record.proofs.stage_of.Tie as tie
+
+base-iterations-requires : tie.Need-base-iterations-requires
+base-iterations-requires c κs = search needs
+
+sub-seeding : tie.Need-sub-seeding
+sub-seeding c = search needs
+
+sub-growing : tie.Need-sub-growing
+sub-growing c = search needs
+
+add-both : tie.Need-add-both
+add-both c = search needs
+
+mul-seeded : tie.Need-mul-seeded
+mul-seeded c = let z = c .before .pre in tenths-fit _ _ (c .base-iterations .ensures) (z .short) _ (omega (arith, z .few, z .cap))
+
+add-grown : tie.Need-add-grown
+add-grown c = search needs
+
+mul-grown : tie.Need-mul-grown
+mul-grown c = let z = c .before .pre in tenths-fit _ _ (c .base-iterations .ensures) (z .short) _ (omega (arith, z .few, z .cap))
+
+add-replaced : tie.Need-add-replaced
+add-replaced c = search needs
+
+mul-replaced : tie.Need-mul-replaced
+mul-replaced c = let z = c .before .pre in tenths-fit _ _ (c .base-iterations .ensures) (z .short) _ (omega (arith, z .few, z .cap))
+
+add-ended : tie.Need-add-ended
+add-ended c = search needs
+
+mul-ended : tie.Need-mul-ended
+mul-ended c = let z = c .before .pre in tenths-fit _ _ (c .base-iterations .ensures) (z .short) _ (omega (arith, z .few, z .cap))
+
+returns : tie.Need-returns
+returns c = line0 _ _ _ _ _ (c .before .base-iterations .ensures) (c .if1 .taken)
+
+returns-2 : tie.Need-returns-2
+returns-2 c = line1 _ _ _ _ _ (c .before .before .base-iterations .ensures) (c .if2 .taken)
+
+returns-3 : tie.Need-returns-3
+returns-3 c = line2 _ _ _ _ _ (c .before .before .before .base-iterations .ensures) (c .if3 .taken)
+
+returns-4 : tie.Need-returns-4
+returns-4 c = let third = c .before in line3 _ _ _ _ _ (third .before .before .before .base-iterations .ensures) (c .if4 .taken)
+
+mul-t16 : tie.Need-mul-t16
+mul-t16 c = search needs
+
+returns-5 : tie.Need-returns-5
+returns-5 c = let fourth = c .before in line4 _ _ _ _ _ (fourth .before .before .before .before .base-iterations .ensures) (c .if5 .taken)
+
+returns-6 : tie.Need-returns-6
+returns-6 c =
+    let fourth = c .before in
+    let third = fourth .before in
+    let second = third .before in
+    let first = second .before in
+    line-past _ _ _ _ _ (first .before .base-iterations .ensures) (first .if1 .left) (second .if2 .left) (third .if3 .left) (fourth .if4 .left) (c .if5 .left)
+
+pub stage-of-spec : {M : Type 1} → statement M
+stage-of-spec =
+    tie.close
+    (tie.spec
+    base-iterations-requires
+    sub-seeding
+    sub-growing
+    add-both
+    mul-seeded
+    add-grown
+    mul-grown
+    add-replaced
+    mul-replaced
+    add-ended
+    mul-ended
+    returns
+    returns-2
+    returns-3
+    returns-4
+    mul-t16
+    returns-5
+    returns-6)
