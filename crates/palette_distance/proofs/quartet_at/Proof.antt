@@ -17,25 +17,25 @@ four-colours-requires : tie.Need-four-colours-requires
 four-colours-requires c κs = search needs
 
 pixels-requires : tie.Need-pixels-requires
-pixels-requires c κs = let began = c .before .before .before in count-asks _ (began .pre .0) (began .args .k) (began .args .k) (began .pre .1) (omega arith)
+pixels-requires c κs = let began = c .before .before .before in count-asks _ (began .pre .0) (began .args .k) _ (began .pre .1) (omega arith)
 
 add-pixels : tie.Need-add-pixels
 add-pixels c = search needs
 
 pixels-requires-2 : tie.Need-pixels-requires-2
-pixels-requires-2 c κs = let began = c .before .before .before .before in count-asks _ (began .pre .0) (began .args .k) (began .args .k + 1) (began .pre .1) (omega arith)
+pixels-requires-2 c κs = let began = c .before .before .before .before in count-asks _ (began .pre .0) (began .args .k) _ (began .pre .1) (omega arith)
 
 add-pixels-2 : tie.Need-add-pixels-2
 add-pixels-2 c = search needs
 
 pixels-requires-3 : tie.Need-pixels-requires-3
-pixels-requires-3 c κs = let began = c .before .before .before .before .before in count-asks _ (began .pre .0) (began .args .k) (began .args .k + 2) (began .pre .1) (omega arith)
+pixels-requires-3 c κs = let began = c .before .before .before .before .before in count-asks _ (began .pre .0) (began .args .k) _ (began .pre .1) (omega arith)
 
 add-pixels-3 : tie.Need-add-pixels-3
 add-pixels-3 c = search needs
 
 pixels-requires-4 : tie.Need-pixels-requires-4
-pixels-requires-4 c κs = let began = c .before .before .before .before .before .before in count-asks _ (began .pre .0) (began .args .k) (began .args .k + 3) (began .pre .1) (omega arith)
+pixels-requires-4 c κs = let began = c .before .before .before .before .before .before in count-asks _ (began .pre .0) (began .args .k) _ (began .pre .1) (omega arith)
 
 returns : tie.Need-returns
 returns c =
