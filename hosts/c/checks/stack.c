@@ -1,5 +1,7 @@
 /* How many bytes of stack the library's calls need for the largest job: S = C = 16, T = 1,024, 16,384 colours and samples.
- * Each call runs in a thread whose stack is painted before; what a thread needs that does nothing is taken off. Prints a line a call. */
+ * Each call is made at a known depth of a thread whose stack is painted below it by the thread itself, so that whatever the thread's
+ * own beginning and end touch counts for nothing and nothing has to be taken off: the figure is the distance from the frame that calls
+ * to the lowest word that is no longer paint, the caller's arguments and return address included. Prints a line a call. */
 #define _POSIX_C_SOURCE 200809L
 #include <inttypes.h>
 #include <pthread.h>
@@ -10,7 +12,13 @@
 #include "../console.h"
 #include "dunkafeto.h"
 
-enum { S = 16, C = 16, T = 1024, N = 16384, EACH = N / T, CELLS = 3 * S * C, STACK = 1 << 20, PAINT = 0xa5 };
+enum { S = 16, C = 16, T = 1024, N = 16384, EACH = N / T, CELLS = 3 * S * C };
+
+/* Words of the stack; words below the caller's own variable that may be its frame's still, and are not painted. */
+enum { STACK = 1 << 17, FRAME = 32, KNOWN = 512 };
+
+/* By words, since a byte that is written may well be the paint's by chance. */
+static const uint64_t paint = UINT64_C(0xd1b54a32d192ed03);
 
 static uint32_t tiles[2 * T], counts[N], samples[2 * N], order[N], hints[T], subpalettes[T];
 static float colours[3 * N], palette[CELLS], least[CELLS], reduced[CELLS], out[CELLS];
@@ -43,52 +51,65 @@ static void make_job(void) {
     }
 }
 
-static void *nothing(void *unused) { return unused; }
-
-static void *start(void *unused) {
-    answer = dunkafeto_start(SIZES, 0, TABLES, MEMORY);
-    return unused;
-}
-
-static void *advance(void *unused) {
-    answer = dunkafeto_advance(SIZES, TABLES, MEMORY, UINT64_MAX);
-    return unused;
-}
-
-static void *hand_in(void *unused) {
-    answer = dunkafeto_hand_in(SIZES, TABLES, MEMORY, reduced, CELLS);
-    return unused;
-}
-
-static void *result(void *unused) {
-    answer = dunkafeto_result(SIZES, TABLES, MEMORY, out, CELLS);
-    return unused;
-}
-
-static void *assign(void *unused) {
+static void start(void) { answer = dunkafeto_start(SIZES, 0, TABLES, MEMORY); }
+static void advance(void) { answer = dunkafeto_advance(SIZES, TABLES, MEMORY, UINT64_MAX); }
+static void hand_in(void) { answer = dunkafeto_hand_in(SIZES, TABLES, MEMORY, reduced, CELLS); }
+static void result(void) { answer = dunkafeto_result(SIZES, TABLES, MEMORY, out, CELLS); }
+static void assign(void) {
     answer = dunkafeto_assign(S, C, T, 2.15f, tiles, 2 * T, colours, 3 * N, counts, N, out, CELLS, hints, T, subpalettes, T);
-    return unused;
 }
 
-/* The bytes of a painted stack that a thread overwrites. */
-static size_t touched(void *(*work)(void *)) {
-    static unsigned char stack[STACK];
+/* A call of which it is known that it writes so many words of stack, from the lowest on. */
+static void known(void) {
+    volatile uint64_t local[KNOWN];
+    for (int i = 0; i < KNOWN; i++)
+        local[i] = (uint64_t)i;
+    answer = local[0];
+}
+
+static volatile uint64_t stack[STACK];
+static size_t touched;
+
+typedef struct {
+    void (*call)(void);
+} Work;
+
+/* Paints from the stack's low end up to its own frame, calls, and looks for the lowest word that has changed. It calls nothing else:
+ * a function called to paint or to look would leave its own frame where that of the call is looked for. */
+static void *on_painted_stack(void *work) {
+    volatile uint64_t here = 0;
+    size_t at, top = ((uintptr_t)&here - (uintptr_t)stack) / sizeof here, frame = top - FRAME;
+    for (at = 0; at < frame; at++)
+        stack[at] = paint;
+    ((Work *)work)->call();
+    for (at = 0; at < frame && stack[at] == paint; at++)
+        ;
+    touched = (top + 1 - at) * sizeof here;
+    return NULL;
+}
+
+static size_t bytes_below(void (*call)(void)) {
+    Work work = {call};
     pthread_attr_t attributes;
     pthread_t thread;
-    size_t clean = 0;
-    memset(stack, PAINT, sizeof stack);
-    if (pthread_attr_init(&attributes) != 0 || pthread_attr_setstack(&attributes, stack, sizeof stack) != 0 ||
-        pthread_create(&thread, &attributes, work, NULL) != 0 || pthread_join(thread, NULL) != 0)
+    if (pthread_attr_init(&attributes) != 0 || pthread_attr_setstack(&attributes, (void *)stack, sizeof stack) != 0 ||
+        pthread_create(&thread, &attributes, on_painted_stack, &work) != 0 || pthread_join(thread, NULL) != 0)
         exit(2);
     pthread_attr_destroy(&attributes);
-    while (clean < sizeof stack && stack[clean] == PAINT)
-        clean++;
-    return sizeof stack - clean;
+    return touched;
+}
+
+/* The measure itself is measured: never less than what a call is known to touch, and not much more. */
+static void measure_known(void) {
+    size_t bytes = bytes_below(known), least_bytes = KNOWN * sizeof(uint64_t);
+    printf("a call known to touch %zu bytes: %zu\n", least_bytes, bytes);
+    if (bytes < least_bytes || bytes > least_bytes + 2 * FRAME * sizeof(uint64_t))
+        exit(1);
 }
 
 /* Runs one call; a refusal ends the program. */
-static size_t measure(const char *name, void *(*call)(void *), size_t idle) {
-    size_t bytes = touched(call) - idle;
+static size_t measure(const char *name, void (*call)(void)) {
+    size_t bytes = bytes_below(call);
     if (dunkafeto_number(answer) != DUNKAFETO_DONE) {
         printf("%s: refused %" PRIu32 "\n", name, dunkafeto_number(answer));
         exit(1);
@@ -100,19 +121,22 @@ static size_t measure(const char *name, void *(*call)(void *), size_t idle) {
 static size_t larger(size_t a, size_t b) { return a > b ? a : b; }
 
 int main(void) {
-    size_t idle = touched(nothing), most;
+    size_t most;
+    /* The one function that the library calls is called here first: what the linker needs to find it is not the library's. */
+    memset((void *)stack, 0, sizeof stack);
+    measure_known();
     make_job();
-    most = measure("start", start, idle);
+    most = measure("start", start);
     while (words[DUNKAFETO_STAGE] != DUNKAFETO_FINISHED) {
         if (dunkafeto_draws_in(words[DUNKAFETO_STAGE])) {
-            most = larger(most, measure("advance", advance, idle));
+            most = larger(most, measure("advance", advance));
         } else {
             console_reduce(palette, reduced, S * C);
-            most = larger(most, measure("hand_in", hand_in, idle));
+            most = larger(most, measure("hand_in", hand_in));
         }
     }
-    most = larger(most, measure("result", result, idle));
-    most = larger(most, measure("assign", assign, idle));
+    most = larger(most, measure("result", result));
+    most = larger(most, measure("assign", assign));
     printf("most %zu\n", most);
     return 0;
 }

@@ -20,8 +20,8 @@ pub const KINDS: &[Kind] = &[
     whole("program train, edges", 5, train::edges),
 ];
 
-/// Where the gate leaves the programs, seen from the folder that the comparison runs in.
-const FIT: &str = "../target/bin/fit";
+/// What runs a program of ours on this machine, seen from the folder that the comparison runs in.
+const PROGRAM: &str = "../program";
 
 /// A sheet, small or near the limit, damaged or not.
 fn any(rng: &mut Rng, case: u64) -> Vec<u8> {
@@ -49,7 +49,7 @@ fn fit_example(_: &mut Rng, _: u64, tally: &mut Tally) {
 
 fn fits(bytes: &[u8], tally: &mut Tally) {
     tally.answered("program fit", sheet::read(bytes).err().unwrap_or(0));
-    same(FIT, bytes, fitted(bytes).into_bytes(), tally);
+    same("fit", bytes, fitted(bytes).into_bytes(), tally);
 }
 
 /// What a program writes for these bytes, beside what is right.
@@ -59,7 +59,7 @@ fn same(program: &str, bytes: &[u8], right: Vec<u8>, tally: &mut Tally) {
 }
 
 fn written(program: &str, bytes: &[u8]) -> std::io::Result<Vec<u8>> {
-    let mut process = Command::new(program).stdin(Stdio::piped()).stdout(Stdio::piped()).spawn()?;
+    let mut process = Command::new(PROGRAM).arg(program).stdin(Stdio::piped()).stdout(Stdio::piped()).spawn()?;
     // a program that has read enough may close its end first
     let _ = process.stdin.take().unwrap().write_all(bytes);
     Ok(process.wait_with_output()?.stdout)

@@ -7,8 +7,6 @@ use terms::{Colour, Tile};
 use crate::sheet::{Sheet, trained, written};
 use crate::tally::Tally;
 
-const TRAIN: &str = "../target/bin/train";
-
 pub fn any(rng: &mut Rng, case: u64, tally: &mut Tally) {
     trains(&super::any(rng, case), tally);
 }
@@ -44,5 +42,5 @@ fn full(rng: &mut Rng, colours: &Colours) -> Tile {
 
 fn trains(bytes: &[u8], tally: &mut Tally) {
     tally.answered("program train", trained::number(bytes));
-    super::same(TRAIN, bytes, trained::trained(bytes), tally);
+    super::same("train", bytes, trained::trained(bytes), tally);
 }

@@ -1,0 +1,14 @@
+/* Sheets of random tiles, from a seed: the same bits on every machine. */
+#ifndef DRAWN_H
+#define DRAWN_H
+
+#include "../sheet.h"
+
+/* The public SplitMix64: the next output, and the state after it. */
+uint64_t drawn_next(uint64_t *state);
+
+/* Fills a sheet of so many subpalettes, colours of each and tiles; its palette is black. Every fifth tile is empty; with seed 0 each
+ * tile has one colour, for all its 64 pixels. */
+void drawn_sheet(Sheet *sheet, size_t s, size_t c, size_t t, uint64_t seed);
+
+#endif
