@@ -1,28 +1,19 @@
 -- The samples of a course that passed: each names a tile that is not empty and a colour of it. Assumes nothing.
 use Prim.Native.Nat.{ℕ, _≤_, _<_}
-use mathlib.Core.Path.{_≡_}
 use native.Mathlib.Omega.{arith}
-use Rattle.color.specs.declared.Oklab.{Oklab}
-use Rattle.color.specs.Color.{colourAt}
-use Rattle.job.specs.Job.{sizeOf, coloursPart}
+use Rattle.job.specs.Job.{sizeOf}
 use Rattle.job.proofs.Tiles.{colours-placed}
-use Rattle.quantizer.specs.Course.{Course, sampleTile, samplePlace, sampleColour}
+use Rattle.quantizer.specs.Course.{Course, sampleTile}
 use Rattle.quantizer_sample.specs.Samples.{Told, Sampling}
 
-module _ (K : Course) (i : ℕ) where
-  -- what `sample_colour` gives
-  pub colour-is : (q : Oklab) → q ≡ colourAt (coloursPart (K .job .tiles) (K .job .colours) (sampleTile K i)) (samplePlace K i) → q ≡ sampleColour K i
-  unfolding sampleColour
-  colour-is q e = e
+module _ (K : Course) (i : ℕ) (D : Sampling K) (l : i < K .n) where
+  pub told : Told (K .job .tiles) (K .job .colours) (K .samples) i
+  told =
+      record {
+        listed = omega (arith, D .passed .pairs);
+        tile = colours-placed (D .size) (K .job) (D .passed .ready) (sampleTile K i) (D .passed .tile i l);
+        place = D .passed .place i l;
+      }
 
-  module _ (D : Sampling K) (l : i < K .n) where
-    pub told : Told (K .job .tiles) (K .job .colours) (K .samples) i
-    told =
-        record {
-          listed = omega (arith, D .passed .pairs);
-          tile = colours-placed (D .size) (K .job) (D .passed .ready) (sampleTile K i) (D .passed .tile i l);
-          place = D .passed .place i l;
-        }
-
-    pub tile-full : 1 ≤ sizeOf (K .job .tiles) (sampleTile K i)
-    tile-full = omega (arith, D .passed .place i l)
+  pub tile-full : 1 ≤ sizeOf (K .job .tiles) (sampleTile K i)
+  tile-full = omega (arith, D .passed .place i l)

@@ -41,9 +41,8 @@ loop-again c =
 
 over-requires : tie.Need-over-requires Inv-loop μ-loop
 over-requires c κs =
-    let v = c .before in
-    let z = v .before .before .before .before in
-    z .pre .few
+    let z = c .before .before .before .before .before in
+    omega (arith, z .pre .few)
 
 returns : tie.Need-returns Inv-loop μ-loop
 returns c =
