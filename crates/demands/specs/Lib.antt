@@ -1,4 +1,4 @@
--- What a customer reads first, in the paper's order: First with Sheets and Ends is the first demand, Second the second, Third the third,
+-- What a customer reads first, promise by promise: First with Sheets and Ends is the first demand, Second the second, Third the third,
 -- then what `train` writes and the examples. Calls says what the first demand asks of one call. Assumes nothing.
 pub mod Calls
 pub mod First

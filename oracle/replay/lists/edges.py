@@ -1,5 +1,5 @@
 #!/usr/bin/env python3
-"""edges.py ORACLE: writes edges and edges.count beside it. Numbers and sheets are document 01's; what an accepted call answers and leaves
+"""edges.py ORACLE: writes edges and edges.count beside it. Numbers and sheets are those of docs/SCOPE.md; what an accepted call answers and leaves
 is from the answers of the program `oracle` (oracle/README.md). How jobs are made stands in replay/src/edges.rs."""
 import os
 import struct
@@ -116,7 +116,7 @@ def held(job, n, seed, each, calls):
 
 
 def sheet(job, palette):
-    """Document 01's fit sheet."""
+    """The fit sheet of docs/SCOPE.md."""
     fields = [(0x54464954, 32), (1, 4), (job.s - 1, 4), (job.c - 1, 4), (job.t - 1, 10), (job.weight, 32)]
     fields += [(x, 32) for x in palette]
     for tile in job.tiles:

@@ -1,4 +1,4 @@
-//! The limits that document 01 asks to be run, on both sides, by every public call that they concern. A case's first word says what it
+//! The limits that docs/SCOPE.md has run, on both sides, by every public call that they concern. A case's first word says what it
 //! has; values are f32 patterns. Large jobs are made here from a few numbers: S, C, T, the colours of a tile, the sum of its counts, a
 //! component of the last tile colour, the weight; palettes from a component of their last colour.
 //! 1: a job, n samples, a seed of two words, the number of calls. A call is 0 a start, 1 an advance as far as it goes, 2 a component and

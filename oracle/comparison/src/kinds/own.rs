@@ -1,5 +1,5 @@
 //! The oracle held to itself: its copies of the Rust to the unchanged files, its run in steps to the whole run, its reading of the
-//! sheet to document 01's example; that one NaN in another's place is seen.
+//! sheet to the example of docs/SCOPE.md; that one NaN in another's place is seen.
 
 use answers::requests::flat;
 use answers::{probed, rust};
