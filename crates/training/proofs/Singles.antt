@@ -177,7 +177,7 @@ module _ (K : Course) where
 
   settle-single : (s : State) → Both-single s → Both-single (settle K s)
   unfolding settle
-  settle-single s h = whilst-keeps (due K) (finishRound K) Both-single (λ z Z _. finish-single z Z) _ s h
+  settle-single s h = whilst-keeps due (finishRound K) Both-single (λ z Z _. finish-single z Z) _ s h
 
   step-single : (s : State) → Both-single s → Both-single (step K s)
   unfolding step draw drawWith
@@ -225,7 +225,7 @@ module _ (K : Course) where
   turn-single : (s : State) → Both-single s → Both-single (turn K s)
   unfolding turn handCut goOn
   turn-single s h =
-      let gone = whilst-keeps (going K) (step K) Both-single (λ z Z _. step-single K z Z) all s h in
+      let gone = whilst-keeps going (step K) Both-single (λ z Z _. step-single K z Z) all s h in
       handIn-single K (cut (goOn K s .palette)) (goOn K s) (cut-singles (goOn K s .palette) (gone .palette)) gone
 
   pub trained-singles : (hints : List ℕ) → Singles (trained K hints .palette)
