@@ -14,6 +14,7 @@ use std::fs;
 use std::process::{Command, Stdio};
 use std::time::Instant;
 
+use foreign::shipped::Memory;
 use sides::{Side, Work};
 
 fn main() {
@@ -44,25 +45,25 @@ fn stand(file: &str, sizes: [usize; 4]) {
     let rounds = job.s + job.c - 2;
     lent.start(&mut memory, sides::SEED);
     lent.advance(&mut memory, (rounds * (job.samples.len() / 10)) as u64);
-    assert_eq!(memory.words[1], 2);
+    assert_eq!(memory.record[1], 2);
     write(&mut bytes, &memory);
     lent.advance(&mut memory, u64::MAX);
     lent.hand_in(&mut memory, sides::reduce);
-    assert_eq!(memory.words[1], 4);
+    assert_eq!(memory.record[1], 4);
     write(&mut bytes, &memory);
     fs::write(file, bytes).unwrap();
 }
 
-fn write(bytes: &mut Vec<u8>, memory: &ours::Memory) {
+fn write(bytes: &mut Vec<u8>, memory: &Memory) {
     let words = memory.order.iter().chain(&memory.hints);
     words.for_each(|x| bytes.extend(x.to_le_bytes()));
     let floats = memory.palette.iter().chain(&memory.least);
     floats.for_each(|x| bytes.extend(x.to_le_bytes()));
-    memory.words.iter().for_each(|x| bytes.extend(x.to_le_bytes()));
+    memory.record.iter().for_each(|x| bytes.extend(x.to_le_bytes()));
 }
 
 /// The state that a work starts from.
-fn read(file: &str, work: Work, lent: &ours::Lent) -> ours::Memory {
+fn read(file: &str, work: Work, lent: &ours::Lent) -> Memory {
     let mut memory = lent.memory();
     if work == Work::Run {
         return memory;
@@ -74,7 +75,7 @@ fn read(file: &str, work: Work, lent: &ours::Lent) -> ours::Memory {
     words.for_each(|x| *x = u32::from_le_bytes(next(&mut rest)));
     let floats = memory.palette.iter_mut().chain(&mut memory.least);
     floats.for_each(|x| *x = f32::from_le_bytes(next(&mut rest)));
-    memory.words.iter_mut().for_each(|x| *x = u64::from_le_bytes(next(&mut rest)));
+    memory.record.iter_mut().for_each(|x| *x = u64::from_le_bytes(next(&mut rest)));
     memory
 }
 

@@ -1,9 +1,10 @@
 //! The two sides, each with the works that are measured. A work gives a digest of its answers, the same on both sides.
 
+use foreign::shipped::Memory;
 use terms::{Colour, Job, Palette};
 use timed::{Door, Make, Standing, Timed};
 
-use crate::ours::{Lent, Memory};
+use crate::ours::{Lent, copy};
 
 pub const SEED: u64 = 1;
 const NEAREST: usize = 4_096;
@@ -131,16 +132,16 @@ impl Side for Ours<'_> {
                 digest.take_float(lent.mse(now));
             }
             Work::Draw => {
-                now.copy_from(from);
+                copy(from, now);
                 for _ in 0..DRAWS {
                     lent.draw(now, ALPHA);
                 }
                 digest.take_all(&now.palette);
             }
             Work::Round => {
-                now.copy_from(from);
+                copy(from, now);
                 lent.advance(now, job.samples.len() as u64 / 10);
-                digest.take(now.words[5] as usize);
+                digest.take(now.record[5] as usize);
                 digest.take_all(&now.palette);
             }
             Work::Assign => {
@@ -157,7 +158,7 @@ impl Side for Ours<'_> {
                 lent.advance(now, u64::MAX);
                 lent.hand_in(now, reduce);
                 lent.hand_in(now, reduce);
-                assert_eq!(now.words[1], 7);
+                assert_eq!(now.record[1], 7);
                 digest.take_all(&now.palette);
             }
         }
@@ -242,9 +243,9 @@ pub fn rusts<'a>(job: &'a Job, from: &Memory) -> Rusts<'a> {
         least: palette(&from.least),
         hints: from.hints.iter().map(|&hint| hint as usize).collect(),
         order: from.order.iter().map(|&entry| entry as usize).collect(),
-        generator: from.words[0],
-        made: from.words[4],
-        error: f32::from_bits(from.words[5] as u32),
+        generator: from.record[0],
+        made: from.record[4],
+        error: f32::from_bits(from.record[5] as u32),
     };
     Rusts { job, from: from.clone(), timed: Door.make(job, &standing), questions: questions(job, from) }
 }

@@ -5,8 +5,8 @@
 
 use crate::exports::{dunkafeto_advance, dunkafeto_assign, dunkafeto_hand_in, dunkafeto_result, dunkafeto_start};
 use crate::job::{Colour, Job, Sample, Tile};
+use crate::memory::Memory;
 use crate::refusal::Refusal;
-use crate::trainer::Memory;
 
 // A tile and a sample are two numbers each in the calls, a colour three.
 const _: () = assert!(size_of::<Tile>() == 8 && align_of::<Tile>() == align_of::<u32>());

@@ -34,6 +34,7 @@ mod exports;
 #[allow(unsafe_code)]
 mod ffi;
 mod job;
+mod memory;
 mod refusal;
 mod saved;
 mod sheet;
@@ -45,10 +46,11 @@ mod trainer;
 struct HostsDocument;
 
 pub use job::{Colour, Job, Sample, Tile, Tiles, MOST_COLOURS, MOST_SAMPLES, MOST_SUBPALETTES, MOST_TILES};
+pub use memory::Memory;
 pub use refusal::Refusal;
 pub use saved::RestoreError;
 pub use sheet::{Sheet, MOST_BYTES};
-pub use trainer::{Advanced, Memory, Moment, Stage, Trainer};
+pub use trainer::{Advanced, Moment, Stage, Trainer};
 
 /// For each tile the subpalette that fits it best, the lowest of equals; 0 for an empty tile.
 ///

@@ -7,8 +7,9 @@ use std::fmt;
 
 use crate::checksum;
 use crate::job::{Colour, Job};
+use crate::memory::Memory;
 use crate::refusal::Refusal;
-use crate::trainer::{Memory, Trainer};
+use crate::trainer::Trainer;
 
 const OPENING: &[u8; 8] = b"DNKRUN1\n";
 

@@ -21,11 +21,12 @@ impl<T: Copy + Same> Lent<T> {
         self.all.len() - 2 * GUARDS
     }
 
-    pub fn pointer(&self) -> *const T {
+    /// A pointer and never a reference, which would promise that nothing is written.
+    pub fn as_ptr(&self) -> *const T {
         self.all[GUARDS..].as_ptr()
     }
 
-    pub fn pointer_mut(&mut self) -> *mut T {
+    pub fn as_mut_ptr(&mut self) -> *mut T {
         self.all[GUARDS..].as_mut_ptr()
     }
 

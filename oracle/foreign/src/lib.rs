@@ -5,9 +5,11 @@ mod calls;
 #[path = "../../../hosts/rust/src/exports.rs"]
 mod exports;
 mod leaves;
+mod lend;
 pub mod ours;
 mod palettes;
 mod sheets;
+pub mod shipped;
 mod training;
 
 pub use calls::*;

@@ -5,6 +5,7 @@ use crate::leaves::{
     probe_argmax, probe_argmin, probe_base_iterations, probe_cycle_new, probe_cycle_next, probe_narrow, probe_next,
     probe_shuffle, probe_smallest_two, probe_sqdist,
 };
+use crate::lend;
 use crate::palettes::{probe_nearest, probe_nearest_two, probe_view_nearest, probe_view_nearest_two};
 use crate::training::probe_mean;
 
@@ -24,7 +25,7 @@ pub fn next(state: u64) -> (u64, u64) {
 
 /// Gives the state after it.
 pub fn shuffle(state: u64, items: &mut [u32]) -> u64 {
-    unsafe { probe_shuffle(state, items.as_mut_ptr(), items.len()) }
+    unsafe { lend!(probe_shuffle(state, mut items)) }
 }
 
 pub fn base_iterations(n: usize) -> usize {
@@ -41,14 +42,14 @@ pub struct Cycle {
 impl Cycle {
     pub fn new(n: usize, seed: u64) -> Self {
         let mut order = vec![u32::MAX; n];
-        let state = unsafe { probe_cycle_new(order.as_mut_ptr(), n, seed) };
+        let state = unsafe { lend!(probe_cycle_new(mut order, seed)) };
         Cycle { order, state, made: 0 }
     }
 
     /// The next sample.
     pub fn draw(&mut self) -> usize {
         let (order, mut after) = (&mut self.order, 0);
-        let sample = unsafe { probe_cycle_next(order.as_mut_ptr(), order.len(), self.state, self.made, &mut after) };
+        let sample = unsafe { lend!(probe_cycle_next(mut order, self.state, self.made, &mut after)) };
         (self.state, self.made) = (after, self.made + 1);
         sample as usize
     }
@@ -65,12 +66,12 @@ pub fn smallest_two(values: &[f32]) -> (usize, f32, f32) {
 
 /// No value is a NaN.
 pub fn argmax(values: &[f32]) -> usize {
-    unsafe { probe_argmax(values.as_ptr(), values.len()) }
+    unsafe { lend!(probe_argmax(ref values)) }
 }
 
 /// No value is a NaN.
 pub fn argmin(values: &[f32]) -> usize {
-    unsafe { probe_argmin(values.as_ptr(), values.len()) }
+    unsafe { lend!(probe_argmin(ref values)) }
 }
 
 pub fn sqdist(p: Colour, q: Colour, weight: f32) -> f32 {
@@ -82,46 +83,32 @@ pub fn mean(colours: &[Colour]) -> Colour {
     let (flat, n) = (colours.as_flattened(), colours.len() as u32);
     let (tiles, samples): (_, Vec<u32>) = ([0, n], (0..n).flat_map(|place| [0, place]).collect());
     let [mut l, mut a, mut b] = [0.0; 3];
-    unsafe {
-        probe_mean(
-            tiles.as_ptr(),
-            tiles.len(),
-            flat.as_ptr(),
-            flat.len(),
-            samples.as_ptr(),
-            samples.len(),
-            &mut l,
-            &mut a,
-            &mut b,
-        )
-    };
+    unsafe { lend!(probe_mean(ref tiles, ref flat, ref samples, &mut l, &mut a, &mut b)) };
     [l, a, b]
 }
 
 pub fn nearest(sub: &[Colour], q: Colour, weight: f32) -> (usize, f32) {
     let (flat, mut dist) = (sub.as_flattened(), 0.0);
-    let index = unsafe { probe_nearest(flat.as_ptr(), flat.len(), q[0], q[1], q[2], weight, &mut dist) };
+    let index = unsafe { lend!(probe_nearest(ref flat, q[0], q[1], q[2], weight, &mut dist)) };
     (index, dist)
 }
 
 /// By the view.
 pub fn view_nearest(sub: &[Colour], q: Colour, weight: f32) -> (usize, f32) {
     let (flat, mut dist) = (sub.as_flattened(), 0.0);
-    let index = unsafe { probe_view_nearest(flat.as_ptr(), flat.len(), q[0], q[1], q[2], weight, &mut dist) };
+    let index = unsafe { lend!(probe_view_nearest(ref flat, q[0], q[1], q[2], weight, &mut dist)) };
     (index, dist)
 }
 
 pub fn nearest_two(sub: &[Colour], q: Colour, weight: f32) -> (usize, f32, f32) {
     let (flat, mut dist, mut second) = (sub.as_flattened(), 0.0, 0.0);
-    let index =
-        unsafe { probe_nearest_two(flat.as_ptr(), flat.len(), q[0], q[1], q[2], weight, &mut dist, &mut second) };
+    let index = unsafe { lend!(probe_nearest_two(ref flat, q[0], q[1], q[2], weight, &mut dist, &mut second)) };
     (index, dist, second)
 }
 
 /// By the view.
 pub fn view_nearest_two(sub: &[Colour], q: Colour, weight: f32) -> (usize, f32, f32) {
     let (flat, mut dist, mut second) = (sub.as_flattened(), 0.0, 0.0);
-    let index =
-        unsafe { probe_view_nearest_two(flat.as_ptr(), flat.len(), q[0], q[1], q[2], weight, &mut dist, &mut second) };
+    let index = unsafe { lend!(probe_view_nearest_two(ref flat, q[0], q[1], q[2], weight, &mut dist, &mut second)) };
     (index, dist, second)
 }

@@ -7,9 +7,10 @@
 //! After each call its number. Where that is 0, what the call answers, in numbers of two words, and the digest of all memory that it is
 //! lent to write, from 0 as in the list of leaves; any other number has written nothing.
 
-use crate::calls::{self, Entries, Job, Memory};
+use crate::calls::{self, Entries};
 use crate::leaves::digested;
 use crate::list::{List, Read};
+use foreign::shipped::{self, Job, Memory};
 
 /// What stands in lent memory before a call: as a float it is a signalling NaN.
 const FOUND: u32 = 0x7fa5_a5a5;
@@ -108,10 +109,10 @@ fn call(list: &mut List, job: &Job, seed: u64, memory: &mut Memory) -> Read<()> 
     let mut room = found(if asked == 3 { memory.palette.len() } else { 0 });
     let lent = held(memory, &room);
     let told = match asked {
-        0 => calls::start(job, memory, seed),
-        1 => calls::advance(job, memory, u64::MAX),
-        2 => calls::hand_in(job, memory, &palette(job, list.float()?)),
-        3 => calls::result(job, memory, &mut room),
+        0 => shipped::start(job, memory, seed),
+        1 => shipped::advance(job, memory, u64::MAX),
+        2 => shipped::hand_in(job, memory, &palette(job, list.float()?)),
+        3 => shipped::result(job, memory, &mut room),
         _ => return list.refuse(format!("there is no call {asked}")),
     };
     same_outcome(list, told & 255, &[told >> 8], &lent, &held(memory, &room))
@@ -127,7 +128,7 @@ fn fits(list: &mut List) -> Read<()> {
     let lent = words(&[&hints], &[]);
 
     let (mut assigned, mut out) = (hints.clone(), vec![FOUND; job.t]);
-    let number = calls::assign(&job, &palette, &mut assigned, &mut out);
+    let number = shipped::assign(&job, &palette, &mut assigned, &mut out);
     let room = words(&[&hints, &vec![FOUND; job.t]], &[]);
     same_outcome(list, number, &[], &room, &words(&[&assigned, &out], &[]))?;
 

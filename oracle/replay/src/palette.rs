@@ -5,7 +5,8 @@
 //! 2: alpha, a colour, a target, and the colour nudged. 3: n, n colours, the weight, a target; its nearest, and its nearest two.
 
 use crate::list::{List, Read};
-use foreign::{dunkafeto_assign, ours, probe_best_fit, probe_best_two, probe_mse, probe_nudge};
+use foreign::shipped::{self, Job};
+use foreign::{lend, ours, probe_best_fit, probe_best_two, probe_mse, probe_nudge};
 
 const MOST_SUBPALETTES: usize = 8;
 const MOST_COLOURS_EACH: usize = 8;
@@ -24,7 +25,7 @@ pub fn case(list: &mut List) -> Read<()> {
 
 fn nudge(list: &mut List) -> Read<()> {
     let (alpha, mut colour, [l, a, b]) = (list.float()?, list.colour()?, list.colour()?);
-    unsafe { probe_nudge(colour.as_mut_ptr(), colour.len(), 0, l, a, b, alpha) };
+    unsafe { lend!(probe_nudge(mut colour, 0, l, a, b, alpha)) };
     list.same_floats(&colour)
 }
 
@@ -40,16 +41,10 @@ fn nearest(list: &mut List) -> Read<()> {
 }
 
 /// A job, its palette with the subpalettes and colours of each that are present, and its hints.
-struct Job {
-    s: usize,
-    c: usize,
+struct Shown {
+    job: Job,
     present: usize,
     have: usize,
-    t: usize,
-    weight: f32,
-    tiles: Vec<u32>,
-    counts: Vec<u32>,
-    colours: Vec<f32>,
     palette: Vec<f32>,
     hints: Vec<u32>,
 }
@@ -59,39 +54,30 @@ type Answer = (usize, f32, f32);
 
 fn job(list: &mut List) -> Read<()> {
     let (asked, tile) = (list.word()?, list.word()? as usize);
-    let mut job = Job::read(list)?;
-    if tile >= job.t || !job.is_shown() || !job.is_accepted() {
+    let mut shown = Shown::read(list)?;
+    if tile >= shown.job.t || !shown.is_shown() || !shown.is_accepted() {
         return list.refuse("no answer is asked of such a job");
     }
     let (index, value, second) = match asked {
-        1 if !job.tile(tile).1.is_empty() => job.best_fit(tile),
-        2 => job.best_two(tile),
-        3 => job.error(),
+        1 if !shown.job.tile(tile).1.is_empty() => shown.best_fit(tile),
+        2 => shown.best_two(tile),
+        3 => shown.error(),
         _ => return list.refuse(format!("{asked} is not asked of such a tile")),
     };
     list.same_index(index)?;
     list.same_floats(&[value, second])?;
-    list.same_indexes(&job.hints)
+    list.same_indexes(&shown.hints)
 }
 
-impl Job {
-    fn read(list: &mut List) -> Read<Job> {
+impl Shown {
+    fn read(list: &mut List) -> Read<Shown> {
         let (s, c) = (list.number(MOST_SUBPALETTES)?, list.number(MOST_COLOURS_EACH)?);
         let (present, have) = (list.number(s)?, list.number(c)?);
         let (t, n) = (list.number(MOST_TILES)?, list.number(MOST_TILE_COLOURS)?);
-        Ok(Job {
-            s,
-            c,
-            present,
-            have,
-            t,
-            weight: list.float()?,
-            tiles: list.words(2 * t)?,
-            counts: list.words(n)?,
-            colours: list.floats(3 * n)?,
-            palette: list.floats(3 * s * c)?,
-            hints: list.words(t)?,
-        })
+        let (weight, tiles) = (list.float()?, list.words(2 * t)?);
+        let (counts, colours) = (list.words(n)?, list.floats(3 * n)?);
+        let job = Job { s, c, t, weight, tiles, colours, counts, ..Job::default() };
+        Ok(Shown { job, present, have, palette: list.floats(3 * s * c)?, hints: list.words(t)? })
     }
 
     /// A subpalette and a colour are present; that there are no more than room, the reading saw.
@@ -101,111 +87,38 @@ impl Job {
 
     /// The forwarders ask for an accepted job: `assign`, which checks all that it is lent, says whether this is one.
     fn is_accepted(&self) -> bool {
-        let (mut hints, mut out) = (self.hints.clone(), vec![0; self.t]);
-        let told = unsafe {
-            dunkafeto_assign(
-                self.s,
-                self.c,
-                self.t,
-                self.weight,
-                self.tiles.as_ptr(),
-                self.tiles.len(),
-                self.colours.as_ptr(),
-                self.colours.len(),
-                self.counts.as_ptr(),
-                self.counts.len(),
-                self.palette.as_ptr(),
-                self.palette.len(),
-                hints.as_mut_ptr(),
-                hints.len(),
-                out.as_mut_ptr(),
-                out.len(),
-            )
-        };
-        told == 0
-    }
-
-    /// A tile's colours and counts.
-    fn tile(&self, i: usize) -> (&[f32], &[u32]) {
-        let [first, size] = [self.tiles[2 * i] as usize, self.tiles[2 * i + 1] as usize];
-        (&self.colours[3 * first..][..3 * size], &self.counts[first..][..size])
+        shipped::assign(&self.job, &self.palette, &mut self.hints.clone(), &mut vec![0; self.job.t]) == 0
     }
 
     /// Of a tile that is not empty, from its hint, which then names the best.
     fn best_fit(&mut self, i: usize) -> Answer {
-        let (mut hints, mut dist) = (std::mem::take(&mut self.hints), 0.0);
-        let (colours, counts) = self.tile(i);
+        let Shown { job, present, have, palette, hints } = self;
+        let ((colours, counts), mut dist) = (job.tile(i), 0.0);
         let index = unsafe {
-            probe_best_fit(
-                self.palette.as_ptr(),
-                self.palette.len(),
-                self.c,
-                self.have,
-                self.present,
-                colours.as_ptr(),
-                colours.len(),
-                counts.as_ptr(),
-                counts.len(),
-                self.weight,
-                hints.as_mut_ptr(),
-                hints.len(),
-                i,
-                &mut dist,
-            )
+            lend!(probe_best_fit(
+                ref palette, job.c, *have, *present, ref colours, ref counts, job.weight, mut hints, i, &mut dist
+            ))
         };
-        self.hints = hints;
         (index, dist, 0.0)
     }
 
     /// Of a tile that may be empty.
     fn best_two(&mut self, i: usize) -> Answer {
-        let (mut hints, [mut dist, mut second]) = (std::mem::take(&mut self.hints), [0.0; 2]);
-        let (colours, counts) = self.tile(i);
+        let Shown { job, present, have, palette, hints } = self;
+        let ((colours, counts), [mut dist, mut second]) = (job.tile(i), [0.0; 2]);
         let index = unsafe {
-            probe_best_two(
-                self.palette.as_ptr(),
-                self.palette.len(),
-                self.c,
-                self.have,
-                self.present,
-                colours.as_ptr(),
-                colours.len(),
-                counts.as_ptr(),
-                counts.len(),
-                self.weight,
-                hints.as_mut_ptr(),
-                hints.len(),
-                i,
-                &mut dist,
-                &mut second,
-            )
+            lend!(probe_best_two(
+                ref palette, job.c, *have, *present,
+                ref colours, ref counts, job.weight, mut hints, i, &mut dist, &mut second
+            ))
         };
-        self.hints = hints;
         (index, dist, second)
     }
 
     /// Over all tiles; the hints then name the best of each that is not empty.
     fn error(&mut self) -> Answer {
-        let error = unsafe {
-            probe_mse(
-                self.s,
-                self.c,
-                self.t,
-                self.weight,
-                self.tiles.as_ptr(),
-                self.tiles.len(),
-                self.colours.as_ptr(),
-                self.colours.len(),
-                self.counts.as_ptr(),
-                self.counts.len(),
-                self.palette.as_ptr(),
-                self.palette.len(),
-                self.present,
-                self.have,
-                self.hints.as_mut_ptr(),
-                self.hints.len(),
-            )
-        };
+        let Shown { job, present, have, palette, hints } = self;
+        let error = unsafe { lend!(probe_mse(..job, ref palette, *present, *have, mut hints)) };
         (0, error, 0.0)
     }
 }

@@ -4,8 +4,8 @@
 //! draws made, or 1 and p numbers to hand in; and the state that it leaves.
 //! A state is the record's six numbers of 64 bits, n order entries, T hints, and both palettes.
 
-use crate::calls::{self, Job, Memory};
 use crate::list::{List, Read};
+use foreign::shipped::{self, Job, Memory};
 
 const MOST_TILES: usize = 64;
 const MOST_TILE_COLOURS: usize = 64;
@@ -20,11 +20,11 @@ pub fn case(list: &mut List) -> Read<()> {
     let (weight, seed, calls) = (list.float()?, list.double()?, list.word()?);
     let (tiles, counts) = (list.words(2 * t)?, list.words(m)?);
     let (colours, samples) = (list.floats(3 * m)?, list.words(2 * n)?);
-    let job = Job { s, c, t, n, weight, tiles, counts, colours, samples };
+    let job = Job { s, c, t, n, weight, tiles, colours, counts, samples };
     let hints = list.words(t)?;
     let mut memory = Memory { order: vec![0; n], hints, palette: vec![0.0; p], least: vec![0.0; p], record: [0; 6] };
     // the number is 0, and there are no draws
-    list.compare(calls::start(&job, &mut memory, seed) == 0);
+    list.compare(shipped::start(&job, &mut memory, seed) == 0);
     same_state(list, &memory)?;
     for _ in 0..calls {
         match list.word()? {
@@ -47,7 +47,7 @@ fn same_state(list: &mut List, memory: &Memory) -> Read<()> {
 
 /// By the list's allotment: the number is 0, and the draws are the list's.
 fn advance(list: &mut List, job: &Job, memory: &mut Memory) -> Read<()> {
-    let told = calls::advance(job, memory, list.double()?);
+    let told = shipped::advance(job, memory, list.double()?);
     list.compare(told & 255 == 0);
     list.same_double(told >> 8)
 }
@@ -55,6 +55,6 @@ fn advance(list: &mut List, job: &Job, memory: &mut Memory) -> Read<()> {
 /// Of the list's colours: the number is 0, and there are no draws.
 fn hand_in(list: &mut List, job: &Job, memory: &mut Memory) -> Read<()> {
     let reduced = list.floats(memory.palette.len())?;
-    list.compare(calls::hand_in(job, memory, &reduced) == 0);
+    list.compare(shipped::hand_in(job, memory, &reduced) == 0);
     Ok(())
 }

@@ -115,7 +115,7 @@ fn replaced(rng: &mut Rng, _: u64, tally: &mut Tally) {
     let left = Outcome::unchanged(7, &call, &Ask::Result(nans(places)));
     for (k, made) in (0..places).flat_map(|k| MADE.map(|made| (k, f32::from_bits(made)))) {
         let mut memory = lent::floats(&all[..places]);
-        unsafe { *memory.pointer_mut().add(k) = made };
+        unsafe { *memory.as_mut_ptr().add(k) = made };
         let mut changed = [left.clone(), left.clone(), left.clone()];
         (changed[0].memory.palette[k], changed[1].memory.least[k], changed[2].colours[k]) = (made, made, made);
         let unseen = memory.untouched() || memory.bits() == lent::bits(&all[..places]);

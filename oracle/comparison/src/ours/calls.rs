@@ -2,7 +2,7 @@
 
 use crate::lent::{self, Lent};
 use crate::table::Given;
-use foreign::{dunkafeto_assign, probe_group, probe_public_best_two, probe_single_fit};
+use foreign::{dunkafeto_assign, lend, probe_group, probe_public_best_two, probe_single_fit};
 
 /// What every call with a job is lent.
 pub struct Job {
@@ -56,26 +56,10 @@ pub fn group(
     let [r, g, b] = zero.unwrap_or_default();
     let mut entries = 0;
     let number = unsafe {
-        probe_group(
-            p,
-            pixels.pointer(),
-            pixels.len(),
-            oklab.pointer(),
-            oklab.len(),
-            zero.is_some(),
-            r,
-            g,
-            b,
-            room.bytes.pointer_mut(),
-            room.bytes.len(),
-            room.oklab.pointer_mut(),
-            room.oklab.len(),
-            room.counts.pointer_mut(),
-            room.counts.len(),
-            room.index.pointer_mut(),
-            room.index.len(),
-            &mut entries,
-        )
+        lend!(probe_group(
+            p, ref pixels, ref oklab, zero.is_some(), r, g, b,
+            mut room.bytes, mut room.oklab, mut room.counts, mut room.index, &mut entries
+        ))
     };
     (number, entries)
 }
@@ -83,77 +67,20 @@ pub fn group(
 /// The number, the winner and its distance; both stay 0 on a refusal.
 pub fn single_fit(job: &Job, palette: &Lent<f32>, hints: &mut Lent<u32>) -> (u32, usize, f32) {
     let (mut index, mut dist) = (0, 0.0);
-    let number = unsafe {
-        probe_single_fit(
-            job.s,
-            job.c,
-            job.t,
-            job.weight,
-            job.tiles.pointer(),
-            job.tiles.len(),
-            job.colours.pointer(),
-            job.colours.len(),
-            job.counts.pointer(),
-            job.counts.len(),
-            palette.pointer(),
-            palette.len(),
-            hints.pointer_mut(),
-            hints.len(),
-            &mut index,
-            &mut dist,
-        )
-    };
+    let number = unsafe { lend!(probe_single_fit(..job, ref palette, mut hints, &mut index, &mut dist)) };
     (number, index, dist)
 }
 
 /// The number, the winner, its distance and the second; all stay 0 on a refusal.
 pub fn public_best_two(job: &Job, palette: &Lent<f32>, hints: &mut Lent<u32>) -> (u32, usize, f32, f32) {
     let (mut index, mut dist, mut second) = (0, 0.0, 0.0);
-    let number = unsafe {
-        probe_public_best_two(
-            job.s,
-            job.c,
-            job.t,
-            job.weight,
-            job.tiles.pointer(),
-            job.tiles.len(),
-            job.colours.pointer(),
-            job.colours.len(),
-            job.counts.pointer(),
-            job.counts.len(),
-            palette.pointer(),
-            palette.len(),
-            hints.pointer_mut(),
-            hints.len(),
-            &mut index,
-            &mut dist,
-            &mut second,
-        )
-    };
+    let number =
+        unsafe { lend!(probe_public_best_two(..job, ref palette, mut hints, &mut index, &mut dist, &mut second)) };
     (number, index, dist, second)
 }
 
 pub fn assign(job: &Job, palette: &Lent<f32>, hints: &mut Lent<u32>, out: &mut Lent<u32>) -> u32 {
-    let told = unsafe {
-        dunkafeto_assign(
-            job.s,
-            job.c,
-            job.t,
-            job.weight,
-            job.tiles.pointer(),
-            job.tiles.len(),
-            job.colours.pointer(),
-            job.colours.len(),
-            job.counts.pointer(),
-            job.counts.len(),
-            palette.pointer(),
-            palette.len(),
-            hints.pointer_mut(),
-            hints.len(),
-            out.pointer_mut(),
-            out.len(),
-        )
-    };
+    let told = unsafe { lend!(dunkafeto_assign(..job, ref palette, mut hints, mut out)) };
     // it makes no draws, so the answer is the number alone
     u32::try_from(told).unwrap_or(u32::MAX)
 }

@@ -1,24 +1,14 @@
 //! palette, palette_two, palette_edit.
 
 use foreign::{
-    probe_best_fit, probe_best_two, probe_copy_color, probe_copy_subpalette, probe_duplicate_color,
+    lend, probe_best_fit, probe_best_two, probe_copy_color, probe_copy_subpalette, probe_duplicate_color,
     probe_duplicate_palette, probe_nudge, probe_tile_distance,
 };
 use terms::{Colour, Edit, Fit, FitTwo, Palette, Tile};
 
 pub fn tile_distance(sub: &[Colour], tile: &Tile, weight: f32) -> f32 {
     let (sub, colours, counts) = (sub.as_flattened(), tile.colours.as_flattened(), &tile.counts);
-    unsafe {
-        probe_tile_distance(
-            sub.as_ptr(),
-            sub.len(),
-            colours.as_ptr(),
-            colours.len(),
-            counts.as_ptr(),
-            counts.len(),
-            weight,
-        )
-    }
+    unsafe { lend!(probe_tile_distance(ref sub, ref colours, ref counts, weight)) }
 }
 
 /// A palette in one flat slice, with room for `room` colours in each subpalette; where none is present stands a NaN, which
@@ -56,19 +46,19 @@ impl Flat {
     }
 
     pub fn nudge(&mut self, place: usize, target: Colour, alpha: f32) {
-        let (pal, [l, a, b]) = (&mut self.numbers, target);
-        unsafe { probe_nudge(pal.as_mut_ptr(), pal.len(), place, l, a, b, alpha) };
+        let [l, a, b] = target;
+        unsafe { lend!(probe_nudge(mut self.numbers, place, l, a, b, alpha)) };
     }
 
     pub fn edit(&mut self, edit: Edit) {
         let (c, have, n) = (self.room, self.have, self.subs);
-        let (pal, len) = (self.numbers.as_mut_ptr(), self.numbers.len());
+        let pal = &mut self.numbers;
         unsafe {
             match edit {
-                Edit::DuplicatePalette(from) => probe_duplicate_palette(pal, len, c, have, n, from),
-                Edit::DuplicateColor { sub, from } => probe_duplicate_color(pal, len, c, have, sub, from),
-                Edit::CopySubpalette { from, to } => probe_copy_subpalette(pal, len, c, have, from, to),
-                Edit::CopyColor { sub, from, to } => probe_copy_color(pal, len, c, sub, from, to),
+                Edit::DuplicatePalette(from) => lend!(probe_duplicate_palette(mut pal, c, have, n, from)),
+                Edit::DuplicateColor { sub, from } => lend!(probe_duplicate_color(mut pal, c, have, sub, from)),
+                Edit::CopySubpalette { from, to } => lend!(probe_copy_subpalette(mut pal, c, have, from, to)),
+                Edit::CopyColor { sub, from, to } => lend!(probe_copy_color(mut pal, c, sub, from, to)),
             }
         }
     }
@@ -78,22 +68,10 @@ impl Flat {
 pub fn best_fit(palette: &Flat, tile: &Tile, weight: f32, hints: &mut [u32], t: usize) -> Fit {
     let (colours, counts, mut dist) = (tile.colours.as_flattened(), &tile.counts, 0.0);
     let index = unsafe {
-        probe_best_fit(
-            palette.numbers.as_ptr(),
-            palette.numbers.len(),
-            palette.room,
-            palette.have,
-            palette.subs,
-            colours.as_ptr(),
-            colours.len(),
-            counts.as_ptr(),
-            counts.len(),
-            weight,
-            hints.as_mut_ptr(),
-            hints.len(),
-            t,
-            &mut dist,
-        )
+        lend!(probe_best_fit(
+            ref palette.numbers, palette.room, palette.have, palette.subs,
+            ref colours, ref counts, weight, mut hints, t, &mut dist
+        ))
     };
     Fit { index, dist, hint: hints[t] as usize }
 }
@@ -103,23 +81,10 @@ pub fn best_two(palette: &Flat, tile: &Tile, weight: f32, hints: &mut [u32], t: 
     let (colours, counts) = (tile.colours.as_flattened(), &tile.counts);
     let [mut dist, mut second] = [0.0; 2];
     let index = unsafe {
-        probe_best_two(
-            palette.numbers.as_ptr(),
-            palette.numbers.len(),
-            palette.room,
-            palette.have,
-            palette.subs,
-            colours.as_ptr(),
-            colours.len(),
-            counts.as_ptr(),
-            counts.len(),
-            weight,
-            hints.as_mut_ptr(),
-            hints.len(),
-            t,
-            &mut dist,
-            &mut second,
-        )
+        lend!(probe_best_two(
+            ref palette.numbers, palette.room, palette.have, palette.subs,
+            ref colours, ref counts, weight, mut hints, t, &mut dist, &mut second
+        ))
     };
     FitTwo { index, dist, second, hint: hints[t] as usize }
 }

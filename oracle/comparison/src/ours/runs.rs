@@ -4,7 +4,7 @@
 use super::Job;
 use crate::call::{Ask, Call, Memory, Outcome};
 use crate::lent::{self, Lent};
-use foreign::{dunkafeto_advance, dunkafeto_hand_in, dunkafeto_result, dunkafeto_start};
+use foreign::{dunkafeto_advance, dunkafeto_hand_in, dunkafeto_result, dunkafeto_start, lend_run};
 
 /// What comes of a call: lent between guards, made, and all of it looked at afterwards.
 pub fn answer(call: &Call, ask: &Ask) -> Outcome {
@@ -72,87 +72,18 @@ impl Lents {
     }
 }
 
-/// Calls a function of the run's that only reads the memory it is lent.
-macro_rules! with_run {
-    ($call:ident, $job:ident, $held:ident $(, $own:expr)*) => {
-        unsafe {
-            $call(
-                $job.s,
-                $job.c,
-                $job.t,
-                $held.n,
-                $job.weight,
-                $job.tiles.pointer(),
-                $job.tiles.len(),
-                $job.colours.pointer(),
-                $job.colours.len(),
-                $job.counts.pointer(),
-                $job.counts.len(),
-                $held.samples.pointer(),
-                $held.samples.len(),
-                $held.order.pointer(),
-                $held.order.len(),
-                $held.hints.pointer(),
-                $held.hints.len(),
-                $held.palette.pointer(),
-                $held.palette.len(),
-                $held.least.pointer(),
-                $held.least.len(),
-                $held.record.pointer(),
-                $held.record.len(),
-                $($own,)*
-            )
-        }
-    };
-}
-
-fn result(job: &Job, held: &Lents, out: &mut Lent<f32>) -> u64 {
-    with_run!(dunkafeto_result, job, held, out.pointer_mut(), out.len())
-}
-
-/// Calls a function of the run's that writes the memory it is lent.
-macro_rules! with_memory {
-    ($call:ident, $job:ident, $held:ident, [$($first:expr),*] $(, $own:expr)*) => {
-        unsafe {
-            $call(
-                $job.s,
-                $job.c,
-                $job.t,
-                $held.n,
-                $job.weight,
-                $($first,)*
-                $job.tiles.pointer(),
-                $job.tiles.len(),
-                $job.colours.pointer(),
-                $job.colours.len(),
-                $job.counts.pointer(),
-                $job.counts.len(),
-                $held.samples.pointer(),
-                $held.samples.len(),
-                $held.order.pointer_mut(),
-                $held.order.len(),
-                $held.hints.pointer_mut(),
-                $held.hints.len(),
-                $held.palette.pointer_mut(),
-                $held.palette.len(),
-                $held.least.pointer_mut(),
-                $held.least.len(),
-                $held.record.pointer_mut(),
-                $held.record.len(),
-                $($own,)*
-            )
-        }
-    };
-}
-
 fn start(job: &Job, held: &mut Lents, seed: u64) -> u64 {
-    with_memory!(dunkafeto_start, job, held, [seed])
+    unsafe { lend_run!(dunkafeto_start, job, held, held, mut / mut, [seed]) }
 }
 
 fn advance(job: &Job, held: &mut Lents, allotment: u64) -> u64 {
-    with_memory!(dunkafeto_advance, job, held, [], allotment)
+    unsafe { lend_run!(dunkafeto_advance, job, held, held, mut / mut, [], allotment) }
 }
 
 fn hand_in(job: &Job, held: &mut Lents, reduced: &Lent<f32>) -> u64 {
-    with_memory!(dunkafeto_hand_in, job, held, [], reduced.pointer(), reduced.len())
+    unsafe { lend_run!(dunkafeto_hand_in, job, held, held, mut / ref, [], ref reduced) }
+}
+
+fn result(job: &Job, held: &Lents, out: &mut Lent<f32>) -> u64 {
+    unsafe { lend_run!(dunkafeto_result, job, held, held, ref / ref, [], mut out) }
 }
