@@ -29,8 +29,8 @@ use Rattle.calls.specs.Accepted.{Accepted, Roomy}
 pub few-pixels : tileSize ≤ 256
 few-pixels = omega arith
 
-module _ (size : ℕ) (K : Course) where
-  pub roomy-of : (m : Memory) → memoryRoom size K m ≡ true → Roomy K m
+module _ (K : Course) where
+  pub roomy-of : (m : Memory) → memoryRoom K m ≡ true → Roomy K m
   unfolding memoryRoom coloursRoom
   roomy-of m h =
       let a = and-r (eqb (length (m .order)) (K .n)) _ h in
@@ -44,7 +44,7 @@ module _ (size : ℕ) (K : Course) where
         words = eqb-true _ _ (and-r (eqb (length (m .least)) (3 * (K .job .S * K .job .C))) (eqb (length (m .words)) 6) d);
       }
 
-  pub room-of : (m : Memory) → Roomy K m → memoryRoom size K m ≡ true
+  pub room-of : (m : Memory) → Roomy K m → memoryRoom K m ≡ true
   unfolding memoryRoom coloursRoom
   room-of m r =
       rw (eq-eqb (length (m .order)) (K .n) (r .order), eq-eqb (length (m .hints)) (K .job .T) (r .hints), eq-eqb (length (m .palette)) (3 * (K .job .S * K .job .C)) (r .palette), eq-eqb (length (m .least)) (3 * (K .job .S * K .job .C)) (r .least), eq-eqb (length (m .words)) 6 (r .words))
@@ -83,25 +83,25 @@ module _ (K : Course) (S1 : 1 ≤ K .job .S) (C1 : 1 ≤ K .job .C) where
           in2 (eqb-true (getD (m .words) 1 0) 2 t) (ltb-true (getD (m .words) 5 0) 0x7f800000 (rw t at p3)) (four-bounded (m .least) (rw t at p5))
       lastly (inr t) = unfold errorFits in out2 (eqb-false (getD (m .words) 1 0) 2 t) (eqb-true (getD (m .words) 5 0) 0 (rw t at p3))
 
-module _ (size : ℕ) (K : Course) where
+module _ (K : Course) where
   -- the job's rules say what a job with samples has to be
-  pub job-passed : (room : Bool) → Passed (jobRules size K room) → Sampled size (K .job) (K .n) (K .samples) room
-  job-passed room p = sampled-ready size (K .job) (K .n) (K .samples) room (unfold sampledAnswer in sym (pass-all (jobRules size K room) p))
+  pub job-passed : (room : Bool) → Passed (jobRules K room) → Sampled (K .job) (K .n) (K .samples) room
+  job-passed room p = sampled-ready (K .job) (K .n) (K .samples) room (unfold sampledAnswer in sym (pass-all (jobRules K room) p))
 
-  pub in-room : (room : Bool) → Passed (jobRules size K room) → (room ≡ true) × Passed (jobRules size K true)
-  in-room room p = let e = job-passed room p .roomy in (e, subst (λ (b : Bool). Passed (jobRules size K b)) e p)
+  pub in-room : (room : Bool) → Passed (jobRules K room) → (room ≡ true) × Passed (jobRules K true)
+  in-room room p = let e = job-passed room p .roomy in (e, subst (λ (b : Bool). Passed (jobRules K b)) e p)
 
   -- the memory that holds a fit state
-  pub holds : (s : State) → Passed (jobRules size K true) → Fit K s → Accepted size K (memoryOf s)
+  pub holds : (s : State) → Passed (jobRules K true) → Fit K s → Accepted K (memoryOf s)
   unfolding memoryOf stateOf
   holds s p F =
       let A = F .sound in
       record { passed = p; roomy = record { order = A .dealt .size; hints = A .hints; palette = A .held .size; least = A .room; words = refl }; fit = F }
 
-  pub accepts : (m : Memory) → Passed (jobRules size K true) → Roomy K m → Passed (stateRules K (stateOf m)) → Accepted size K m
+  pub accepts : (m : Memory) → Passed (jobRules K true) → Roomy K m → Passed (stateRules K (stateOf m)) → Accepted K m
   accepts m p r q =
       let D = job-passed true p in
       record { passed = p; roomy = r; fit = rules→fit K (D .ready .sizes .subs) (D .ready .sizes .some) m r q }
 
-  pub accepted-rules : (m : Memory) → Accepted size K m → Passed (stateRules K (stateOf m))
+  pub accepted-rules : (m : Memory) → Accepted K m → Passed (stateRules K (stateOf m))
   accepted-rules m A = let D = job-passed true (A .passed) in fit→rules K (D .ready .sizes .subs) (D .ready .sizes .some) (stateOf m) (A .fit)

@@ -16,21 +16,21 @@ use Rattle.calls.specs.Sound.{Held}
 use Rattle.calls.proofs.Sound.{settle-sound, draw-sound, start-sound, handIn-sound}
 use Rattle.calls.specs.Fit.{Fit}
 
-module _ (size : ℕ) (small : size ≤ 256) (K : Course) (given : Bool) (D : Sampled size (K .job) (K .n) (K .samples) given) where
+module _ (K : Course) (given : Bool) (D : Sampled (K .job) (K .n) (K .samples) given) where
   pub step-fit : (s : State) → Fit K s → draws (s .rec .stage) ≡ true → Fit K (step K s)
   unfolding step
   step-fit s F d =
       record {
         rests = step-rests K (D .ready .sizes .subs) (D .ready .sizes .some) s (F .rests) d;
-        sound = settle-sound size small K (D .ready) (draw K s) (draw-sound size small K given D s (F .rests .place) (F .sound));
+        sound = settle-sound K (D .ready) (draw K s) (draw-sound K given D s (F .rests .place) (F .sound));
       }
 
   pub advance-fit : (a : ℕ) (s : State) → Fit K s → Fit K (advance K a s)
   advance-fit a s F = whilst-keeps going (step K) (Fit K) step-fit a s F
 
   pub start-fit : (seed : ℕ) (hints : List ℕ) → length hints ≡ K .job .T → Fit K (start K seed hints)
-  start-fit seed hints h = record { rests = start-rests K (D .ready .sizes .subs) (D .ready .sizes .some) seed hints; sound = start-sound size small K given D seed hints h }
+  start-fit seed hints h = record { rests = start-rests K (D .ready .sizes .subs) (D .ready .sizes .some) seed hints; sound = start-sound K given D seed hints h }
 
   pub handIn-fit : (reduced : List Float) (s : State) → Held K reduced → Fit K s → draws (s .rec .stage) ≡ false → s .rec .stage ≤ 6 → s .rec .stage ≢ 2 → Fit K (handIn K reduced s)
   handIn-fit reduced s H F d l n =
-      record { rests = handIn-rests K (D .ready .sizes .subs) (D .ready .sizes .some) reduced s (F .rests) d l; sound = handIn-sound size small K (D .ready) reduced s H (F .sound) n }
+      record { rests = handIn-rests K (D .ready .sizes .subs) (D .ready .sizes .some) reduced s (F .rests) d l; sound = handIn-sound K (D .ready) reduced s H (F .sound) n }

@@ -134,60 +134,60 @@ pub record Followed (K : Course) (seed : ℕ) (m : Memory) (ds : List ℕ) : Typ
   pub follows : Follows K seed (stateOf m)
   pub samples : ds ≡ firsts (drawAt (K .n) seed) (stateOf m .rec .made)
 
-module _ (size : ℕ) (K : Course) (seed : ℕ) where
-  pub run-follows : {m : Memory} {ds : List ℕ} → Run size K seed m ds → Followed K seed m ds
+module _ (K : Course) (seed : ℕ) where
+  pub run-follows : {m : Memory} {ds : List ℕ} → Run K seed m ds → Followed K seed m ds
   run-follows (started m h) =
-      let e = started-state size K m seed h in
+      let e = started-state K m seed h in
       record {
         follows = subst⁻¹ (Follows K seed) e (start-follows K seed (m .hints));
         samples = unfold firsts in sym (ap (firsts (drawAt (K .n) seed)) (ap (λ (z : State). z .rec .made) e ∙ start-made K seed (m .hints)));
       }
   run-follows (advanced {m} {ds} r a h) =
       let F = run-follows r in
-      let e = advanced-state size K m a h in
+      let e = advanced-state K m a h in
       record {
         follows = subst⁻¹ (Follows K seed) e (advance-follows K seed a (stateOf m) (F .follows));
         samples = ap (λ (l : List ℕ). l ++ sampled K a (stateOf m)) (F .samples) ∙ advance-samples K seed a (stateOf m) (F .follows) ∙ sym (ap (λ (z : State). firsts (drawAt (K .n) seed) (z .rec .made)) e);
       }
   run-follows (handedIn {m} {ds} r reduced h) =
       let F = run-follows r in
-      let e = handed-state size K m reduced h in
+      let e = handed-state K m reduced h in
       record {
         follows = subst⁻¹ (Follows K seed) e (handIn-follows K seed reduced (stateOf m) (F .follows));
         samples = F .samples ∙ sym (ap (firsts (drawAt (K .n) seed)) (ap (λ (z : State). z .rec .made) e ∙ handIn-made K reduced (stateOf m)));
       }
 
   -- as many as word 4 says
-  pub run-made : {m : Memory} {ds : List ℕ} → Run size K seed m ds → length ds ≡ getD (m .words) 4 0
+  pub run-made : {m : Memory} {ds : List ℕ} → Run K seed m ds → length ds ≡ getD (m .words) 4 0
   unfolding stateOf
   run-made {m} {ds} r = ap length (run-follows r .samples) ∙ length-firsts (drawAt (K .n) seed) (getD (m .words) 4 0)
 
-  pub run-samples : {m : Memory} {ds : List ℕ} → Run size K seed m ds → ds ≡ firsts (drawAt (K .n) seed) (length ds)
+  pub run-samples : {m : Memory} {ds : List ℕ} → Run K seed m ds → ds ≡ firsts (drawAt (K .n) seed) (length ds)
   run-samples {m} {ds} r = let F = run-follows r in F .samples ∙ sym (ap (firsts (drawAt (K .n) seed)) (ap length (F .samples) ∙ length-firsts (drawAt (K .n) seed) (stateOf m .rec .made)))
 
   -- each sample has been drawn t / n times, rounded down or up
-  pub run-even : {m : Memory} {ds : List ℕ} → Run size K seed m ds → (i : ℕ) → i < K .n → Even (K .n) (length ds) (count i ds)
+  pub run-even : {m : Memory} {ds : List ℕ} → Run K seed m ds → (i : ℕ) → i < K .n → Even (K .n) (length ds) (count i ds)
   run-even {m} {ds} r i l = subst⁻¹ (λ (xs : List ℕ). Even (K .n) (length ds) (count i xs)) (run-samples r) (even (K .n) seed i (length ds) l)
 
   -- of any 2 · n - 1 of its draws in a row, from draw k on, one is i
-  pub run-waits : {m : Memory} {ds : List ℕ} → Run size K seed m ds → (i k : ℕ) → i < K .n → k + (2 * K .n - 1) ≤ length ds
+  pub run-waits : {m : Memory} {ds : List ℕ} → Run K seed m ds → (i k : ℕ) → i < K .n → k + (2 * K .n - 1) ≤ length ds
       → (j : ℕ) × (k ≤ j) × (j < k + (2 * K .n - 1)) × (getD ds j 0 ≡ i)
   run-waits {m} {ds} r i k l h =
       let w = waits (K .n) seed i k l in
       (w .0, w .1, w .2, ap (λ (xs : List ℕ). getD xs (w .0) 0) (run-samples r) ∙ first-at (drawAt (K .n) seed) (length ds) (w .0) (omega (arith, w .2)) ∙ w .3)
 
 -- ---- what the next call may count on
-module _ (size : ℕ) (small : size ≤ 256) (K : Course) (seed : ℕ) where
+module _ (K : Course) (seed : ℕ) where
   -- whatever a run's calls left, every check accepts it, the moment's apart
-  pub run-accepted : {m : Memory} {ds : List ℕ} → Run size K seed m ds → Accepted size K m
-  run-accepted (started m h) = start-leaves size small K m seed h
-  run-accepted (advanced {m} r a h) = advance-leaves size small K m a h
-  run-accepted (handedIn {m} r reduced h) = handIn-leaves size small K m reduced h
+  pub run-accepted : {m : Memory} {ds : List ℕ} → Run K seed m ds → Accepted K m
+  run-accepted (started m h) = start-leaves K m seed h
+  run-accepted (advanced {m} r a h) = advance-leaves K m a h
+  run-accepted (handedIn {m} r reduced h) = handIn-leaves K m reduced h
 
   -- a run past its last draw has made (S + C + 18) · b
-  pub run-end : {m : Memory} {ds : List ℕ} → Run size K seed m ds → 5 ≤ getD (m .words) 1 0 → length ds ≡ (K .job .S + K .job .C + 18) * b K
-  run-end {m} {ds} r l = run-made size K seed r ∙ accepted-made-at-end size small K m (run-accepted r) l
+  pub run-end : {m : Memory} {ds : List ℕ} → Run K seed m ds → 5 ≤ getD (m .words) 1 0 → length ds ≡ (K .job .S + K .job .C + 18) * b K
+  run-end {m} {ds} r l = run-made K seed r ∙ accepted-made-at-end K m (run-accepted r) l
 
 -- how often a sample was drawn, by the cycle's own count
-pub run-hits : (size : ℕ) (K : Course) (seed : ℕ) {m : Memory} {ds : List ℕ} → Run size K seed m ds → (i : ℕ) → count i ds ≡ hits (drawAt (K .n) seed) i (length ds)
-run-hits size K seed r i = ap (count i) (run-samples size K seed r)
+pub run-hits : (K : Course) (seed : ℕ) {m : Memory} {ds : List ℕ} → Run K seed m ds → (i : ℕ) → count i ds ≡ hits (drawAt (K .n) seed) i (length ds)
+run-hits K seed r i = ap (count i) (run-samples K seed r)

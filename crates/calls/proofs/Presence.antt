@@ -55,12 +55,10 @@ module _ (K : Course) (S1 : 1 ≤ K .job .S) (C1 : 1 ≤ K .job .C) (s : State) 
       (by-test (λ (x : ℕ). x ≤ K .job .C) (eqb (s .rec .stage) 1) (λ t. growing-rounds p (eqb-true (s .rec .stage) 1 t)) (λ _. le-refl (K .job .C)))
 
 -- what a draw asks of the palette
-pub draw-shown : (size : ℕ) → size ≤ 256 → (K : Course) → Ready size (K .job) → (s : State) → Placed K s → length (s .palette) ≡ 3 * (K .job .S * K .job .C) → Bounded (s .palette) 4
+pub draw-shown : (K : Course) → Ready (K .job) → (s : State) → Placed K s → length (s .palette) ≡ 3 * (K .job .S * K .job .C) → Bounded (s .palette) 4
     → Shown (K .job) (s .palette) (subsOf (K .job .S) (s .rec)) (haveOf (K .job .C) (s .rec))
-draw-shown size small K R s p L B =
+draw-shown K R s p L B =
     record {
-      size = size;
-      small = small;
       ready = R;
       subs = some-subs K (R .sizes .subs) (R .sizes .some) s;
       most = few-subs K (R .sizes .subs) (R .sizes .some) s p;

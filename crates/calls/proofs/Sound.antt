@@ -48,9 +48,9 @@ no-error K s A h = go (A .second)
     go (in2 k e f) = absurd (h k)
     go (out2 k e) = e
 
-module _ (size : ℕ) (small : size ≤ 256) (K : Course) (R : Ready size (K .job)) where
+module _ (K : Course) (R : Ready (K .job)) where
   shown : (pal : List Float) → Held K pal → (n have : ℕ) → 1 ≤ n → n ≤ K .job .S → 1 ≤ have → have ≤ K .job .C → Shown (K .job) pal n have
-  shown pal H n have n1 nS h1 hC = record { size = size; small = small; ready = R; subs = n1; most = nS; some = h1; present = hC; room = H .size; near = H .bound }
+  shown pal H n have n1 nS h1 hC = record { ready = R; subs = n1; most = nS; some = h1; present = hC; room = H .size; near = H .bound }
 
   pub all-shown : (pal : List Float) → Held K pal → Shown (K .job) pal (K .job .S) (K .job .C)
   all-shown pal H = shown pal H (K .job .S) (K .job .C) (R .sizes .subs) (le-refl (K .job .S)) (R .sizes .some) (le-refl (K .job .C))
@@ -222,7 +222,7 @@ module _ (size : ℕ) (small : size ≤ 256) (K : Course) (R : Ready size (K .jo
       handed = record { held = H; room = A .room; second = A .second; hints = A .hints; dealt = A .dealt }
 
 -- ---- a draw, and the start: the samples are those of the job
-module _ (size : ℕ) (small : size ≤ 256) (K : Course) (given : Bool) (D : Sampled size (K .job) (K .n) (K .samples) given) where
+module _ (K : Course) (given : Bool) (D : Sampled (K .job) (K .n) (K .samples) given) where
   gentle : (s : State) → Gentle (alphaOf (s .rec))
   unfolding alphaOf
   gentle s = both Gentle (eqb (s .rec .stage) 4) gentle-5 gentle-3
@@ -243,11 +243,11 @@ module _ (size : ℕ) (small : size ≤ 256) (K : Course) (given : Bool) (D : Sa
   draw-sound s p A =
       let i = drawOne (cycleOf (s .order) (s .rec)) .sample in
       let t = sampleTile K i in
-      let H = draw-shown size small K (D .ready) s p (A .held .size) (A .held .bound) in
+      let H = draw-shown K (D .ready) s p (A .held .size) (A .held .bound) in
       record {
         held = record {
           size = length-moved (K .job) (s .palette) (subsOf (K .job .S) (s .rec)) (haveOf (K .job .C) (s .rec)) t (samplePlace K i) (alphaOf (s .rec)) ∙ A .held .size;
-          bound = moved-bounded (K .job) (s .palette) (subsOf (K .job .S) (s .rec)) (haveOf (K .job .C) (s .rec)) H t (samplePlace K i) (alphaOf (s .rec)) (gentle s) (unfold sampleColour in sample-sized size K given D i (sample-in s (A .dealt)));
+          bound = moved-bounded (K .job) (s .palette) (subsOf (K .job .S) (s .rec)) (haveOf (K .job .C) (s .rec)) H t (samplePlace K i) (alphaOf (s .rec)) (gentle s) (unfold sampleColour in sample-sized K given D i (sample-in s (A .dealt)));
         };
         room = A .room;
         second = A .second;
@@ -258,12 +258,12 @@ module _ (size : ℕ) (small : size ≤ 256) (K : Course) (given : Bool) (D : Sa
   pub fresh-sound : (seed : ℕ) (hints : List ℕ) → length hints ≡ K .job .T → Sound K (fresh K seed hints)
   unfolding fresh
   fresh-sound seed hints h =
-      let z = zeros-held size small K (D .ready) in
+      let z = zeros-held K (D .ready) in
       let pal = zeros (3 * (K .job .S * K .job .C)) in
       record {
         held = record {
           size = length-seeded K pal ∙ z .size;
-          bound = bounded-wider (seeded K pal) 2 4 (omega arith) (seeded-bounded size K given D pal (zeros-bounded (3 * (K .job .S * K .job .C)) 2));
+          bound = bounded-wider (seeded K pal) 2 4 (omega arith) (seeded-bounded K given D pal (zeros-bounded (3 * (K .job .S * K .job .C)) 2));
         };
         room = z .size;
         second = out2 (omega arith) refl;
@@ -275,12 +275,12 @@ module _ (size : ℕ) (small : size ≤ 256) (K : Course) (given : Bool) (D : Sa
   pub first-sound : (seed : ℕ) (hints : List ℕ) → length hints ≡ K .job .T → Sound K (cond (ltb 1 (K .job .S)) (openSeeding K 0 0 (fresh K seed hints)) (enterGrowing K (fresh K seed hints)))
   first-sound seed hints h =
       by-test (Sound K) (ltb 1 (K .job .S))
-      (λ t. let l : 1 < K .job .S = ltb-true 1 (K .job .S) t in openSeeding-sound size small K (D .ready) 0 0 (fresh K seed hints) (omega arith) (omega arith) (fresh-sound seed hints h) zero-error)
-      (λ t. enterGrowing-sound size small K (D .ready) (fresh K seed hints) (fresh-sound seed hints h) zero-error)
+      (λ t. let l : 1 < K .job .S = ltb-true 1 (K .job .S) t in openSeeding-sound K (D .ready) 0 0 (fresh K seed hints) (omega arith) (omega arith) (fresh-sound seed hints h) zero-error)
+      (λ t. enterGrowing-sound K (D .ready) (fresh K seed hints) (fresh-sound seed hints h) zero-error)
     where
       zero-error : fresh K seed hints .rec .error ≡ 0
       zero-error = unfold fresh in refl
 
   pub start-sound : (seed : ℕ) (hints : List ℕ) → length hints ≡ K .job .T → Sound K (start K seed hints)
   unfolding start
-  start-sound seed hints h = settle-sound size small K (D .ready) _ (first-sound seed hints h)
+  start-sound seed hints h = settle-sound K (D .ready) _ (first-sound seed hints h)

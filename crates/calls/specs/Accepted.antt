@@ -17,7 +17,7 @@ pub record Roomy (K : Course) (m : Memory) : Type 0 where
   pub words : length (m .words) ≡ 6
 
 -- ---- a memory that every check but the moment's accepts
-pub record Accepted (size : ℕ) (K : Course) (m : Memory) : Type 0 where
-  pub passed : Passed (jobRules size K true)
+pub record Accepted (K : Course) (m : Memory) : Type 0 where
+  pub passed : Passed (jobRules K true)
   pub roomy : Roomy K m
   pub fit : Fit K (stateOf m)

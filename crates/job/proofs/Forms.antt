@@ -7,9 +7,9 @@ use Rattle.job.specs.Rules.{Rule, answer, numbered}
 use Rattle.job.specs.Checks.{sizeRules, shapeRules}
 use Rattle.job.proofs.Passing.{goes}
 
-pub past-sizes : (s c t a : ℕ) → a ≡ answer (sizeRules s c t) → a ≡ 0 → (k : ℕ) (rs : List Rule) → k ≡ answer rs → k ≡ answer (sizeRules s c t ++ rs)
+pub past-sizes : (size s c t a : ℕ) → a ≡ answer (sizeRules size s c t) → a ≡ 0 → (k : ℕ) (rs : List Rule) → k ≡ answer rs → k ≡ answer (sizeRules size s c t ++ rs)
 unfolding numbered
-past-sizes s c t a e z k rs h = goes (sizeRules s c t) rs a k refl e z h
+past-sizes size s c t a e z k rs h = goes (sizeRules size s c t) rs a k refl e z h
 
 pub past-shapes : (t : ℕ) (tiles : List ℕ) (colours : List Float) (counts : List ℕ) (b : ℕ) → b ≡ answer (shapeRules t tiles colours counts) → b ≡ 0 → (k : ℕ) (rs : List Rule) → k ≡ answer rs → k ≡ answer (shapeRules t tiles colours counts ++ rs)
 unfolding numbered

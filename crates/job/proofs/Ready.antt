@@ -21,17 +21,18 @@ use Rattle.color.specs.Color.{Bounded}
 use Rattle.job.proofs.First.{none-first}
 use Rattle.job.specs.Rules.{Passed, answer, numbered}
 use Rattle.job.proofs.Passing.{all-pass}
-use Rattle.job.specs.Job.{Job, firstOf, sizeOf, countsPart, countsOf, mostSubpalettes, mostColours, mostTiles, mostTileColours, mostSamples, nought, two, sixteen}
-use Rattle.job.specs.Checks.{firstNot, among, within, weightFits, tileTest, tileFits, tilesFit, countTest, countFits, partFits, tileCountsFit, countsFit, componentFits, firstBad, componentsFit, sampleTest, sampleFits, samplesFit, sizeRules, shapeRules, tables, plainRules, sampledRules, plainAnswer, sampledAnswer}
+use Rattle.job.specs.Job.{Job, tileSize, firstOf, sizeOf, countsPart, countsOf, mostSubpalettes, mostColours, mostTiles, mostTileColours, mostSamples, nought, two, sixteen}
+use Rattle.job.specs.Checks.{firstNot, tileSized, among, within, weightFits, tileTest, tileFits, tilesFit, countTest, countFits, partFits, tileCountsFit, countsFit, componentFits, firstBad, componentsFit, sampleTest, sampleFits, samplesFit, sizeRules, shapeRules, tables, plainRules, sampledRules, plainAnswer, sampledAnswer}
 use Rattle.job.specs.Gives.{Sizes, Ready, Lent, Plain, Sampled}
 
 -- ---- numbers
-sizes-ready : (s c t : ℕ) → Passed (sizeRules s c t) → Sizes s c t
-unfolding among
-sizes-ready s c t p =
+sizes-ready : (size s c t : ℕ) → Passed (sizeRules size s c t) → Sizes size s c t
+unfolding among tileSized
+sizes-ready size s c t (y, p) =
     let few : s ≤ mostSubpalettes = leb-true s mostSubpalettes (and-r (leb 1 s) (leb s mostSubpalettes) (p .0)) in
     let cap : c ≤ mostColours = leb-true c mostColours (and-r (leb 1 c) (leb c mostColours) (p .1 .0)) in
     record {
+      small = let e = eqb-true size tileSize y in omega arith;
       subs = leb-true 1 s (and-l (leb 1 s) (leb s mostSubpalettes) (p .0));
       few = few;
       some = leb-true 1 c (and-l (leb 1 c) (leb c mostColours) (p .1 .0));
@@ -41,9 +42,9 @@ sizes-ready s c t p =
       cells = mul-le-mul few cap;
     }
 
-pub sizes-of : (s c t a : ℕ) → a ≡ answer (sizeRules s c t) → a ≡ 0 → Sizes s c t
+pub sizes-of : (size s c t a : ℕ) → a ≡ answer (sizeRules size s c t) → a ≡ 0 → Sizes size s c t
 unfolding numbered
-sizes-of s c t a e z = sizes-ready s c t (all-pass (sizeRules s c t) refl (sym e ∙ z))
+sizes-of size s c t a e z = sizes-ready size s c t (all-pass (sizeRules size s c t) refl (sym e ∙ z))
 
 no-less : (a b : ℕ) → 0 * a < 0 * b * 1 → ⊥
 no-less a b h = omega arith
@@ -146,36 +147,36 @@ unfolding countsFit tileCountsFit
 part-passed size tiles counts n F t l = every-at (tileCountsFit size tiles counts) n t F l
 
 -- ---- the job
-ready-of : (size : ℕ) (J : Job) → Passed (sizeRules (J .S) (J .C) (J .T)) → Passed (shapeRules (J .T) (J .tiles) (J .colours) (J .counts)) → Passed (tables size J) → componentsFit two (J .colours) ≡ true → Ready size J
+ready-of : (J : Job) → Passed (sizeRules (J .size) (J .S) (J .C) (J .T)) → Passed (shapeRules (J .T) (J .tiles) (J .colours) (J .counts)) → Passed (tables J) → componentsFit two (J .colours) ≡ true → Ready J
 unfolding weightFits
-ready-of size J p q r v =
-    let part = part-passed size (J .tiles) (J .counts) (J .T) (r .1 .1 .1 .0) in
+ready-of J p q r v =
+    let part = part-passed (J .size) (J .tiles) (J .counts) (J .T) (r .1 .1 .1 .0) in
     record {
-      sizes = sizes-ready (J .S) (J .C) (J .T) p;
+      sizes = sizes-ready (J .size) (J .S) (J .C) (J .T) p;
       table = eqb-true (length (J .tiles)) (2 * J .T) (q .0);
       three = eqb-true (length (J .colours)) (3 * length (J .counts)) (q .1 .0);
       total = leb-true (length (J .counts)) mostTileColours (r .1 .0);
       weight = weight-positive (J .weight) (and-l (lt nought (J .weight)) (le (J .weight) sixteen) (r .0)) (and-r (lt nought (J .weight)) (le (J .weight) sixteen) (r .0));
       heavy = weight-within (J .weight) (and-l (lt nought (J .weight)) (le (J .weight) sixteen) (r .0)) (and-r (lt nought (J .weight)) (le (J .weight) sixteen) (r .0));
       near = components-within two (J .colours) 2 two-within v;
-      starts = tile-first size (length (J .counts)) (J .tiles) (J .T) (r .1 .1 .0);
-      whole = tiles-whole size (length (J .counts)) (J .tiles) (J .T) (r .1 .1 .0);
-      short = tile-short size (length (J .counts)) (J .tiles) (J .T) (r .1 .1 .0);
-      inside = tile-inside size (length (J .counts)) (J .tiles) (J .T) (r .1 .1 .0);
-      low = λ t k l m. count-low size (countsOf J t) (part t l) k m;
-      high = λ t k l m. count-high size (countsOf J t) (part t l) k m;
-      full = λ t l. counts-full size (countsOf J t) (part t l) (length (countsOf J t)) (omega arith);
+      starts = tile-first (J .size) (length (J .counts)) (J .tiles) (J .T) (r .1 .1 .0);
+      whole = tiles-whole (J .size) (length (J .counts)) (J .tiles) (J .T) (r .1 .1 .0);
+      short = tile-short (J .size) (length (J .counts)) (J .tiles) (J .T) (r .1 .1 .0);
+      inside = tile-inside (J .size) (length (J .counts)) (J .tiles) (J .T) (r .1 .1 .0);
+      low = λ t k l m. count-low (J .size) (countsOf J t) (part t l) k m;
+      high = λ t k l m. count-high (J .size) (countsOf J t) (part t l) k m;
+      full = λ t l. counts-full (J .size) (countsOf J t) (part t l) (length (countsOf J t)) (omega arith);
     }
 
-pub plain-ready : (size : ℕ) (J : Job) (palette : List Float) (room : Bool) → plainAnswer size J palette room ≡ 0 → Plain size J palette room
+pub plain-ready : (J : Job) (palette : List Float) (room : Bool) → plainAnswer J palette room ≡ 0 → Plain J palette room
 unfolding plainAnswer numbered
-plain-ready size J palette room e =
-    let p = all-pass (plainRules size J palette room) refl e in
-    let q = p .1 .1 .1 in
+plain-ready J palette room e =
+    let p = all-pass (plainRules J palette room) refl e in
+    let q = p .1 .1 .1 .1 in
     let r = q .1 .1 .1 .1 in
     let v = r .1 .1 .1 .1 in
     record {
-      ready = ready-of size J (p .0, (p .1 .0, (p .1 .1 .0, tt))) (q .0, (q .1 .0, tt)) (r .0, (r .1 .0, (r .1 .1 .0, (r .1 .1 .1 .0, tt)))) (v .1 .0);
+      ready = ready-of J (p .0, (p .1 .0, (p .1 .1 .0, (p .1 .1 .1 .0, tt)))) (q .0, (q .1 .0, tt)) (r .0, (r .1 .0, (r .1 .1 .0, (r .1 .1 .1 .0, tt)))) (v .1 .0);
       lent = record { room = eqb-true (length palette) (3 * (J .S * J .C)) (q .1 .1 .0); near = components-within two palette 2 two-within (v .0) };
       roomy = q .1 .1 .1 .0;
     }
@@ -191,17 +192,17 @@ module _ (tiles : List ℕ) (t : ℕ) (samples : List ℕ) (n : ℕ) (F : sample
   sample-place : getD samples (2 * i + 1) 0 < sizeOf tiles (getD samples (2 * i) 0)
   sample-place = ltb-true _ _ (and-r (ltb (getD samples (2 * i) 0) t) (ltb (getD samples (2 * i + 1) 0) (sizeOf tiles (getD samples (2 * i) 0))) sample-fits)
 
-pub sampled-ready : (size : ℕ) (J : Job) (n : ℕ) (samples : List ℕ) (room : Bool) → sampledAnswer size J n samples room ≡ 0 → Sampled size J n samples room
+pub sampled-ready : (J : Job) (n : ℕ) (samples : List ℕ) (room : Bool) → sampledAnswer J n samples room ≡ 0 → Sampled J n samples room
 unfolding sampledAnswer numbered
-sampled-ready size J n samples room e =
-    let p = all-pass (sampledRules size J n samples room) refl e in
-    let q = p .1 .1 .1 .1 in
+sampled-ready J n samples room e =
+    let p = all-pass (sampledRules J n samples room) refl e in
+    let q = p .1 .1 .1 .1 .1 in
     let r = q .1 .1 .1 .1 .1 in
     let v = r .1 .1 .1 .1 in
     record {
-      ready = ready-of size J (p .0, (p .1 .0, (p .1 .1 .0, tt))) (q .0, (q .1 .0, tt)) (r .0, (r .1 .0, (r .1 .1 .0, (r .1 .1 .1 .0, tt)))) (v .0);
+      ready = ready-of J (p .0, (p .1 .0, (p .1 .1 .0, (p .1 .1 .1 .0, tt)))) (q .0, (q .1 .0, tt)) (r .0, (r .1 .0, (r .1 .1 .0, (r .1 .1 .1 .0, tt)))) (v .0);
       some = leb-true 1 n (q .1 .1 .1 .1 .0);
-      few = leb-true n mostSamples (p .1 .1 .1 .0);
+      few = leb-true n mostSamples (p .1 .1 .1 .1 .0);
       pairs = eqb-true (length samples) (2 * n) (q .1 .1 .0);
       roomy = q .1 .1 .1 .0;
       tile = sample-tile (J .tiles) (J .T) samples n (v .1 .0);

@@ -23,7 +23,7 @@ module _ {A : Type 0} (s : List A) (a m : ℕ) (h : a + m ≤ length s) where
       subst⁻¹ P (getD-take m (drop a s) j d k ∙ getD-drop a s j d) (f (a + j) (omega arith))
 
 -- ---- tile t
-module _ (size : ℕ) (J : Job) (R : Ready size J) (t : ℕ) (l : t < J .T) where
+module _ (J : Job) (R : Ready J) (t : ℕ) (l : t < J .T) where
   pub tile-listed : 2 * t + 1 < length (J .tiles)
   tile-listed = omega (arith, R .table)
 

@@ -1,4 +1,4 @@
--- The rules that a job is held to, in their order, for tiles of at most `size` pixels. Definitions only. Assumes nothing.
+-- The rules that a job is held to, in their order. Definitions only. Assumes nothing.
 use Prim.Native.Nat.{ℕ, zero, suc, _+_, _*_}
 use mathlib.Core.Bool.{Bool, cond, _&&_}
 use mathlib.Core.List.{List, [], _∷_, _++_}
@@ -7,9 +7,13 @@ use lib.ListN.{length, getD}
 use lib.Ieee.{Float, nan, lt, le, neg}
 use Rattle.lists.specs.Every.{every, sum}
 use Rattle.job.specs.Rules.{Rule, rule, answer}
-use Rattle.job.specs.Job.{Job, firstOf, sizeOf, countsPart, mostSubpalettes, mostColours, mostTiles, mostTileColours, mostSamples, nought, two, sixteen}
+use Rattle.job.specs.Job.{Job, tileSize, firstOf, sizeOf, countsPart, mostSubpalettes, mostColours, mostTiles, mostTileColours, mostSamples, nought, two, sixteen}
 
 -- ---- numbers
+-- the tile sizes that there are
+unfoldable pub tileSized : ℕ → Bool
+tileSized size = eqb size tileSize
+
 unfoldable pub among : ℕ → ℕ → Bool
 among x most = leb 1 x && leb x most
 
@@ -75,8 +79,8 @@ unfoldable pub samplesFit : List ℕ → ℕ → List ℕ → ℕ → Bool
 samplesFit tiles t samples n = every (sampleFits tiles t samples) n
 
 -- ---- the rules in their order. A number has a line for each of its tests
-abbrev pub sizeRules : ℕ → ℕ → ℕ → List Rule
-sizeRules s c t = rule 2 (among s mostSubpalettes) ∷ rule 2 (among c mostColours) ∷ rule 2 (among t mostTiles) ∷ []
+abbrev pub sizeRules : ℕ → ℕ → ℕ → ℕ → List Rule
+sizeRules size s c t = rule 2 (tileSized size) ∷ rule 2 (among s mostSubpalettes) ∷ rule 2 (among c mostColours) ∷ rule 2 (among t mostTiles) ∷ []
 
 abbrev pub shapeRules : ℕ → List ℕ → List Float → List ℕ → List Rule
 shapeRules t tiles colours counts = rule 3 (eqb (length tiles) (2 * t)) ∷ rule 3 (eqb (length colours) (3 * length counts)) ∷ []
@@ -89,14 +93,14 @@ tableRules size t weight tiles counts =
     ∷ rule 6 (countsFit size tiles counts t) ∷ []
 
 -- 2 and 3 of a call without samples, whose palette has `palette` numbers; `room` says that the call's own lent slices have their lengths
-abbrev pub formRules : ℕ → ℕ → ℕ → List ℕ → List Float → List ℕ → ℕ → Bool → List Rule
-formRules s c t tiles colours counts palette room =
-    sizeRules s c t ++ (shapeRules t tiles colours counts ++ (rule 3 (eqb palette (3 * (s * c))) ∷ rule 3 room ∷ []))
+abbrev pub formRules : ℕ → ℕ → ℕ → ℕ → List ℕ → List Float → List ℕ → ℕ → Bool → List Rule
+formRules size s c t tiles colours counts palette room =
+    sizeRules size s c t ++ (shapeRules t tiles colours counts ++ (rule 3 (eqb palette (3 * (s * c))) ∷ rule 3 room ∷ []))
 
 -- 2, 3 and 1 of a call with n samples, for which `samples` numbers are lent
-abbrev pub sampledFormRules : ℕ → ℕ → ℕ → ℕ → List ℕ → List Float → List ℕ → ℕ → Bool → List Rule
-sampledFormRules s c t n tiles colours counts samples room =
-    sizeRules s c t
+abbrev pub sampledFormRules : ℕ → ℕ → ℕ → ℕ → ℕ → List ℕ → List Float → List ℕ → ℕ → Bool → List Rule
+sampledFormRules size s c t n tiles colours counts samples room =
+    sizeRules size s c t
     ++ (rule 2 (leb n mostSamples)
     ∷ (shapeRules t tiles colours counts ++ (rule 3 (eqb samples (2 * n)) ∷ rule 3 room ∷ rule 1 (leb 1 n) ∷ [])))
 
@@ -109,21 +113,21 @@ abbrev pub placeRules : ℕ → List ℕ → List Float → ℕ → List ℕ →
 placeRules t tiles colours n samples = rule 7 (componentsFit two colours) ∷ rule 8 (samplesFit tiles t samples n) ∷ []
 
 -- ---- the rules of a call
-abbrev pub tables : ℕ → Job → List Rule
-tables size J = tableRules size (J .T) (J .weight) (J .tiles) (J .counts)
+abbrev pub tables : Job → List Rule
+tables J = tableRules (J .size) (J .T) (J .weight) (J .tiles) (J .counts)
 
-abbrev pub plainRules : ℕ → Job → List Float → Bool → List Rule
-plainRules size J palette room =
-    formRules (J .S) (J .C) (J .T) (J .tiles) (J .colours) (J .counts) (length palette) room ++ (tables size J ++ nearRules palette (J .colours))
+abbrev pub plainRules : Job → List Float → Bool → List Rule
+plainRules J palette room =
+    formRules (J .size) (J .S) (J .C) (J .T) (J .tiles) (J .colours) (J .counts) (length palette) room ++ (tables J ++ nearRules palette (J .colours))
 
-abbrev pub sampledRules : ℕ → Job → ℕ → List ℕ → Bool → List Rule
-sampledRules size J n samples room =
-    sampledFormRules (J .S) (J .C) (J .T) n (J .tiles) (J .colours) (J .counts) (length samples) room
-    ++ (tables size J ++ placeRules (J .T) (J .tiles) (J .colours) n samples)
+abbrev pub sampledRules : Job → ℕ → List ℕ → Bool → List Rule
+sampledRules J n samples room =
+    sampledFormRules (J .size) (J .S) (J .C) (J .T) n (J .tiles) (J .colours) (J .counts) (length samples) room
+    ++ (tables J ++ placeRules (J .T) (J .tiles) (J .colours) n samples)
 
 -- the number that a call without samples, and one with n samples, gets before its own rules
-unfoldable pub plainAnswer : ℕ → Job → List Float → Bool → ℕ
-plainAnswer size J palette room = answer (plainRules size J palette room)
+unfoldable pub plainAnswer : Job → List Float → Bool → ℕ
+plainAnswer J palette room = answer (plainRules J palette room)
 
-unfoldable pub sampledAnswer : ℕ → Job → ℕ → List ℕ → Bool → ℕ
-sampledAnswer size J n samples room = answer (sampledRules size J n samples room)
+unfoldable pub sampledAnswer : Job → ℕ → List ℕ → Bool → ℕ
+sampledAnswer J n samples room = answer (sampledRules J n samples room)

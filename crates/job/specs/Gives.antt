@@ -12,7 +12,8 @@ use Rattle.ieee.specs.Terms.{Within}
 use Rattle.color.specs.Color.{Bounded}
 use Rattle.job.specs.Job.{Job, firstOf, sizeOf, countsOf, mostSubpalettes, mostColours, mostTiles, mostTileColours, mostSamples}
 
-pub record Sizes (s c t : ℕ) : Type 0 where
+pub record Sizes (size s c t : ℕ) : Type 0 where
+  pub small : size ≤ 256
   pub subs : 1 ≤ s
   pub few : s ≤ mostSubpalettes
   pub some : 1 ≤ c
@@ -21,9 +22,8 @@ pub record Sizes (s c t : ℕ) : Type 0 where
   pub tiles : t ≤ mostTiles
   pub cells : s * c ≤ mostSubpalettes * mostColours
 
--- tiles of `size` pixels at most
-pub record Ready (size : ℕ) (J : Job) : Type 0 where
-  pub sizes : Sizes (J .S) (J .C) (J .T)
+pub record Ready (J : Job) : Type 0 where
+  pub sizes : Sizes (J .size) (J .S) (J .C) (J .T)
   pub table : length (J .tiles) ≡ 2 * J .T
   pub three : length (J .colours) ≡ 3 * length (J .counts)
   pub total : length (J .counts) ≤ mostTileColours
@@ -32,11 +32,11 @@ pub record Ready (size : ℕ) (J : Job) : Type 0 where
   pub near : Bounded (J .colours) 2
   pub starts : (t : ℕ) → t < J .T → firstOf (J .tiles) t ≡ sum (sizeOf (J .tiles)) t
   pub whole : sum (sizeOf (J .tiles)) (J .T) ≡ length (J .counts)
-  pub short : (t : ℕ) → t < J .T → sizeOf (J .tiles) t ≤ size
+  pub short : (t : ℕ) → t < J .T → sizeOf (J .tiles) t ≤ J .size
   pub inside : (t : ℕ) → t < J .T → firstOf (J .tiles) t + sizeOf (J .tiles) t ≤ length (J .counts)
   pub low : (t k : ℕ) → t < J .T → k < length (countsOf J t) → 1 ≤ getD (countsOf J t) k 0
-  pub high : (t k : ℕ) → t < J .T → k < length (countsOf J t) → getD (countsOf J t) k 0 ≤ size
-  pub full : (t : ℕ) → t < J .T → sum (λ k. getD (countsOf J t) k 0) (length (countsOf J t)) ≤ size
+  pub high : (t k : ℕ) → t < J .T → k < length (countsOf J t) → getD (countsOf J t) k 0 ≤ J .size
+  pub full : (t : ℕ) → t < J .T → sum (λ k. getD (countsOf J t) k 0) (length (countsOf J t)) ≤ J .size
 
 -- a palette of S·C colours lent beside a job
 pub record Lent (s c : ℕ) (palette : List Float) : Type 0 where
@@ -44,14 +44,14 @@ pub record Lent (s c : ℕ) (palette : List Float) : Type 0 where
   pub near : Bounded palette 2
 
 -- a call without samples that is not refused
-pub record Plain (size : ℕ) (J : Job) (palette : List Float) (room : Bool) : Type 0 where
-  pub ready : Ready size J
+pub record Plain (J : Job) (palette : List Float) (room : Bool) : Type 0 where
+  pub ready : Ready J
   pub lent : Lent (J .S) (J .C) palette
   pub roomy : room ≡ true
 
 -- a call with samples that is not refused
-pub record Sampled (size : ℕ) (J : Job) (n : ℕ) (samples : List ℕ) (room : Bool) : Type 0 where
-  pub ready : Ready size J
+pub record Sampled (J : Job) (n : ℕ) (samples : List ℕ) (room : Bool) : Type 0 where
+  pub ready : Ready J
   pub some : 1 ≤ n
   pub few : n ≤ mostSamples
   pub pairs : length samples ≡ 2 * n

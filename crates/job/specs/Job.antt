@@ -8,6 +8,8 @@ use lib.Ieee.{Float, binary32, ofBits}
 
 -- S subpalettes of C colours, T tiles; two numbers a tile in the table, three a colour
 pub record Job : Type 0 where
+  -- the pixels of a tile, at most
+  pub size : ℕ
   pub S : ℕ
   pub C : ℕ
   pub T : ℕ
@@ -16,8 +18,8 @@ pub record Job : Type 0 where
   pub colours : List Float
   pub counts : List ℕ
 
-abbrev pub job : ℕ → ℕ → ℕ → Float → List ℕ → List Float → List ℕ → Job
-job s c t weight tiles colours counts = record { S = s; C = c; T = t; weight = weight; tiles = tiles; colours = colours; counts = counts }
+abbrev pub job : ℕ → ℕ → ℕ → ℕ → Float → List ℕ → List Float → List ℕ → Job
+job size s c t weight tiles colours counts = record { size = size; S = s; C = c; T = t; weight = weight; tiles = tiles; colours = colours; counts = counts }
 
 -- ---- the tile table: first colour and number of colours of each tile
 abbrev pub firstOf : List ℕ → ℕ → ℕ
@@ -49,7 +51,7 @@ pub record Placed (per : ℕ) (tiles : List ℕ) (t length·part : ℕ) : Type 0
   pub inside : per * (firstOf tiles t + sizeOf tiles t) ≤ length·part
 
 -- ---- limits
--- the pixels of a tile, which every definition below takes as `size`: only the public calls name this
+-- the pixels of a tile
 abbrev pub tileSize : ℕ
 tileSize = 64
 

@@ -1,8 +1,9 @@
 // The numbers of a job that have limits of their own: its sizes and its weight.
 // Assumes nothing of them: they are what a stranger wrote.
+use sizes::Sizes;
 ghost use mathlib.Core.Path.{_≡_};
 ghost use Rattle.job.specs.Rules.{answer};
-ghost use Rattle.job.specs.Checks.{among, weightFits, sizeRules};
+ghost use Rattle.job.specs.Checks.{tileSized, among, weightFits, sizeRules};
 
 const MOST_SUBPALETTES: usize = 16;
 
@@ -22,6 +23,13 @@ pub fn is_among(x: usize, most: usize) -> bool
     false
 }
 
+// The pixels that a tile may have.
+pub fn is_tile_size(x: usize) -> bool
+    ensures { λ r. ⌜ r ≡ tileSized x ⌝ }
+{
+    x == job::TILE_SIZE
+}
+
 pub fn weight_fits(w: f32) -> bool
     ensures { λ r. ⌜ r ≡ weightFits w ⌝ }
 {
@@ -32,16 +40,19 @@ pub fn weight_fits(w: f32) -> bool
 }
 
 // The tests of number 2 that every call shares.
-pub fn check_sizes(s: usize, c: usize, t: usize) -> u32
-    ensures { λ r. ⌜ r ≡ answer (sizeRules s c t) ⌝ }
+pub fn check_sizes(z: Sizes) -> u32
+    ensures { λ r. ⌜ r ≡ answer (sizeRules (z .size) (z .s) (z .c) (z .t)) ⌝ }
 {
-    if !is_among(s, MOST_SUBPALETTES) {
+    if !is_tile_size(z.size) {
         return 2;
     }
-    if !is_among(c, MOST_COLOURS) {
+    if !is_among(z.s, MOST_SUBPALETTES) {
         return 2;
     }
-    if !is_among(t, MOST_TILES) {
+    if !is_among(z.c, MOST_COLOURS) {
+        return 2;
+    }
+    if !is_among(z.t, MOST_TILES) {
         return 2;
     }
     0

@@ -1,5 +1,6 @@
 // Which number a group of a job's rules gives: its tables, its samples.
 // Each takes what a stranger wrote, where the groups before it have passed: no sum or product in it can wrap.
+use sizes::Sizes;
 ghost use mathlib.Core.Path.{_≡_};
 ghost use Prim.Native.Nat.{_*_};
 ghost use lib.ListN.{length};
@@ -9,35 +10,35 @@ ghost use Rattle.job.specs.Checks.{tableRules, placeRules};
 const MOST_TILE_COLOURS: usize = 16384;
 
 // Numbers 4 to 6, of a job whose slices have their lengths.
-pub fn check_tables(size: usize, t: usize, weight: f32, tiles: &[u32], counts: &[u32]) -> u32
-    requires { ⌜ length (now tiles) ≡ 2 * t ⌝ }
-    ensures { λ r. ⌜ r ≡ answer (tableRules size t weight (now (tiles .entry)) (now (counts .entry))) ⌝ }
+pub fn check_tables(z: Sizes, tiles: &[u32], counts: &[u32]) -> u32
+    requires { ⌜ length (now tiles) ≡ 2 * z .t ⌝ }
+    ensures { λ r. ⌜ r ≡ answer (tableRules (z .size) (z .t) (z .weight) (now (tiles .entry)) (now (counts .entry))) ⌝ }
 {
-    if !job_limits::weight_fits(weight) {
+    if !job_limits::weight_fits(z.weight) {
         return 4;
     }
     let total = counts.len();
     if total > MOST_TILE_COLOURS {
         return 5;
     }
-    if !job_tiles::tiles_fit(size, tiles, t, total) {
+    if !job_tiles::tiles_fit(z.size, tiles, z.t, total) {
         return 5;
     }
-    if !job_tables::counts_fit(size, tiles, t, counts) {
+    if !job_tables::counts_fit(z.size, tiles, z.t, counts) {
         return 6;
     }
     0
 }
 
 // Numbers 7 and 8 of a call with n samples.
-pub fn check_places(t: usize, tiles: &[u32], colours: &[f32], n: usize, samples: &[u32]) -> u32
-    requires { ⌜ (length (now tiles) ≡ 2 * t) × (length (now samples) ≡ 2 * n) ⌝ }
-    ensures { λ r. ⌜ r ≡ answer (placeRules t (now (tiles .entry)) (now (colours .entry)) n (now (samples .entry))) ⌝ }
+pub fn check_places(z: Sizes, tiles: &[u32], colours: &[f32], samples: &[u32]) -> u32
+    requires { ⌜ (length (now tiles) ≡ 2 * z .t) × (length (now samples) ≡ 2 * z .n) ⌝ }
+    ensures { λ r. ⌜ r ≡ answer (placeRules (z .t) (now (tiles .entry)) (now (colours .entry)) (z .n) (now (samples .entry))) ⌝ }
 {
     if components::first_bad(colours, job::MOST_COMPONENT) != colours.len() {
         return 7;
     }
-    if !job_tables::samples_fit(tiles, t, samples, n) {
+    if !job_tables::samples_fit(tiles, z.t, samples, z.n) {
         return 8;
     }
     0

@@ -82,10 +82,10 @@ module _ (J : Job) (pal : List Float) (n have : ℕ) (S : Shown J pal n have) wh
         sub = part-bounded J pal n have S i m;
         weight = S .ready .weight;
         heavy = S .ready .heavy;
-        three = tile-three (S .size) J (S .ready) t l;
-        near = tile-near (S .size) J (S .ready) t l;
+        three = tile-three J (S .ready) t l;
+        near = tile-near J (S .ready) t l;
         low = λ k v. S .ready .low t k l v;
-        high = λ k v. omega (arith, S .ready .high t k l v, S .small);
+        high = λ k v. omega (arith, S .ready .high t k l v, S .ready .sizes .small);
       }
 
   start : Fine nothing (65536 * 0)
@@ -105,9 +105,9 @@ module _ (J : Job) (pal : List Float) (n have : ℕ) (S : Shown J pal n have) wh
       by : (e : Bool) → Fine (cond e a (tileTally (subOf pal (J .C) have (winner J pal n have t)) (tileAt J t) (J .weight) a (sizeOf (J .tiles) t))) (65536 * suc t)
       by true = looser a (65536 * t) (65536 * suc t) (omega arith) F
       by false =
-          looser _ (65536 * t + 256 * sizeOf (J .tiles) t) (65536 * suc t) (omega (arith, S .ready .short t l, S .small))
+          looser _ (65536 * t + 256 * sizeOf (J .tiles) t) (65536 * suc t) (omega (arith, S .ready .short t l, S .ready .sizes .small))
           (tile-fine (subOf pal (J .C) have (winner J pal n have t)) (tileAt J t) (J .weight) (summed t l (winner J pal n have t) (winner-below J pal n have S t)) a (65536 * t) (sizeOf (J .tiles) t)
-          (omega (arith, counts-length (S .size) J (S .ready) t l)) (omega (arith, S .ready .short t l, S .small, S .ready .sizes .tiles)) F)
+          (omega (arith, counts-length J (S .ready) t l)) (omega (arith, S .ready .short t l, S .ready .sizes .small, S .ready .sizes .tiles)) F)
 
   pub tally-fine : (t : ℕ) → t ≤ J .T → Fine (tallyOf J pal n have t) (65536 * t)
   unfolding tallyOf

@@ -27,10 +27,10 @@ module _ (J : Job) (pal : List Float) (n have : ℕ) (hints : List ℕ) (t : ℕ
   shown = K .paired .shown
 
   pub turn-colours : Placed 3 (J .tiles) t (length (J .colours))
-  turn-colours = colours-placed (shown .size) J (shown .ready) t (K .paired .tile)
+  turn-colours = colours-placed J (shown .ready) t (K .paired .tile)
 
   pub turn-counts : Placed 1 (J .tiles) t (length (J .counts))
-  turn-counts = counts-placed (shown .size) J (shown .ready) t (K .paired .tile)
+  turn-counts = counts-placed J (shown .ready) t (K .paired .tile)
 
   -- r is what the code's test of an empty tile answers
   module _ (r : Bool) (R : r ≡ isEmpty J t) where
@@ -61,7 +61,7 @@ module _ (J : Job) (pal : List Float) (n have : ℕ) (hints : List ℕ) (t : ℕ
           mine = S ∙ ap (subOf pal (J .C) have) index
 
           size : length part ≡ sizeOf (J .tiles) t
-          size = ap length C ∙ counts-length (shown .size) J (shown .ready) t (K .paired .tile)
+          size = ap length C ∙ counts-length J (shown .ready) t (K .paired .tile)
 
           pub turn-summed : Summed sub (tileWith tile part) (J .weight) × (a .count + 256 * length part < 18446744073709551616)
           turn-summed = (
@@ -69,7 +69,7 @@ module _ (J : Job) (pal : List Float) (n have : ℕ) (hints : List ℕ) (t : ℕ
                 (subst⁻¹ (λ (x : List Float). Summed (subOf pal (J .C) have (winner J pal n have t)) (tileWith x part) (J .weight)) E
                 (subst⁻¹ (λ (x : List ℕ). Summed (subOf pal (J .C) have (winner J pal n have t)) (tileWith (tileOf J t) x) (J .weight)) C
                 (summed J pal n have shown t (K .paired .tile) (winner J pal n have t) (winner-below J pal n have shown t)))),
-            omega (arith, size, K .few, K .paired .tile, shown .ready .sizes .tiles, shown .ready .short t (K .paired .tile), shown .small),
+            omega (arith, size, K .few, K .paired .tile, shown .ready .sizes .tiles, shown .ready .short t (K .paired .tile), shown .ready .sizes .small),
           )
 
           pub turn-done : (x : Tally) (after : List ℕ) → x ≡ tileTally sub (tileWith tile part) (J .weight) a (length part) → after ≡ set hints t (b .index) → (x ≡ tallyStep J pal n have t a) × (after ≡ hintStep J pal n have t hints)

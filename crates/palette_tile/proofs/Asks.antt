@@ -16,10 +16,10 @@ use Rattle.palette_tile.proofs.Present.{tile-fits, tile-hinted}
 
 module _ (J : Job) (pal : List Float) (n have : ℕ) (hints : List ℕ) (t : ℕ) (K : Paired J pal n have hints t) where
   pub colours-asked : Placed 3 (J .tiles) t (length (J .colours))
-  colours-asked = colours-placed (K .shown .size) J (K .shown .ready) t (K .tile)
+  colours-asked = colours-placed J (K .shown .ready) t (K .tile)
 
   pub counts-asked : Placed 1 (J .tiles) t (length (J .counts))
-  counts-asked = counts-placed (K .shown .size) J (K .shown .ready) t (K .tile)
+  counts-asked = counts-placed J (K .shown .ready) t (K .tile)
 
   module _ (tile : List Float) (part : List ℕ) (e : tile ≡ tileOf J t) (g : part ≡ countsOf J t) where
     pub two-asked : Fits (presentIn J pal n have) (tileWith tile part) (J .weight) × Hinted n hints t
@@ -41,4 +41,4 @@ pub fit-asked : (J : Job) (pal : List Float) (n have : ℕ) (hints : List ℕ) (
     → Fits (presentIn J pal n have) (tileWith tile part) (J .weight) × ((1 ≤ length part) × Hinted n hints t)
 fit-asked J pal n have hints t K tile part e g =
     let A = two-asked J pal n have hints t (K .paired) tile part e g in
-    (A .0, (omega (arith, ap length g, counts-length (K .paired .shown .size) J (K .paired .shown .ready) t (K .paired .tile), K .full), A .1))
+    (A .0, (omega (arith, ap length g, counts-length J (K .paired .shown .ready) t (K .paired .tile), K .full), A .1))

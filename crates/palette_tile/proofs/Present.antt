@@ -66,17 +66,17 @@ module _ (J : Job) (pal : List Float) (n have : ℕ) (S : Shown J pal n have) wh
     pub tile-counted : Counted (tileAt J t)
     tile-counted =
         record {
-          three = tile-three (S .size) J (S .ready) t l;
-          finite = tile-finite (S .size) J (S .ready) t l;
+          three = tile-three J (S .ready) t l;
+          finite = tile-finite J (S .ready) t l;
           low = λ k m. S .ready .low t k l m;
-          high = λ k m. omega (arith, S .ready .high t k l m, S .small);
+          high = λ k m. omega (arith, S .ready .high t k l m, S .ready .sizes .small);
         }
 
     pub tile-fits : Fits (presentIn J pal n have) (tileAt J t) (J .weight)
     tile-fits = record { palette = shown-present; tile = tile-counted; weight = S .ready .weight }
 
     pub tile-sized : (k : ℕ) → k < sizeOf (J .tiles) t → Sized (colourAt (tileOf J t) k) 2
-    tile-sized k = nth-sized (tileOf J t) 2 (sizeOf (J .tiles) t) k (tile-near (S .size) J (S .ready) t l) (tile-length (S .size) J (S .ready) t l)
+    tile-sized k = nth-sized (tileOf J t) 2 (sizeOf (J .tiles) t) k (tile-near J (S .ready) t l) (tile-length J (S .ready) t l)
 
     pub tile-hinted : (hints : List ℕ) → length hints ≡ J .T → Hinted n hints t
     tile-hinted hints e = record { subs = S .subs; few = omega (arith, S .most, S .ready .sizes .few); at = omega arith }

@@ -44,9 +44,7 @@ hintsOf J pal n have h (suc t) = hintStep J pal n have t (hintsOf J pal n have h
 -- ---- what the functions ask
 -- a job that passed at some tile size, and its palette, of which n subpalettes of `have` colours are present
 pub record Shown (J : Job) (pal : List Float) (n have : ℕ) : Type 0 where
-  pub size : ℕ
-  pub small : size ≤ 256
-  pub ready : Ready size J
+  pub ready : Ready J
   pub subs : 1 ≤ n
   pub most : n ≤ J .S
   pub some : 1 ≤ have

@@ -2,17 +2,15 @@
 // Each function gives what its definition in specs/Tiles.antt says; no definition reads a hint.
 ghost use mathlib.Core.Path.{_≡_};
 ghost use lib.ListN.{set};
-ghost use Rattle.job.specs.Job.{job};
+ghost use Rattle.sizes.specs.Sized.{jobOf};
 ghost use Rattle.palette_tile.specs.Tiles.{fitAt, twoAt, Fitted, Paired};
+use sizes::Sizes;
 use stats::Near;
 use stats::Two;
 
 // Index and distance of the subpalette that fits tile i best, which is not empty, among n subpalettes of `have` colours.
 pub fn tile_fit(
-    s: usize,
-    c: usize,
-    t: usize,
-    weight: f32,
+    z: Sizes,
     tiles: &[u32],
     colours: &[f32],
     counts: &[u32],
@@ -22,20 +20,17 @@ pub fn tile_fit(
     hints: &mut [u32],
     i: usize,
 ) -> Near
-    requires { ⌜ Fitted (job s c t weight (now tiles) (now colours) (now counts)) (now pal) n have (now hints) i ⌝ }
-    ensures { λ r. ⌜ (r ≡ fitAt (job s c t weight (now (tiles .entry)) (now (colours .entry)) (now (counts .entry))) (now (pal .entry)) n have i) × (now (hints .exit) ≡ set (now (hints .entry)) i (r .index)) ⌝ }
+    requires { ⌜ Fitted (jobOf z (now tiles) (now colours) (now counts)) (now pal) n have (now hints) i ⌝ }
+    ensures { λ r. ⌜ (r ≡ fitAt (jobOf z (now (tiles .entry)) (now (colours .entry)) (now (counts .entry))) (now (pal .entry)) n have i) × (now (hints .exit) ≡ set (now (hints .entry)) i (r .index)) ⌝ }
 {
     let tile = job::tile_part(tiles, colours, i);
     let part = job::counts_part(tiles, counts, i);
-    palette_hint::best_fit(pal, c, have, n, tile, part, weight, hints, i)
+    palette_hint::best_fit(pal, z.c, have, n, tile, part, z.weight, hints, i)
 }
 
 // The best two for tile i, which may be empty.
 pub fn tile_two(
-    s: usize,
-    c: usize,
-    t: usize,
-    weight: f32,
+    z: Sizes,
     tiles: &[u32],
     colours: &[f32],
     counts: &[u32],
@@ -45,10 +40,10 @@ pub fn tile_two(
     hints: &mut [u32],
     i: usize,
 ) -> Two
-    requires { ⌜ Paired (job s c t weight (now tiles) (now colours) (now counts)) (now pal) n have (now hints) i ⌝ }
-    ensures { λ r. ⌜ (r ≡ twoAt (job s c t weight (now (tiles .entry)) (now (colours .entry)) (now (counts .entry))) (now (pal .entry)) n have i) × (now (hints .exit) ≡ set (now (hints .entry)) i (r .index)) ⌝ }
+    requires { ⌜ Paired (jobOf z (now tiles) (now colours) (now counts)) (now pal) n have (now hints) i ⌝ }
+    ensures { λ r. ⌜ (r ≡ twoAt (jobOf z (now (tiles .entry)) (now (colours .entry)) (now (counts .entry))) (now (pal .entry)) n have i) × (now (hints .exit) ≡ set (now (hints .entry)) i (r .index)) ⌝ }
 {
     let tile = job::tile_part(tiles, colours, i);
     let part = job::counts_part(tiles, counts, i);
-    palette_hint::best_two(pal, c, have, n, tile, part, weight, hints, i)
+    palette_hint::best_two(pal, z.c, have, n, tile, part, z.weight, hints, i)
 }

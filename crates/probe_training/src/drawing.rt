@@ -5,6 +5,7 @@ ghost use Rattle.job.specs.Job.{job};
 ghost use Rattle.quantizer.specs.Course.{course};
 ghost use Rattle.quantizer_draw.specs.Draws.{Going};
 use prng::Prng;
+use sizes::Sizes;
 use sample_cycle::SampleCycle;
 
 // Gives the generator's state after the draw.
@@ -32,12 +33,9 @@ pub extern "C" fn probe_draw(
 {
     let prng = Prng { state };
     let at = SampleCycle { prng, made };
+    let z = Sizes { size: 64, s, c, t, n, weight };
     let after = quantizer_draw::draw(
-        s,
-        c,
-        t,
-        n,
-        weight,
+        z,
         tiles,
         colours,
         counts,

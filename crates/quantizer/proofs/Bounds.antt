@@ -30,13 +30,13 @@ use Rattle.quantizer.proofs.Lengths.{shares-wide, spread-wide, length-g
 use Rattle.quantizer.proofs.Indexes.{split-below, from-below, to-below, shown-subs, row-256, target-in}
 
 -- ---- seeding
-module _ (size : ℕ) (K : Course) (room : Bool) (D : Sampled size (K .job) (K .n) (K .samples) room) where
+module _ (K : Course) (room : Bool) (D : Sampled (K .job) (K .n) (K .samples) room) where
   pub sample-sized : (i : ℕ) → i < K .n → Sized (sampleColour K i) 2
   unfolding sampleColour
   sample-sized i l =
       let t = sampleTile K i in
-      colour-sized (tileOf (K .job) t) 2 (samplePlace K i) (tile-near size (K .job) (D .ready) t (D .tile i l))
-      (third (length (tileOf (K .job) t)) (tile-length size (K .job) (D .ready) t (D .tile i l)))
+      colour-sized (tileOf (K .job) t) 2 (samplePlace K i) (tile-near (K .job) (D .ready) t (D .tile i l))
+      (third (length (tileOf (K .job) t)) (tile-length (K .job) (D .ready) t (D .tile i l)))
     where
       third : (z : ℕ) → z ≡ 3 * sizeOf (K .job .tiles) (sampleTile K i) → samplePlace K i < z / 3
       third z e = omega (arith, D .place i l)

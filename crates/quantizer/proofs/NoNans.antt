@@ -48,7 +48,7 @@ module _ (J : Job) (pal : List Float) (n have : ℕ) (S : Shown J pal n have) (t
   -- ---- a tile that goes to subpalette i
   module _ (i : ℕ) (m : i < n) where
     count-good : (k : ℕ) → k < length (tileAt J t .counts) → T (positive (ofInt binary32 (pos (getD (tileAt J t .counts) k 0))))
-    count-good k o = count-positive binary32 (getD (tileAt J t .counts) k 0) (S .ready .low t k l o) (omega (arith, S .ready .high t k l o, S .small))
+    count-good k o = count-positive binary32 (getD (tileAt J t .counts) k 0) (S .ready .low t k l o) (omega (arith, S .ready .high t k l o, S .ready .sizes .small))
 
     gaps-good : (k : ℕ) → k < length (tileAt J t .counts) → (j : ℕ) → j < length (subOf pal (J .C) have i) / 3 → Good binary32 (gap (subOf pal (J .C) have i) (colourAt (tileAt J t .colours) k) (J .weight) j)
     gaps-good k o j p =

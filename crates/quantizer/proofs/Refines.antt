@@ -114,14 +114,14 @@ nothing-gathered =
 
 module _ (J : Job) (pal : List Float) (S : Shown J pal (J .S) (J .C)) where
   tile-colour : (t : ℕ) → t < J .T → (k : ℕ) → k < length (tileAt J t .counts) → Sized (colourAt (tileAt J t .colours) k) 2
-  tile-colour t l k m = tile-sized J pal (J .S) (J .C) S t l k (omega (arith, counts-length (S .size) J (S .ready) t l))
+  tile-colour t l k m = tile-sized J pal (J .S) (J .C) S t l k (omega (arith, counts-length J (S .ready) t l))
 
   -- a place of a subpalette is one of the 256
   pub gather-place : (i : ℕ) → i < J .S → (q : Oklab) → i * J .C + nearestOf (subOf pal (J .C) (J .C) i) q (J .weight) .index < 256
   gather-place i l q = place-256 J pal (J .S) (J .C) S i (nearestOf (subOf pal (J .C) (J .C) i) q (J .weight) .index) l (part-nearest J pal (J .S) (J .C) S i l q)
 
   tile-pixels : (t : ℕ) → t < J .T → sum (λ k. getD (tileAt J t .counts) k 0) (length (tileAt J t .counts)) ≤ 256
-  tile-pixels t l = le-trans (S .ready .full t l) (S .small)
+  tile-pixels t l = le-trans (S .ready .full t l) (S .ready .sizes .small)
 
   pub gathered : (t : ℕ) → t ≤ J .T → Gathered (gatherOf J pal t) (256 * t)
   unfolding gatherOf gatherStep

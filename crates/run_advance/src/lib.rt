@@ -1,7 +1,8 @@
 // The public call that makes a run's draws: at most an allotment, none past a stop.
+use sizes::Sizes;
 ghost use mathlib.Core.Path.{_≡_};
-ghost use Rattle.job.specs.Job.{job, tileSize};
-ghost use Rattle.quantizer.specs.Course.{course};
+ghost use Prim.Native.Nat.{_≤_};
+ghost use Rattle.sized_course.specs.Sized.{courseOf};
 ghost use Rattle.stages.specs.State.{draws};
 ghost use Rattle.stages.specs.Stages.{advance};
 ghost use Rattle.stages.specs.Calls.{memory, outcome, advanceCall};
@@ -14,11 +15,7 @@ pub struct Advanced {
 
 // A refusal makes no draw and writes nothing.
 pub fn advance(
-    s: usize,
-    c: usize,
-    t: usize,
-    n: usize,
-    weight: f32,
+    z: Sizes,
     tiles: &[u32],
     colours: &[f32],
     counts: &[u32],
@@ -30,14 +27,11 @@ pub fn advance(
     words: &mut [u64],
     allotment: u64,
 ) -> Advanced
-    ensures { λ x. ⌜ outcome (x .number) (x .draws) (memory (now (order .exit)) (now (hints .exit)) (now (palette .exit)) (now (least .exit)) (now (words .exit))) ≡ advanceCall tileSize (course (job s c t weight (now (tiles .entry)) (now (colours .entry)) (now (counts .entry))) n (now (samples .entry))) (memory (now (order .entry)) (now (hints .entry)) (now (palette .entry)) (now (least .entry)) (now (words .entry))) allotment ⌝ }
+    requires { ⌜ z .size ≤ 256 ⌝ }
+    ensures { λ x. ⌜ outcome (x .number) (x .draws) (memory (now (order .exit)) (now (hints .exit)) (now (palette .exit)) (now (least .exit)) (now (words .exit))) ≡ advanceCall (z .size) (courseOf z (now (tiles .entry)) (now (colours .entry)) (now (counts .entry)) (now (samples .entry))) (memory (now (order .entry)) (now (hints .entry)) (now (palette .entry)) (now (least .entry)) (now (words .entry))) allotment ⌝ }
 {
     let number = run_check::refuses_advance(
-        s,
-        c,
-        t,
-        n,
-        weight,
+        z,
         tiles,
         colours,
         counts,
@@ -52,11 +46,7 @@ pub fn advance(
         return Advanced { number, draws: 0 };
     }
     let draws = run_steps::advance_work(
-        s,
-        c,
-        t,
-        n,
-        weight,
+        z,
         tiles,
         colours,
         counts,

@@ -30,12 +30,12 @@ held-rules : (J : Job) (n : ℕ) (samples : List ℕ) (m : Memory) (r : Record) 
 unfolding stateOf stageOf placeFits madeBy
 held-rules J n samples m r q b h = rw q at h
 
-module _ (size : ℕ) (J : Job) (n : ℕ) (samples : List ℕ) where
+module _ (J : Job) (n : ℕ) (samples : List ℕ) where
   abbrev sizesOf : List Rule
-  sizesOf = sizeRules (J .S) (J .C) (J .T)
+  sizesOf = sizeRules (J .size) (J .S) (J .C) (J .T)
 
   abbrev ruled : Bool → List Rule
-  ruled r = jobRules size (course J n samples) r
+  ruled r = jobRules (course J n samples) r
 
   -- lengths matter only where the sizes are in their ranges
   pub room-free : (r p : Bool) (rest : List Rule) → Roomy (J .S) (J .C) r p → answer (ruled r ++ rest) ≡ answer (ruled p ++ rest)
@@ -43,12 +43,12 @@ module _ (size : ℕ) (J : Job) (n : ℕ) (samples : List ℕ) where
   room-free r p rest h = by (eqb (answer sizesOf) 0) refl
     where
       by : (z : Bool) → eqb (answer sizesOf) 0 ≡ z → answer (ruled r ++ rest) ≡ answer (ruled p ++ rest)
-      by true e = let Z = sizes-of (J .S) (J .C) (J .T) (answer sizesOf) refl (eqb-true (answer sizesOf) 0 e) in
+      by true e = let Z = sizes-of (J .size) (J .S) (J .C) (J .T) (answer sizesOf) refl (eqb-true (answer sizesOf) 0 e) in
           ap (λ (x : Bool). answer (ruled x ++ rest)) (h (Z .few) (Z .cap))
       by false e = sym (stops sizesOf _ (answer sizesOf) refl refl (eqb-false (answer sizesOf) 0 e)) ∙ stops sizesOf _ (answer sizesOf) refl refl (eqb-false (answer sizesOf) 0 e)
 
   -- ---- the job
-  module _ (r : Bool) (a : ℕ) (e : a ≡ sampledAnswer size J n samples r) where
+  module _ (r : Bool) (a : ℕ) (e : a ≡ sampledAnswer J n samples r) where
     job-stops : (a ≡ 0 → ⊥) → (rest : List Rule) → a ≡ answer (ruled r ++ rest)
     unfolding sampledAnswer numbered
     job-stops h rest = stops (ruled r) rest a refl e h
@@ -58,10 +58,10 @@ module _ (size : ℕ) (J : Job) (n : ℕ) (samples : List ℕ) where
     job-goes z b rest h = goes (ruled r) rest a b refl e z h
 
     pub job-room : a ≡ 0 → r ≡ true
-    job-room z = sampled-ready size J n samples r (sym e ∙ z) .roomy
+    job-room z = sampled-ready J n samples r (sym e ∙ z) .roomy
 
     pub job-sized : a ≡ 0 → Sized (J .S) (J .C) n
-    job-sized z = let R = sampled-ready size J n samples r (sym e ∙ z) in
+    job-sized z = let R = sampled-ready J n samples r (sym e ∙ z) in
         record { subs = R .ready .sizes .subs; few = R .ready .sizes .few; some = R .ready .sizes .some; cap = R .ready .sizes .cap; short = R .few }
 
     pub job-whole : (p : Bool) → Roomy (J .S) (J .C) r p → a ≡ answer (ruled p)
@@ -69,21 +69,21 @@ module _ (size : ℕ) (J : Job) (n : ℕ) (samples : List ℕ) where
     job-whole p h = e ∙ room-free r p [] h
 
   -- ---- the job, then what a run holds
-  module _ (m : Memory) (r : Bool) (a : ℕ) (e : a ≡ sampledAnswer size J n samples r) where
-    pub held-stops : (a ≡ 0 → ⊥) → a ≡ runAnswer size (course J n samples) m r
+  module _ (m : Memory) (r : Bool) (a : ℕ) (e : a ≡ sampledAnswer J n samples r) where
+    pub held-stops : (a ≡ 0 → ⊥) → a ≡ runAnswer (course J n samples) m r
     unfolding runAnswer
     held-stops h = job-stops r a e h (stateRules (course J n samples) (stateOf m))
 
     pub held-goes : a ≡ 0 → (w : Record) → w ≡ recordOf (m .words) → (b : ℕ) → b ≡ answer (stateRules (sized (J .S) (J .C) n) (stateWith (m .order) [] (m .palette) (m .least) w))
-        → b ≡ runAnswer size (course J n samples) m r
+        → b ≡ runAnswer (course J n samples) m r
     unfolding runAnswer
     held-goes z w q b h = job-goes r a e z b (stateRules (course J n samples) (stateOf m)) (held-rules J n samples m w q b h)
 
   -- ---- then the call's own rules
-  module _ (m : Memory) (r : Bool) (a : ℕ) (e : a ≡ runAnswer size (course J n samples) m r) where
+  module _ (m : Memory) (r : Bool) (a : ℕ) (e : a ≡ runAnswer (course J n samples) m r) where
     pub run-room : a ≡ 0 → r ≡ true
     unfolding runAnswer numbered
-    run-room z = all-pass (ruled r ++ stateRules (course J n samples) (stateOf m)) refl (sym e ∙ z) .1 .1 .1 .1 .1 .1 .1 .0
+    run-room z = all-pass (ruled r ++ stateRules (course J n samples) (stateOf m)) refl (sym e ∙ z) .1 .1 .1 .1 .1 .1 .1 .1 .0
 
     module _ (p : Bool) (h : Roomy (J .S) (J .C) r p) (own : List Rule) where
       pub run-stops : (a ≡ 0 → ⊥) → a ≡ answer (ruled p ++ (stateRules (course J n samples) (stateOf m) ++ own))

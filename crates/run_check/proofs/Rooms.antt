@@ -10,7 +10,7 @@ use lib.Ieee.{Float}
 use lib.ListN.{length}
 use borrow.Author.Tests.{eq-eqb, ne-eqb, eqb-true, not-true, not-false}
 use Rattle.job.specs.Job.{mostSubpalettes, mostColours}
-use Rattle.quantizer.specs.Course.{Course}
+use Rattle.sizes.specs.declared.Sizes.{Sizes}
 use Rattle.stages.specs.Calls.{memory, memoryRoom, coloursRoom}
 use Rattle.run_check.specs.Room.{plain, Roomy, Lends}
 
@@ -26,44 +26,44 @@ cells-few s c h l = mul-le-mul h l
 refused : (words : List ℕ) → false ≡ true → length words ≡ 6
 refused words h = absurd (true≢false (sym h))
 
-module _ (s c t n : ℕ) (order hints : List ℕ) (palette least : List Float) (words : List ℕ) where
+module _ (z : Sizes) (order hints : List ℕ) (palette least : List Float) (words : List ℕ) where
   abbrev lent : Bool
-  lent = memoryRoom 64 (plain s c t n) (memory order hints palette least words)
+  lent = memoryRoom (plain z) (memory order hints palette least words)
 
-  pub order-unlike : (length order ≡ n → ⊥) → Lends s c false lent words
+  pub order-unlike : (length order ≡ z .n → ⊥) → Lends (z .s) (z .c) false lent words
   unfolding memoryRoom
-  order-unlike h = record { same = λ _ _. rw (ne-eqb (length order) n h); six = refused words }
+  order-unlike h = record { same = λ _ _. rw (ne-eqb (length order) (z .n) h); six = refused words }
 
-  module _ (o : length order ≡ n) where
-    pub hints-unlike : (length hints ≡ t → ⊥) → Lends s c false lent words
+  module _ (o : length order ≡ z .n) where
+    pub hints-unlike : (length hints ≡ z .t → ⊥) → Lends (z .s) (z .c) false lent words
     unfolding memoryRoom
-    hints-unlike h = record { same = λ _ _. rw (eq-eqb (length order) n o, ne-eqb (length hints) t h); six = refused words }
+    hints-unlike h = record { same = λ _ _. rw (eq-eqb (length order) (z .n) o, ne-eqb (length hints) (z .t) h); six = refused words }
 
-    module _ (i : length hints ≡ t) (x : Bool) (p : Roomy s c x (eqb (length palette) (3 * (s * c)))) where
-      pub palette-unlike : not x ≡ true → Lends s c false lent words
+    module _ (i : length hints ≡ z .t) (x : Bool) (p : Roomy (z .s) (z .c) x (eqb (length palette) (3 * (z .s * z .c)))) where
+      pub palette-unlike : not x ≡ true → Lends (z .s) (z .c) false lent words
       unfolding memoryRoom coloursRoom
-      palette-unlike h = record { same = λ l m. rw (eq-eqb (length order) n o, eq-eqb (length hints) t i, ← p l m, not-true x h); six = refused words }
+      palette-unlike h = record { same = λ l m. rw (eq-eqb (length order) (z .n) o, eq-eqb (length hints) (z .t) i, ← p l m, not-true x h); six = refused words }
 
-      module _ (a : not x ≡ false) (y : Bool) (q : Roomy s c y (eqb (length least) (3 * (s * c)))) where
-        pub least-unlike : not y ≡ true → Lends s c false lent words
+      module _ (a : not x ≡ false) (y : Bool) (q : Roomy (z .s) (z .c) y (eqb (length least) (3 * (z .s * z .c)))) where
+        pub least-unlike : not y ≡ true → Lends (z .s) (z .c) false lent words
         unfolding memoryRoom coloursRoom
         least-unlike h = record {
-          same = λ l m. rw (eq-eqb (length order) n o, eq-eqb (length hints) t i, ← p l m, not-false x a, ← q l m, not-true y h);
+          same = λ l m. rw (eq-eqb (length order) (z .n) o, eq-eqb (length hints) (z .t) i, ← p l m, not-false x a, ← q l m, not-true y h);
           six = refused words;
         }
 
-        pub words-last : not y ≡ false → Lends s c (eqb (length words) 6) lent words
+        pub words-last : not y ≡ false → Lends (z .s) (z .c) (eqb (length words) 6) lent words
         unfolding memoryRoom coloursRoom
         words-last h = record {
-          same = λ l m. rw (eq-eqb (length order) n o, eq-eqb (length hints) t i, ← p l m, not-false x a, ← q l m, not-false y h);
+          same = λ l m. rw (eq-eqb (length order) (z .n) o, eq-eqb (length hints) (z .t) i, ← p l m, not-false x a, ← q l m, not-false y h);
           six = eqb-true (length words) 6;
         }
 
 -- ---- with one slice more
-module _ (s c t n : ℕ) (words : List ℕ) (x p : Bool) (L : Lends s c x p words) (more : List Float) where
-  pub memory-unlike : not x ≡ true → Lends s c false (p && coloursRoom 64 (plain s c t n) more) words
+module _ (z : Sizes) (words : List ℕ) (x p : Bool) (L : Lends (z .s) (z .c) x p words) (more : List Float) where
+  pub memory-unlike : not x ≡ true → Lends (z .s) (z .c) false (p && coloursRoom (plain z) more) words
   memory-unlike h = record { same = λ l m. rw (← L .same l m, not-true x h); six = refused words }
 
-  pub more-last : not x ≡ false → (y : Bool) → Roomy s c y (eqb (length more) (3 * (s * c))) → Lends s c y (p && coloursRoom 64 (plain s c t n) more) words
+  pub more-last : not x ≡ false → (y : Bool) → Roomy (z .s) (z .c) y (eqb (length more) (3 * (z .s * z .c))) → Lends (z .s) (z .c) y (p && coloursRoom (plain z) more) words
   unfolding coloursRoom
   more-last h y q = record { same = λ l m. rw (← L .same l m, not-false x h) (q l m); six = λ _. L .six (not-false x h) }

@@ -4,17 +4,18 @@ use Prim.Native.Nat.{ℕ, _≤_}
 use mathlib.Core.Path.{_≡_}
 use mathlib.Core.Bool.{Bool, true}
 use mathlib.Core.List.{List, [], _++_}
-use lib.Ieee.{nan}
 use lib.ListN.{length}
-use Rattle.job.specs.Job.{job, mostSubpalettes, mostColours}
+use Rattle.job.specs.Job.{mostSubpalettes, mostColours}
+use Rattle.sizes.specs.declared.Sizes.{Sizes}
+use Rattle.sized_course.specs.Sized.{courseOf}
 use Rattle.job.specs.Rules.{answer}
-use Rattle.quantizer.specs.Course.{Course, course}
+use Rattle.quantizer.specs.Course.{Course}
 use Rattle.stages.specs.Record.{stateRules}
 use Rattle.stages.specs.Calls.{Memory, stateOf, jobRules}
 
 -- the sizes that lengths are held to, as a course of empty tables
-abbrev pub plain : ℕ → ℕ → ℕ → ℕ → Course
-plain s c t n = course (job s c t nan [] [] []) n []
+abbrev pub plain : Sizes → Course
+plain z = courseOf z [] [] [] []
 
 -- r is the test p, for sizes in their ranges
 abbrev pub Roomy : ℕ → ℕ → Bool → Bool → Type 0
@@ -26,5 +27,5 @@ pub record Lends (s c : ℕ) (r p : Bool) (words : List ℕ) : Type 0 where
   pub six : r ≡ true → length words ≡ 6
 
 -- the number that a call of a run gets before its own rules
-unfoldable pub runAnswer : ℕ → Course → Memory → Bool → ℕ
-runAnswer size K m room = answer (jobRules size K room ++ stateRules K (stateOf m))
+unfoldable pub runAnswer : Course → Memory → Bool → ℕ
+runAnswer K m room = answer (jobRules K room ++ stateRules K (stateOf m))

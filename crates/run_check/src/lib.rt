@@ -1,13 +1,13 @@
 // Which number a call of a run gets: the job's, the record's, the working colours', the order's, the moment's, the reduced colours'.
 // Every check takes what a stranger wrote: no sum or product in it can wrap.
 use stages::Record;
+use sizes::Sizes;
 ghost use mathlib.Core.Path.{_≡_};
 ghost use mathlib.Core.Bool.{true, _&&_};
 ghost use Prim.Native.Nat.{_*_};
 ghost use lib.Dec.{eqb};
 ghost use lib.ListN.{length};
-ghost use Rattle.job.specs.Job.{job, tileSize};
-ghost use Rattle.quantizer.specs.Course.{course};
+ghost use Rattle.sized_course.specs.Sized.{courseOf};
 ghost use Rattle.stages.specs.Calls.{memory, memoryRoom, coloursRoom, startAnswer, advanceAnswer, handInAnswer, resultAnswer};
 ghost use Rattle.run_check.specs.Room.{plain, Roomy, Lends, runAnswer};
 
@@ -32,28 +32,25 @@ fn colours_room(s: usize, c: usize, numbers: usize) -> bool
 
 // Whether the memory lent has its lengths.
 fn memory_room(
-    s: usize,
-    c: usize,
-    t: usize,
-    n: usize,
+    z: Sizes,
     order: &[u32],
     hints: &[u32],
     palette: &[f32],
     least: &[f32],
     words: &[u64],
 ) -> bool
-    ensures { λ r. ⌜ Lends s c r (memoryRoom tileSize (plain s c t n) (memory (now (order .entry)) (now (hints .entry)) (now (palette .entry)) (now (least .entry)) (now (words .entry)))) (now (words .entry)) ⌝ }
+    ensures { λ r. ⌜ Lends (z .s) (z .c) r (memoryRoom (plain z) (memory (now (order .entry)) (now (hints .entry)) (now (palette .entry)) (now (least .entry)) (now (words .entry)))) (now (words .entry)) ⌝ }
 {
-    if order.len() != n {
+    if order.len() != z.n {
         return false;
     }
-    if hints.len() != t {
+    if hints.len() != z.t {
         return false;
     }
-    if !colours_room(s, c, palette.len()) {
+    if !colours_room(z.s, z.c, palette.len()) {
         return false;
     }
-    if !colours_room(s, c, least.len()) {
+    if !colours_room(z.s, z.c, least.len()) {
         return false;
     }
     words.len() == 6
@@ -61,10 +58,7 @@ fn memory_room(
 
 // The same, with one slice of s·c colours more.
 fn wider_room(
-    s: usize,
-    c: usize,
-    t: usize,
-    n: usize,
+    z: Sizes,
     order: &[u32],
     hints: &[u32],
     palette: &[f32],
@@ -72,21 +66,17 @@ fn wider_room(
     words: &[u64],
     more: &[f32],
 ) -> bool
-    ensures { λ r. ⌜ Lends s c r (memoryRoom tileSize (plain s c t n) (memory (now (order .entry)) (now (hints .entry)) (now (palette .entry)) (now (least .entry)) (now (words .entry))) && coloursRoom tileSize (plain s c t n) (now (more .entry))) (now (words .entry)) ⌝ }
+    ensures { λ r. ⌜ Lends (z .s) (z .c) r (memoryRoom (plain z) (memory (now (order .entry)) (now (hints .entry)) (now (palette .entry)) (now (least .entry)) (now (words .entry))) && coloursRoom (plain z) (now (more .entry))) (now (words .entry)) ⌝ }
 {
-    if !memory_room(s, c, t, n, order, hints, palette, least, words) {
+    if !memory_room(z, order, hints, palette, least, words) {
         return false;
     }
-    colours_room(s, c, more.len())
+    colours_room(z.s, z.c, more.len())
 }
 
 // The job's numbers, then those of what a run holds. `room` says whether the slices lent have their lengths.
 fn check_run(
-    s: usize,
-    c: usize,
-    t: usize,
-    n: usize,
-    weight: f32,
+    z: Sizes,
     tiles: &[u32],
     colours: &[f32],
     counts: &[u32],
@@ -99,15 +89,10 @@ fn check_run(
     room: bool,
 ) -> u32
     requires { ⌜ (room ≡ true → length (now words) ≡ 6) ⌝ }
-    ensures { λ r. ⌜ r ≡ runAnswer tileSize (course (job s c t weight (now (tiles .entry)) (now (colours .entry)) (now (counts .entry))) n (now (samples .entry))) (memory (now (order .entry)) (now (hints .entry)) (now (palette .entry)) (now (least .entry)) (now (words .entry))) room ⌝ }
+    ensures { λ r. ⌜ r ≡ runAnswer (courseOf z (now (tiles .entry)) (now (colours .entry)) (now (counts .entry)) (now (samples .entry))) (memory (now (order .entry)) (now (hints .entry)) (now (palette .entry)) (now (least .entry)) (now (words .entry))) room ⌝ }
 {
     let a = job_sampled::check_sampled(
-        job::TILE_SIZE,
-        s,
-        c,
-        t,
-        n,
-        weight,
+        z,
         tiles,
         colours,
         counts,
@@ -118,17 +103,13 @@ fn check_run(
         return a;
     }
     let r = run_record::record_of(words);
-    run_state::check_state(s, c, n, order, palette, least, r)
+    run_state::check_state(z.s, z.c, z.n, order, palette, least, r)
 }
 
 // ---- the calls
 
 pub fn refuses_start(
-    s: usize,
-    c: usize,
-    t: usize,
-    n: usize,
-    weight: f32,
+    z: Sizes,
     tiles: &[u32],
     colours: &[f32],
     counts: &[u32],
@@ -139,16 +120,11 @@ pub fn refuses_start(
     least: &[f32],
     words: &[u64],
 ) -> u32
-    ensures { λ r. ⌜ r ≡ startAnswer tileSize (course (job s c t weight (now (tiles .entry)) (now (colours .entry)) (now (counts .entry))) n (now (samples .entry))) (memory (now (order .entry)) (now (hints .entry)) (now (palette .entry)) (now (least .entry)) (now (words .entry))) ⌝ }
+    ensures { λ r. ⌜ r ≡ startAnswer (courseOf z (now (tiles .entry)) (now (colours .entry)) (now (counts .entry)) (now (samples .entry))) (memory (now (order .entry)) (now (hints .entry)) (now (palette .entry)) (now (least .entry)) (now (words .entry))) ⌝ }
 {
-    let room = memory_room(s, c, t, n, order, hints, palette, least, words);
+    let room = memory_room(z, order, hints, palette, least, words);
     job_sampled::check_sampled(
-        job::TILE_SIZE,
-        s,
-        c,
-        t,
-        n,
-        weight,
+        z,
         tiles,
         colours,
         counts,
@@ -158,11 +134,7 @@ pub fn refuses_start(
 }
 
 pub fn refuses_advance(
-    s: usize,
-    c: usize,
-    t: usize,
-    n: usize,
-    weight: f32,
+    z: Sizes,
     tiles: &[u32],
     colours: &[f32],
     counts: &[u32],
@@ -173,15 +145,11 @@ pub fn refuses_advance(
     least: &[f32],
     words: &[u64],
 ) -> u32
-    ensures { λ r. ⌜ r ≡ advanceAnswer tileSize (course (job s c t weight (now (tiles .entry)) (now (colours .entry)) (now (counts .entry))) n (now (samples .entry))) (memory (now (order .entry)) (now (hints .entry)) (now (palette .entry)) (now (least .entry)) (now (words .entry))) ⌝ }
+    ensures { λ r. ⌜ r ≡ advanceAnswer (courseOf z (now (tiles .entry)) (now (colours .entry)) (now (counts .entry)) (now (samples .entry))) (memory (now (order .entry)) (now (hints .entry)) (now (palette .entry)) (now (least .entry)) (now (words .entry))) ⌝ }
 {
-    let room = memory_room(s, c, t, n, order, hints, palette, least, words);
+    let room = memory_room(z, order, hints, palette, least, words);
     let a = check_run(
-        s,
-        c,
-        t,
-        n,
-        weight,
+        z,
         tiles,
         colours,
         counts,
@@ -203,11 +171,7 @@ pub fn refuses_advance(
 }
 
 pub fn refuses_hand_in(
-    s: usize,
-    c: usize,
-    t: usize,
-    n: usize,
-    weight: f32,
+    z: Sizes,
     tiles: &[u32],
     colours: &[f32],
     counts: &[u32],
@@ -219,15 +183,11 @@ pub fn refuses_hand_in(
     words: &[u64],
     reduced: &[f32],
 ) -> u32
-    ensures { λ r. ⌜ r ≡ handInAnswer tileSize (course (job s c t weight (now (tiles .entry)) (now (colours .entry)) (now (counts .entry))) n (now (samples .entry))) (memory (now (order .entry)) (now (hints .entry)) (now (palette .entry)) (now (least .entry)) (now (words .entry))) (now (reduced .entry)) ⌝ }
+    ensures { λ r. ⌜ r ≡ handInAnswer (courseOf z (now (tiles .entry)) (now (colours .entry)) (now (counts .entry)) (now (samples .entry))) (memory (now (order .entry)) (now (hints .entry)) (now (palette .entry)) (now (least .entry)) (now (words .entry))) (now (reduced .entry)) ⌝ }
 {
-    let room = wider_room(s, c, t, n, order, hints, palette, least, words, reduced);
+    let room = wider_room(z, order, hints, palette, least, words, reduced);
     let a = check_run(
-        s,
-        c,
-        t,
-        n,
-        weight,
+        z,
         tiles,
         colours,
         counts,
@@ -252,11 +212,7 @@ pub fn refuses_hand_in(
 }
 
 pub fn refuses_result(
-    s: usize,
-    c: usize,
-    t: usize,
-    n: usize,
-    weight: f32,
+    z: Sizes,
     tiles: &[u32],
     colours: &[f32],
     counts: &[u32],
@@ -268,15 +224,11 @@ pub fn refuses_result(
     words: &[u64],
     out: &[f32],
 ) -> u32
-    ensures { λ r. ⌜ r ≡ resultAnswer tileSize (course (job s c t weight (now (tiles .entry)) (now (colours .entry)) (now (counts .entry))) n (now (samples .entry))) (memory (now (order .entry)) (now (hints .entry)) (now (palette .entry)) (now (least .entry)) (now (words .entry))) (now (out .entry)) ⌝ }
+    ensures { λ r. ⌜ r ≡ resultAnswer (courseOf z (now (tiles .entry)) (now (colours .entry)) (now (counts .entry)) (now (samples .entry))) (memory (now (order .entry)) (now (hints .entry)) (now (palette .entry)) (now (least .entry)) (now (words .entry))) (now (out .entry)) ⌝ }
 {
-    let room = wider_room(s, c, t, n, order, hints, palette, least, words, out);
+    let room = wider_room(z, order, hints, palette, least, words, out);
     let a = check_run(
-        s,
-        c,
-        t,
-        n,
-        weight,
+        z,
         tiles,
         colours,
         counts,

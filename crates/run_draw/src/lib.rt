@@ -1,20 +1,16 @@
 // One draw on the lent memory: the record's generator and draws made drive the cycle of samples, its stage and rounds say what is present.
 use stages::Record;
+use sizes::Sizes;
 ghost use mathlib.Core.Path.{_≡_};
 ghost use mathlib.Core.List.{[]};
-ghost use Rattle.job.specs.Job.{job};
-ghost use Rattle.quantizer.specs.Course.{course};
+ghost use Rattle.sized_course.specs.Sized.{courseOf};
 ghost use Rattle.stages.specs.State.{stateWith};
 ghost use Rattle.stages.specs.Stages.{draw};
 ghost use Rattle.run_draw.specs.Drawable.{Drawable};
 
 // The record after one draw more of a round that has one left.
 pub fn draw(
-    s: usize,
-    c: usize,
-    t: usize,
-    n: usize,
-    weight: f32,
+    z: Sizes,
     tiles: &[u32],
     colours: &[f32],
     counts: &[u32],
@@ -24,19 +20,15 @@ pub fn draw(
     palette: &mut [f32],
     r: Record,
 ) -> Record
-    requires { ⌜ Drawable (course (job s c t weight (now tiles) (now colours) (now counts)) n (now samples)) (stateWith (now order) (now hints) (now palette) [] r) ⌝ }
-    ensures { λ x. ⌜ stateWith (now (order .exit)) (now (hints .exit)) (now (palette .exit)) [] x ≡ draw (course (job s c t weight (now (tiles .entry)) (now (colours .entry)) (now (counts .entry))) n (now (samples .entry))) (stateWith (now (order .entry)) (now (hints .entry)) (now (palette .entry)) [] r) ⌝ }
+    requires { ⌜ Drawable (courseOf z (now tiles) (now colours) (now counts) (now samples)) (stateWith (now order) (now hints) (now palette) [] r) ⌝ }
+    ensures { λ x. ⌜ stateWith (now (order .exit)) (now (hints .exit)) (now (palette .exit)) [] x ≡ draw (courseOf z (now (tiles .entry)) (now (colours .entry)) (now (counts .entry)) (now (samples .entry))) (stateWith (now (order .entry)) (now (hints .entry)) (now (palette .entry)) [] r) ⌝ }
 {
-    let subs = run_stage::subs_of(s, r);
-    let have = run_stage::have_of(c, r);
+    let subs = run_stage::subs_of(z.s, r);
+    let have = run_stage::have_of(z.c, r);
     let alpha = run_stage::alpha_of(r);
     let at = run_stage::cycle_of(r);
     let after = quantizer_draw::draw(
-        s,
-        c,
-        t,
-        n,
-        weight,
+        z,
         tiles,
         colours,
         counts,

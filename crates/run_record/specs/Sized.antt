@@ -7,7 +7,7 @@ use Rattle.quantizer.specs.Course.{Course, course}
 
 -- S, C and n
 abbrev pub sized : ℕ → ℕ → ℕ → Course
-sized s c n = course (job s c 0 nan [] [] []) n []
+sized s c n = course (job 0 s c 0 nan [] [] []) n []
 
 pub record Sized (s c n : ℕ) : Type 0 where
   pub subs : 1 ≤ s

@@ -1,9 +1,9 @@
 // The draws of a run that was accepted: each makes all that is then due, and none is made past a stop or past an allotment.
 use stages::Record;
+use sizes::Sizes;
 ghost use mathlib.Core.Path.{_≡_};
 ghost use lib.ListN.{length};
-ghost use Rattle.job.specs.Job.{job};
-ghost use Rattle.quantizer.specs.Course.{course};
+ghost use Rattle.sized_course.specs.Sized.{courseOf};
 ghost use Rattle.stages.specs.State.{stateWith};
 ghost use Rattle.stages.specs.Stages.{step, advance, drawsOf};
 ghost use Rattle.stages.specs.Calls.{recordOf, memory, memoryOf, outcome};
@@ -11,11 +11,7 @@ ghost use Rattle.run_steps.specs.Running.{Running, Ongoing};
 
 // One draw, and all that is then due.
 fn step(
-    s: usize,
-    c: usize,
-    t: usize,
-    n: usize,
-    weight: f32,
+    z: Sizes,
     tiles: &[u32],
     colours: &[f32],
     counts: &[u32],
@@ -26,15 +22,11 @@ fn step(
     least: &mut [f32],
     r: Record,
 ) -> Record
-    requires { ⌜ Ongoing (course (job s c t weight (now tiles) (now colours) (now counts)) n (now samples)) (stateWith (now order) (now hints) (now palette) (now least) r) ⌝ }
-    ensures { λ x. ⌜ stateWith (now (order .exit)) (now (hints .exit)) (now (palette .exit)) (now (least .exit)) x ≡ step (course (job s c t weight (now (tiles .entry)) (now (colours .entry)) (now (counts .entry))) n (now (samples .entry))) (stateWith (now (order .entry)) (now (hints .entry)) (now (palette .entry)) (now (least .entry)) r) ⌝ }
+    requires { ⌜ Ongoing (courseOf z (now tiles) (now colours) (now counts) (now samples)) (stateWith (now order) (now hints) (now palette) (now least) r) ⌝ }
+    ensures { λ x. ⌜ stateWith (now (order .exit)) (now (hints .exit)) (now (palette .exit)) (now (least .exit)) x ≡ step (courseOf z (now (tiles .entry)) (now (colours .entry)) (now (counts .entry)) (now (samples .entry))) (stateWith (now (order .entry)) (now (hints .entry)) (now (palette .entry)) (now (least .entry)) r) ⌝ }
 {
     let drawn = run_draw::draw(
-        s,
-        c,
-        t,
-        n,
-        weight,
+        z,
         tiles,
         colours,
         counts,
@@ -45,11 +37,11 @@ fn step(
         r,
     );
     run_round::settle(
-        s,
-        c,
-        t,
-        n,
-        weight,
+        z.s,
+        z.c,
+        z.t,
+        z.n,
+        z.weight,
         tiles,
         colours,
         counts,
@@ -64,11 +56,7 @@ fn step(
 
 // The draws made, of a run that was accepted. The record is read and written once.
 pub fn advance_work(
-    s: usize,
-    c: usize,
-    t: usize,
-    n: usize,
-    weight: f32,
+    z: Sizes,
     tiles: &[u32],
     colours: &[f32],
     counts: &[u32],
@@ -80,18 +68,14 @@ pub fn advance_work(
     words: &mut [u64],
     allotment: u64,
 ) -> u64
-    requires { ⌜ Running (course (job s c t weight (now tiles) (now colours) (now counts)) n (now samples)) (stateWith (now order) (now hints) (now palette) (now least) (recordOf (now words))) × (length (now words) ≡ 6) ⌝ }
-    ensures { λ x. ⌜ outcome 0 x (memory (now (order .exit)) (now (hints .exit)) (now (palette .exit)) (now (least .exit)) (now (words .exit))) ≡ outcome 0 (drawsOf (course (job s c t weight (now (tiles .entry)) (now (colours .entry)) (now (counts .entry))) n (now (samples .entry))) allotment (stateWith (now (order .entry)) (now (hints .entry)) (now (palette .entry)) (now (least .entry)) (recordOf (now (words .entry))))) (memoryOf (advance (course (job s c t weight (now (tiles .entry)) (now (colours .entry)) (now (counts .entry))) n (now (samples .entry))) allotment (stateWith (now (order .entry)) (now (hints .entry)) (now (palette .entry)) (now (least .entry)) (recordOf (now (words .entry)))))) ⌝ }
+    requires { ⌜ Running (courseOf z (now tiles) (now colours) (now counts) (now samples)) (stateWith (now order) (now hints) (now palette) (now least) (recordOf (now words))) × (length (now words) ≡ 6) ⌝ }
+    ensures { λ x. ⌜ outcome 0 x (memory (now (order .exit)) (now (hints .exit)) (now (palette .exit)) (now (least .exit)) (now (words .exit))) ≡ outcome 0 (drawsOf (courseOf z (now (tiles .entry)) (now (colours .entry)) (now (counts .entry)) (now (samples .entry))) allotment (stateWith (now (order .entry)) (now (hints .entry)) (now (palette .entry)) (now (least .entry)) (recordOf (now (words .entry))))) (memoryOf (advance (courseOf z (now (tiles .entry)) (now (colours .entry)) (now (counts .entry)) (now (samples .entry))) allotment (stateWith (now (order .entry)) (now (hints .entry)) (now (palette .entry)) (now (least .entry)) (recordOf (now (words .entry)))))) ⌝ }
 {
     let mut r = run_record::record_of(words);
     let mut drawn = 0u64;
     while run_record::goes_on(drawn, allotment, r.stage) {
         r = step(
-            s,
-            c,
-            t,
-            n,
-            weight,
+            z,
             tiles,
             colours,
             counts,

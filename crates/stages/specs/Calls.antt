@@ -60,7 +60,7 @@ pub record Copied : Type 0 where
 abbrev pub copiedTo : ℕ → List Float → Copied
 copiedTo number out = record { number = number; out = out }
 
-module _ (size : ℕ) (K : Course) where
+module _ (K : Course) where
   open Job (K .job) using (S, C, T)
 
   -- ---- lengths
@@ -74,7 +74,7 @@ module _ (size : ℕ) (K : Course) where
 
   -- ---- the rules in their order
   abbrev pub jobRules : Bool → List Rule
-  jobRules room = sampledRules size (K .job) (K .n) (K .samples) room
+  jobRules room = sampledRules (K .job) (K .n) (K .samples) room
 
   abbrev pub runRules : Memory → Bool → Bool → List Rule
   runRules m room moment = jobRules room ++ (stateRules K (stateOf m) ++ (rule 11 moment ∷ []))

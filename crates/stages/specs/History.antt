@@ -20,9 +20,9 @@ sampled K zero s = []
 sampled K (suc a) s = let rest = sampled K a (step K s) in cond (going s) (sampleAt s ∷ rest) []
 
 -- calls on one job since its start from a seed, each accepted: the memory that the last one left, and all samples drawn until then
-pub data Run (size : ℕ) (K : Course) (seed : ℕ) : Memory → List ℕ → Type 0 where
-  started : (m : Memory) → startAnswer size K m ≡ 0 → Run size K seed (startCall size K m seed .after) []
-  advanced : {m : Memory} {ds : List ℕ} → Run size K seed m ds → (a : ℕ) → advanceAnswer size K m ≡ 0
-      → Run size K seed (advanceCall size K m a .after) (ds ++ sampled K a (stateOf m))
-  handedIn : {m : Memory} {ds : List ℕ} → Run size K seed m ds → (reduced : List Float) → handInAnswer size K m reduced ≡ 0
-      → Run size K seed (handInCall size K m reduced .after) ds
+pub data Run (K : Course) (seed : ℕ) : Memory → List ℕ → Type 0 where
+  started : (m : Memory) → startAnswer K m ≡ 0 → Run K seed (startCall K m seed .after) []
+  advanced : {m : Memory} {ds : List ℕ} → Run K seed m ds → (a : ℕ) → advanceAnswer K m ≡ 0
+      → Run K seed (advanceCall K m a .after) (ds ++ sampled K a (stateOf m))
+  handedIn : {m : Memory} {ds : List ℕ} → Run K seed m ds → (reduced : List Float) → handInAnswer K m reduced ≡ 0
+      → Run K seed (handInCall K m reduced .after) ds

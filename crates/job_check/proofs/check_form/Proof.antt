@@ -11,28 +11,28 @@ check-sizes-requires : tie.Need-check-sizes-requires
 check-sizes-requires c κs = search needs
 
 returns : tie.Need-returns
-returns c = let a = c .before .before .before .before .before .args in form-sizes (a .s) (a .c) (a .t) (now (a .tiles)) (now (a .colours)) (now (a .counts)) (a .room) (a .palette) _ (c .before .check-sizes .ensures) (c .if1 .taken)
+returns c = let a = c .before .before .before .before .before .args in form-sizes (a .z .size) (a .z .s) (a .z .c) (a .z .t) (now (a .tiles)) (now (a .colours)) (now (a .counts)) (a .room) (a .palette) _ (c .before .check-sizes .ensures) (c .if1 .taken)
 
 check-shapes-requires : tie.Need-check-shapes-requires
-check-shapes-requires c κs = sizes-of _ _ _ _ (c .before .check-sizes .ensures) (c .if1 .left) .tiles
+check-shapes-requires c κs = sizes-of _ _ _ _ _ (c .before .check-sizes .ensures) (c .if1 .left) .tiles
 
 returns-2 : tie.Need-returns-2
-returns-2 c = let a = c .before .before .before .before .before .before .before .args in form-shapes (a .s) (a .c) (a .t) (now (a .tiles)) (now (a .colours)) (now (a .counts)) (a .room) _ (c .before .before .before .check-sizes .ensures) (c .before .before .if1 .left) (a .palette) _ (c .before .check-shapes .ensures) (c .if2 .taken)
+returns-2 c = let a = c .before .before .before .before .before .before .before .args in form-shapes (a .z .size) (a .z .s) (a .z .c) (a .z .t) (now (a .tiles)) (now (a .colours)) (now (a .counts)) (a .room) _ (c .before .before .before .check-sizes .ensures) (c .before .before .if1 .left) (a .palette) _ (c .before .check-shapes .ensures) (c .if2 .taken)
 
 mul-if3 : tie.Need-mul-if3
-mul-if3 c = omega (arith, sizes-of _ _ _ _ (c .before .before .before .check-sizes .ensures) (c .before .before .if1 .left) .cells)
+mul-if3 c = omega (arith, sizes-of _ _ _ _ _ (c .before .before .before .before .check-sizes .ensures) (c .before .before .before .if1 .left) .cells)
 
 mul-if3-2 : tie.Need-mul-if3-2
-mul-if3-2 c = omega (arith, sizes-of _ _ _ _ (c .before .before .before .check-sizes .ensures) (c .before .before .if1 .left) .cells)
+mul-if3-2 c = omega (arith, sizes-of _ _ _ _ _ (c .before .before .before .before .check-sizes .ensures) (c .before .before .before .if1 .left) .cells)
 
 returns-3 : tie.Need-returns-3
-returns-3 c = let a = c .before .before .before .before .before .before .before .before .args in form-palette (a .s) (a .c) (a .t) (now (a .tiles)) (now (a .colours)) (now (a .counts)) (a .room) _ (c .before .before .before .before .check-sizes .ensures) (c .before .before .before .if1 .left) _ (c .before .before .check-shapes .ensures) (c .before .if2 .left) (a .palette) (c .if3 .taken)
+returns-3 c = let a = c .before .before .before .before .before .before .before .before .before .args in form-palette (a .z .size) (a .z .s) (a .z .c) (a .z .t) (now (a .tiles)) (now (a .colours)) (now (a .counts)) (a .room) _ (c .before .before .before .before .before .check-sizes .ensures) (c .before .before .before .before .if1 .left) _ (c .before .before .before .check-shapes .ensures) (c .before .before .if2 .left) (a .palette) (c .if3 .taken)
 
 returns-4 : tie.Need-returns-4
-returns-4 c = let a = c .before .before .before .before .before .before .before .before .before .args in form-room (a .s) (a .c) (a .t) (now (a .tiles)) (now (a .colours)) (now (a .counts)) (a .room) _ (c .before .before .before .before .before .check-sizes .ensures) (c .before .before .before .before .if1 .left) _ (c .before .before .before .check-shapes .ensures) (c .before .before .if2 .left) (a .palette) (c .before .if3 .left) (c .if4 .taken)
+returns-4 c = let a = c .before .before .before .before .before .before .before .before .before .before .args in form-room (a .z .size) (a .z .s) (a .z .c) (a .z .t) (now (a .tiles)) (now (a .colours)) (now (a .counts)) (a .room) _ (c .before .before .before .before .before .before .check-sizes .ensures) (c .before .before .before .before .before .if1 .left) _ (c .before .before .before .before .check-shapes .ensures) (c .before .before .before .if2 .left) (a .palette) (c .before .if3 .left) (c .if4 .taken)
 
 returns-5 : tie.Need-returns-5
-returns-5 c = let a = c .before .before .before .before .before .before .before .before .before .args in form-passes (a .s) (a .c) (a .t) (now (a .tiles)) (now (a .colours)) (now (a .counts)) (a .room) _ (c .before .before .before .before .before .check-sizes .ensures) (c .before .before .before .before .if1 .left) _ (c .before .before .before .check-shapes .ensures) (c .before .before .if2 .left) (a .palette) (c .before .if3 .left) (c .if4 .left)
+returns-5 c = let a = c .before .before .before .before .before .before .before .before .before .before .args in form-passes (a .z .size) (a .z .s) (a .z .c) (a .z .t) (now (a .tiles)) (now (a .colours)) (now (a .counts)) (a .room) _ (c .before .before .before .before .before .before .check-sizes .ensures) (c .before .before .before .before .before .if1 .left) _ (c .before .before .before .before .check-shapes .ensures) (c .before .before .before .if2 .left) (a .palette) (c .before .if3 .left) (c .if4 .left)
 
 pub check-form-spec : {M : Type 1} → statement M
 check-form-spec =

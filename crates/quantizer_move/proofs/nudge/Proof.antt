@@ -33,7 +33,7 @@ nearest-requires c κs = search needs
 
 mul-nudge : tie.Need-mul-nudge
 mul-nudge c =
-    let v = c .before in
+    let v = c .before .before in
     let u = v .before in
     let f = u .before .before .before .before in
     let m = f .before .before .before .before in
@@ -42,7 +42,7 @@ mul-nudge c =
 
 add-nudge : tie.Need-add-nudge
 add-nudge c =
-    let v = c .before in
+    let v = c .before .before in
     let u = v .before in
     let f = u .before .before .before .before in
     let m = f .before .before .before .before in
@@ -51,7 +51,7 @@ add-nudge c =
 
 nudge-requires : tie.Need-nudge-requires
 nudge-requires c κs =
-    let v = c .before in
+    let v = c .before .before in
     let u = v .before in
     let f = u .before .before .before .before in
     let m = f .before .before .before .before in
@@ -67,7 +67,7 @@ same-length-2 c = search needs
 returns : tie.Need-returns
 returns c =
     let w = c .before .before in
-    let v = w .before .before in
+    let v = w .before .before .before in
     let u = v .before in
     let f = u .before .before .before .before in
     let q = f .before .before .before in

@@ -2,9 +2,7 @@
 -- would be found only by comparing all that is lent. Assumes nothing.
 use mathlib.Core.Path.{refl}
 use denote.Ref.{now}
-use Rattle.job.specs.Job.{job, tileSize}
-use Rattle.quantizer.specs.Course.{course}
-use Rattle.calls.proofs.Accepted.{few-pixels}
+use Rattle.sized_course.specs.Sized.{courseOf}
 use Rattle.run_advance.proofs.Answered.{refused, work-asks, advanced}
 use borrow.Author.Needs.{needs}
 use Rattle.run_advance.proofs.advance.Statement.{statement}
@@ -32,7 +30,7 @@ returns : tie.Need-returns
 returns c = refused _ _ _ _ _ _ _ _ (c .before .refuses-advance .ensures) _ (c .if1 .taken)
 
 advance-work-requires : tie.Need-advance-work-requires
-advance-work-requires c κs = work-asks _ _ _ _ _ _ _ _ (c .before .before .before .before .before .before .refuses-advance .ensures) few-pixels (c .before .before .before .before .before .if1 .left)
+advance-work-requires c κs = work-asks _ _ _ _ _ _ _ _ (c .before .before .before .before .before .before .refuses-advance .ensures) (c .before .before .before .before .before .before .before .before .before .before .before .before .before .before .before .before .before .before .before .before .before .pre) (c .before .before .before .before .before .if1 .left)
 
 same-length-6 : tie.Need-same-length-6
 same-length-6 c = search needs
@@ -54,7 +52,7 @@ returns-2 c =
     let worked = c .before .before .before .before .before .before .before .before .before .before in
     let passed = worked .before .before .before .before .before .before in
     let a = passed .before .before .before .before .before .before .before .before .before .before .before .before .before .before .before .before .args in
-    advanced tileSize (course (job (a .s) (a .c) (a .t) (a .weight) (now (a .tiles)) (now (a .colours)) (now (a .counts))) (a .n) (now (a .samples))) (now (a .order)) (now (a .hints)) (now (a .palette)) (now (a .least)) (now (a .words)) _ (passed .before .refuses-advance .ensures) (a .allotment) (passed .if1 .left) _ (worked .advance-work .ensures)
+    advanced _ (courseOf (a .z) (now (a .tiles)) (now (a .colours)) (now (a .counts)) (now (a .samples))) (now (a .order)) (now (a .hints)) (now (a .palette)) (now (a .least)) (now (a .words)) _ (passed .before .refuses-advance .ensures) (a .allotment) (passed .if1 .left) _ (worked .advance-work .ensures)
 
 pub advance-spec : {M : Type 1} → statement M
 advance-spec =

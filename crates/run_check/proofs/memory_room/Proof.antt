@@ -5,25 +5,25 @@ use Rattle.run_check.proofs.memory_room.Statement.{statement}
 use Rattle.run_check.proofs.memory_room.Tie as tie
 
 returns : tie.Need-returns
-returns c = order-unlike _ _ _ _ _ _ _ _ _ (c .if1 .taken)
+returns c = order-unlike _ _ _ _ _ _ (c .if1 .taken)
 
 returns-2 : tie.Need-returns-2
-returns-2 c = hints-unlike _ _ _ _ _ _ _ _ _ (c .before .if1 .left) (c .if2 .taken)
+returns-2 c = hints-unlike _ _ _ _ _ _ (c .before .before .if1 .left) (c .if2 .taken)
 
 colours-room-requires : tie.Need-colours-room-requires
 colours-room-requires c κs = search needs
 
 returns-3 : tie.Need-returns-3
-returns-3 c = palette-unlike _ _ _ _ _ _ _ _ _ (c .before .before .before .if1 .left) (c .before .before .if2 .left) _ (c .before .colours-room .ensures) (c .if3 .taken)
+returns-3 c = palette-unlike _ _ _ _ _ _ (c .before .before .before .before .if1 .left) (c .before .before .if2 .left) _ (c .before .colours-room .ensures) (c .if3 .taken)
 
 colours-room-requires-2 : tie.Need-colours-room-requires-2
 colours-room-requires-2 c κs = search needs
 
 returns-4 : tie.Need-returns-4
-returns-4 c = least-unlike _ _ _ _ _ _ _ _ _ (c .before .before .before .before .before .if1 .left) (c .before .before .before .before .if2 .left) _ (c .before .before .before .colours-room .ensures) (c .before .before .if3 .left) _ (c .before .colours-room2 .ensures) (c .if4 .taken)
+returns-4 c = least-unlike _ _ _ _ _ _ (c .before .before .before .before .before .before .if1 .left) (c .before .before .before .before .if2 .left) _ (c .before .before .before .colours-room .ensures) (c .before .before .if3 .left) _ (c .before .colours-room2 .ensures) (c .if4 .taken)
 
 returns-5 : tie.Need-returns-5
-returns-5 c = words-last _ _ _ _ _ _ _ _ _ (c .before .before .before .before .before .if1 .left) (c .before .before .before .before .if2 .left) _ (c .before .before .before .colours-room .ensures) (c .before .before .if3 .left) _ (c .before .colours-room2 .ensures) (c .if4 .left)
+returns-5 c = words-last _ _ _ _ _ _ (c .before .before .before .before .before .before .if1 .left) (c .before .before .before .before .if2 .left) _ (c .before .before .before .colours-room .ensures) (c .before .before .if3 .left) _ (c .before .colours-room2 .ensures) (c .if4 .left)
 
 pub memory-room-spec : {M : Type 1} → statement M
 memory-room-spec =

@@ -15,21 +15,21 @@ check-run-requires c κs = c .memory-room .ensures .six
 
 returns : tie.Need-returns
 unfolding advanceAnswer memoryRoom coloursRoom
-returns c = run-stops _ _ _ _ _ _ _ (c .before .check-run .ensures) _ (c .before .before .memory-room .ensures .same) _ (c .if1 .taken)
+returns c = run-stops _ _ _ _ _ _ (c .before .check-run .ensures) _ (c .before .before .memory-room .ensures .same) _ (c .if1 .taken)
 
 shared-slice-read-makes-draws : tie.Need-shared-slice-read-makes-draws
-shared-slice-read-makes-draws c = let six = c .before .before .before .memory-room .ensures .six (run-room _ _ _ _ _ _ _ (c .before .before .check-run .ensures) (c .before .if1 .left)) in omega arith
+shared-slice-read-makes-draws c = let six = c .before .before .before .memory-room .ensures .six (run-room _ _ _ _ _ _ (c .before .before .check-run .ensures) (c .before .if1 .left)) in omega arith
 
 makes-draws-requires : tie.Need-makes-draws-requires
 makes-draws-requires c κs = search needs
 
 returns-2 : tie.Need-returns-2
 unfolding advanceAnswer memoryRoom coloursRoom stateOf
-returns-2 c = run-goes _ _ _ _ _ _ _ (c .before .before .before .before .check-run .ensures) _ (c .before .before .before .before .before .memory-room .ensures .same) _ (c .before .before .before .if1 .left) _ (refuses _ _ _ _ (c .before .makes-draws .ensures) (c .if2 .taken))
+returns-2 c = run-goes _ _ _ _ _ _ (c .before .before .before .before .check-run .ensures) _ (c .before .before .before .before .before .memory-room .ensures .same) _ (c .before .before .before .if1 .left) _ (refuses _ _ _ _ (c .before .makes-draws .ensures) (c .if2 .taken))
 
 returns-3 : tie.Need-returns-3
 unfolding advanceAnswer memoryRoom coloursRoom stateOf
-returns-3 c = run-goes _ _ _ _ _ _ _ (c .before .before .before .before .check-run .ensures) _ (c .before .before .before .before .before .memory-room .ensures .same) _ (c .before .before .before .if1 .left) _ (passes _ _ _ _ _ (c .before .makes-draws .ensures) (c .if2 .left) none)
+returns-3 c = run-goes _ _ _ _ _ _ (c .before .before .before .before .check-run .ensures) _ (c .before .before .before .before .before .memory-room .ensures .same) _ (c .before .before .before .if1 .left) _ (passes _ _ _ _ _ (c .before .makes-draws .ensures) (c .if2 .left) none)
 
 pub refuses-advance-spec : {M : Type 1} → statement M
 refuses-advance-spec =

@@ -17,28 +17,28 @@ check-run-requires c κs = c .wider-room .ensures .six
 
 returns : tie.Need-returns
 unfolding handInAnswer memoryRoom coloursRoom
-returns c = run-stops _ _ _ _ _ _ _ (c .before .check-run .ensures) _ (c .before .before .wider-room .ensures .same) _ (c .if1 .taken)
+returns c = run-stops _ _ _ _ _ _ (c .before .check-run .ensures) _ (c .before .before .wider-room .ensures .same) _ (c .if1 .taken)
 
 shared-slice-read-is-stop : tie.Need-shared-slice-read-is-stop
-shared-slice-read-is-stop c = let six = c .before .before .before .wider-room .ensures .six (run-room _ _ _ _ _ _ _ (c .before .before .check-run .ensures) (c .before .if1 .left)) in omega arith
+shared-slice-read-is-stop c = let six = c .before .before .before .wider-room .ensures .six (run-room _ _ _ _ _ _ (c .before .before .check-run .ensures) (c .before .if1 .left)) in omega arith
 
 is-stop-requires : tie.Need-is-stop-requires
 is-stop-requires c κs = search needs
 
 returns-2 : tie.Need-returns-2
 unfolding handInAnswer memoryRoom coloursRoom stateOf
-returns-2 c = run-goes _ _ _ _ _ _ _ (c .before .before .before .before .check-run .ensures) _ (c .before .before .before .before .before .wider-room .ensures .same) _ (c .before .before .before .if1 .left) _ (refuses _ _ _ _ (c .before .is-stop .ensures) (c .if2 .taken))
+returns-2 c = run-goes _ _ _ _ _ _ (c .before .before .before .before .check-run .ensures) _ (c .before .before .before .before .before .wider-room .ensures .same) _ (c .before .before .before .if1 .left) _ (refuses _ _ _ _ (c .before .is-stop .ensures) (c .if2 .taken))
 
 first-bad-requires : tie.Need-first-bad-requires
 first-bad-requires c κs = search needs
 
 returns-3 : tie.Need-returns-3
 unfolding handInAnswer memoryRoom coloursRoom stateOf
-returns-3 c = run-goes _ _ _ _ _ _ _ (c .before .before .before .before .before .before .check-run .ensures) _ (c .before .before .before .before .before .before .before .wider-room .ensures .same) _ (c .before .before .before .before .before .if1 .left) _ (passes _ _ _ _ _ (c .before .before .before .is-stop .ensures) (c .before .before .if2 .left) (near-fails _ _ _ _ _ (c .before .first-bad .ensures) (c .if3 .taken)))
+returns-3 c = run-goes _ _ _ _ _ _ (c .before .before .before .before .before .before .check-run .ensures) _ (c .before .before .before .before .before .before .before .wider-room .ensures .same) _ (c .before .before .before .before .before .if1 .left) _ (passes _ _ _ _ _ (c .before .before .before .is-stop .ensures) (c .before .before .if2 .left) (near-fails _ _ _ _ _ (c .before .first-bad .ensures) (c .if3 .taken)))
 
 returns-4 : tie.Need-returns-4
 unfolding handInAnswer memoryRoom coloursRoom stateOf
-returns-4 c = run-goes _ _ _ _ _ _ _ (c .before .before .before .before .before .before .check-run .ensures) _ (c .before .before .before .before .before .before .before .wider-room .ensures .same) _ (c .before .before .before .before .before .if1 .left) _ (passes _ _ _ _ _ (c .before .before .before .is-stop .ensures) (c .before .before .if2 .left) (skips _ _ _ _ (eq-eqb _ _ (sym (c .before .first-bad .ensures) ∙ c .if3 .left)) none))
+returns-4 c = run-goes _ _ _ _ _ _ (c .before .before .before .before .before .before .check-run .ensures) _ (c .before .before .before .before .before .before .before .wider-room .ensures .same) _ (c .before .before .before .before .before .if1 .left) _ (passes _ _ _ _ _ (c .before .before .before .is-stop .ensures) (c .before .before .if2 .left) (skips _ _ _ _ (eq-eqb _ _ (sym (c .before .first-bad .ensures) ∙ c .if3 .left)) none))
 
 pub refuses-hand-in-spec : {M : Type 1} → statement M
 refuses-hand-in-spec =

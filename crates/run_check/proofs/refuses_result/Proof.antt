@@ -15,21 +15,21 @@ check-run-requires c κs = c .wider-room .ensures .six
 
 returns : tie.Need-returns
 unfolding resultAnswer memoryRoom coloursRoom
-returns c = run-stops _ _ _ _ _ _ _ (c .before .check-run .ensures) _ (c .before .before .wider-room .ensures .same) _ (c .if1 .taken)
+returns c = run-stops _ _ _ _ _ _ (c .before .check-run .ensures) _ (c .before .before .wider-room .ensures .same) _ (c .if1 .taken)
 
 shared-slice-read-is-finished : tie.Need-shared-slice-read-is-finished
-shared-slice-read-is-finished c = let six = c .before .before .before .wider-room .ensures .six (run-room _ _ _ _ _ _ _ (c .before .before .check-run .ensures) (c .before .if1 .left)) in omega arith
+shared-slice-read-is-finished c = let six = c .before .before .before .wider-room .ensures .six (run-room _ _ _ _ _ _ (c .before .before .check-run .ensures) (c .before .if1 .left)) in omega arith
 
 is-finished-requires : tie.Need-is-finished-requires
 is-finished-requires c κs = tt
 
 returns-2 : tie.Need-returns-2
 unfolding resultAnswer memoryRoom coloursRoom stateOf
-returns-2 c = run-goes _ _ _ _ _ _ _ (c .before .before .before .before .check-run .ensures) _ (c .before .before .before .before .before .wider-room .ensures .same) _ (c .before .before .before .if1 .left) _ (refuses _ _ _ _ (c .before .is-finished .ensures) (c .if2 .taken))
+returns-2 c = run-goes _ _ _ _ _ _ (c .before .before .before .before .check-run .ensures) _ (c .before .before .before .before .before .wider-room .ensures .same) _ (c .before .before .before .if1 .left) _ (refuses _ _ _ _ (c .before .is-finished .ensures) (c .if2 .taken))
 
 returns-3 : tie.Need-returns-3
 unfolding resultAnswer memoryRoom coloursRoom stateOf
-returns-3 c = run-goes _ _ _ _ _ _ _ (c .before .before .before .before .check-run .ensures) _ (c .before .before .before .before .before .wider-room .ensures .same) _ (c .before .before .before .if1 .left) _ (passes _ _ _ _ _ (c .before .is-finished .ensures) (c .if2 .left) none)
+returns-3 c = run-goes _ _ _ _ _ _ (c .before .before .before .before .check-run .ensures) _ (c .before .before .before .before .before .wider-room .ensures .same) _ (c .before .before .before .if1 .left) _ (passes _ _ _ _ _ (c .before .is-finished .ensures) (c .if2 .left) none)
 
 pub refuses-result-spec : {M : Type 1} → statement M
 refuses-result-spec =

@@ -13,7 +13,7 @@ check-sampled-requires c κs = search needs
 
 returns : tie.Need-returns
 unfolding startAnswer memoryRoom coloursRoom
-returns c = job-whole _ _ _ _ _ _ (c .check-sampled .ensures) _ (c .before .memory-room .ensures .same)
+returns c = job-whole _ _ _ _ _ (c .check-sampled .ensures) _ (c .before .memory-room .ensures .same)
 
 pub refuses-start-spec : {M : Type 1} → statement M
 refuses-start-spec = tie.close (tie.spec memory-room-requires check-sampled-requires returns)

@@ -8,13 +8,13 @@ memory-room-requires : tie.Need-memory-room-requires
 memory-room-requires c κs = search needs
 
 returns : tie.Need-returns
-returns c = memory-unlike _ _ _ _ _ _ _ (c .before .memory-room .ensures) _ (c .if1 .taken)
+returns c = memory-unlike _ _ _ _ (c .before .memory-room .ensures) _ (c .if1 .taken)
 
 colours-room-requires : tie.Need-colours-room-requires
 colours-room-requires c κs = search needs
 
 returns-2 : tie.Need-returns-2
-returns-2 c = more-last _ _ _ _ _ _ _ (c .before .before .memory-room .ensures) _ (c .before .if1 .left) _ (c .colours-room .ensures)
+returns-2 c = more-last _ _ _ _ (c .before .before .memory-room .ensures) _ (c .before .if1 .left) _ (c .colours-room .ensures)
 
 pub wider-room-spec : {M : Type 1} → statement M
 wider-room-spec = tie.close (tie.spec memory-room-requires returns colours-room-requires returns-2)

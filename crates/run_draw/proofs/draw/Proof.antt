@@ -1,8 +1,7 @@
 -- `run_draw::draw` meets its contract: what is asked and left is a law of proofs/Steps.antt. Its job is written out, since finding
 -- it means comparing all that is lent. Assumes nothing.
 use denote.Ref.{now}
-use Rattle.job.specs.Job.{job}
-use Rattle.quantizer.specs.Course.{course}
+use Rattle.sized_course.specs.Sized.{courseOf}
 use Rattle.run_draw.proofs.Steps.{going-by, drawn-by}
 use borrow.Author.Needs.{needs}
 use Rattle.run_draw.proofs.draw.Statement.{statement}
@@ -21,7 +20,7 @@ cycle-of-requires : tie.Need-cycle-of-requires
 cycle-of-requires c κs = tt
 
 draw-requires : tie.Need-draw-requires
-draw-requires c κs = let a = c .before .before .before .before .before .before .before .before .before .before .before .before .before .before .args in going-by (course (job (a .s) (a .c) (a .t) (a .weight) (now (a .tiles)) (now (a .colours)) (now (a .counts))) (a .n) (now (a .samples))) (now (a .order)) (now (a .hints)) (now (a .palette)) (a .r) _ _ (c .before .before .before .before .before .before .subs-of .ensures) (c .before .before .before .before .before .have-of .ensures) _ _ (c .before .before .before .cycle-of .ensures) (c .before .before .before .before .before .before .before .before .before .before .before .before .before .before .pre .going)
+draw-requires c κs = let a = c .before .before .before .before .before .before .before .before .before .before .before .before .before .before .args in going-by (courseOf (a .z) (now (a .tiles)) (now (a .colours)) (now (a .counts)) (now (a .samples))) (now (a .order)) (now (a .hints)) (now (a .palette)) (a .r) _ _ (c .before .before .before .before .before .before .subs-of .ensures) (c .before .before .before .before .before .have-of .ensures) _ _ (c .before .before .before .cycle-of .ensures) (c .before .before .before .before .before .before .before .before .before .before .before .before .before .before .pre .going)
 
 count-draw-requires : tie.Need-count-draw-requires
 count-draw-requires c κs = c .before .before .before .before .before .before .before .before .before .before .before .before .before .before .before .before .before .before .before .before .before .pre .left
@@ -36,7 +35,7 @@ same-length-3 : tie.Need-same-length-3
 same-length-3 c = search needs
 
 returns : tie.Need-returns
-returns c = let a = c .before .before .before .before .before .before .before .before .before .before .before .before .before .before .before .before .before .before .before .before .before .before .args in drawn-by (course (job (a .s) (a .c) (a .t) (a .weight) (now (a .tiles)) (now (a .colours)) (now (a .counts))) (a .n) (now (a .samples))) (now (a .order)) (now (a .hints)) (now (a .palette)) (a .r) _ _ (c .before .before .before .before .before .before .before .before .before .before .before .before .before .before .subs-of .ensures) (c .before .before .before .before .before .before .before .before .before .before .before .before .before .have-of .ensures) _ _ (c .before .before .before .before .before .before .before .before .before .before .before .cycle-of .ensures) _ (c .before .before .before .before .before .before .before .before .before .before .before .before .alpha-of .ensures) _ _ _ _ _ (c .before .before .before .before .before .before .before .draw .ensures .0) (c .before .before .before .before .before .before .before .draw .ensures .1 .0) (c .before .before .before .before .before .before .before .draw .ensures .1 .1) _ (c .count-draw .ensures)
+returns c = let a = c .before .before .before .before .before .before .before .before .before .before .before .before .before .before .before .before .before .before .before .before .before .before .args in drawn-by (courseOf (a .z) (now (a .tiles)) (now (a .colours)) (now (a .counts)) (now (a .samples))) (now (a .order)) (now (a .hints)) (now (a .palette)) (a .r) _ _ (c .before .before .before .before .before .before .before .before .before .before .before .before .before .before .subs-of .ensures) (c .before .before .before .before .before .before .before .before .before .before .before .before .before .have-of .ensures) _ _ (c .before .before .before .before .before .before .before .before .before .before .before .cycle-of .ensures) _ (c .before .before .before .before .before .before .before .before .before .before .before .before .alpha-of .ensures) _ _ _ _ _ (c .before .before .before .before .before .before .before .draw .ensures .0) (c .before .before .before .before .before .before .before .draw .ensures .1 .0) (c .before .before .before .before .before .before .before .draw .ensures .1 .1) _ (c .count-draw .ensures)
 
 pub draw-spec : {M : Type 1} → statement M
 draw-spec =

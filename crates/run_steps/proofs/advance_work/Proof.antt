@@ -2,8 +2,7 @@
 use native.Mathlib.Omega.{arith}
 use Prim.Native.Nat.{_-_}
 use mir.Facts.{fits-le}
-use Rattle.job.specs.Job.{job}
-use Rattle.quantizer.specs.Course.{course}
+use Rattle.sized_course.specs.Sized.{courseOf}
 use Rattle.stages.specs.State.{stateWith}
 use Rattle.run_steps.proofs.Advances.{Advancing, begun, ongoing, allotted, gone-on, order-kept, hints-kept, palette-kept, least-kept, worked}
 use borrow.Author.Needs.{needs}
@@ -11,11 +10,11 @@ use Rattle.run_steps.proofs.advance_work.Statement.{statement}
 use Rattle.run_steps.proofs.advance_work.Tie as tie
 
 abbrev Inv-loop : tie.InvT-loop
-Inv-loop s c t n weight tiles colours counts samples order₀ hints₀ palette₀ least₀ words allotment r₀ drawn₀ order hints palette least r drawn =
-    Advancing (course (job s c t weight tiles colours counts) n samples) allotment (stateWith order₀ hints₀ palette₀ least₀ r₀) drawn (stateWith order hints palette least r)
+Inv-loop z tiles colours counts samples order₀ hints₀ palette₀ least₀ words allotment r₀ drawn₀ order hints palette least r drawn =
+    Advancing (courseOf z tiles colours counts samples) allotment (stateWith order₀ hints₀ palette₀ least₀ r₀) drawn (stateWith order hints palette least r)
 
 abbrev μ-loop : tie.MeasureT-loop
-μ-loop s c t n weight tiles colours counts samples order₀ hints₀ palette₀ least₀ words allotment r₀ drawn₀ order hints palette least r drawn = allotment - drawn
+μ-loop z tiles colours counts samples order₀ hints₀ palette₀ least₀ words allotment r₀ drawn₀ order hints palette least r drawn = allotment - drawn
 
 record-of-requires : tie.Need-record-of-requires Inv-loop μ-loop
 record-of-requires c κs = c .before .before .before .before .before .before .before .before .before .before .pre .1

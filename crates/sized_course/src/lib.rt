@@ -1,0 +1,1 @@
+// A course of training by its numbers and lists: specs/ holds it.
