@@ -12,9 +12,8 @@ use lib.Ieee.{Float, nan, inf, fin, binary32, up, down, le, neg, isNan, ofBits, 
 use lib.Ieee.Bits.{ofBits-fits, toBits-ofBits}
 use borrow.Author.Tests.{eq-eqb, lt-ltb, ltb-true}
 use Rattle.ieee.proofs.Order.{le-fin←}
-use Rattle.ieee.specs.Terms.{Within}
+use Rattle.ieee.specs.Terms.{Within, Good, key}
 use Rattle.ieee.proofs.Within.{wider}
-use Rattle.ieee.specs.Terms.{Good, key}
 use Rattle.ieee.proofs.Keys.{pack-mono, plus-bits, le→keys}
 use Rattle.lists.proofs.Tests.{and-i}
 use Rattle.lists.proofs.Loops.{every-at, every-all}

@@ -8,8 +8,7 @@ use native.Mathlib.Omega.{arith}
 use borrow.Author.Count.{below-none, below-more}
 use lib.Dec.{ltb}
 use lib.Ieee.{Float, binary32, lt}
-use Rattle.ieee.specs.Terms.{Good}
-use Rattle.ieee.specs.Terms.{rank, over}
+use Rattle.ieee.specs.Terms.{Good, rank, over}
 use Rattle.ieee.proofs.Ranks.{yes-lt, no-lt, over-rank, within-rank}
 use Rattle.stats.specs.declared.Near.{Near}
 use Rattle.stats.specs.Stats.{leastOf}

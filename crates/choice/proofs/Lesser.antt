@@ -5,10 +5,9 @@ use mathlib.Core.Path.{_≡_, refl, sym, ap, _∙_}
 use mathlib.Core.Bool.{Bool, true, false, cond}
 use native.Mathlib.Omega.{arith}
 use lib.Ieee.{Float, inf, binary32, lt}
-use Rattle.ieee.specs.Terms.{Good}
+use Rattle.ieee.specs.Terms.{Good, key32}
 use Rattle.ieee.proofs.Keys.{key-unique}
 use Rattle.ieee.proofs.Goods.{inf-good}
-use Rattle.ieee.specs.Terms.{key32}
 use Rattle.ieee.proofs.Ranks.{lt-yes, lt-no}
 use Rattle.stats.specs.declared.Near.{Near}
 use Rattle.stats.specs.Stats.{pickNear, leastOf}

@@ -9,10 +9,9 @@ use native.Mathlib.Numerals.{add-one}
 use native.Mathlib.Omega.{arith}
 use borrow.Author.Count.{below-none, below-more}
 use lib.Ieee.{Float, inf, binary32, lt}
-use Rattle.ieee.specs.Terms.{Good}
+use Rattle.ieee.specs.Terms.{Good, key32, rank}
 use Rattle.ieee.proofs.Keys.{key-top, key-unique}
 use Rattle.ieee.proofs.Goods.{inf-good}
-use Rattle.ieee.specs.Terms.{key32, rank}
 use Rattle.ieee.proofs.Ranks.{lt-yes, lt-no}
 use Rattle.stats.specs.declared.Two.{Two}
 use Rattle.stats.specs.Stats.{pickTwo, stepTwo, leastTwo}

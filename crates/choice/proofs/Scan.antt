@@ -7,10 +7,9 @@ use mathlib.Core.Logic.{inl, inr}
 use native.Mathlib.Nat.{le-antisymm, le-refl, lt-of-not-le, le-of-suc-le-suc, eq-or-lt-of-le}
 use native.Mathlib.Omega.{arith}
 use lib.Ieee.{Float, inf, binary32, lt}
-use Rattle.ieee.specs.Terms.{Good}
+use Rattle.ieee.specs.Terms.{Good, key32}
 use Rattle.ieee.proofs.Keys.{key-top, key-unique}
 use Rattle.ieee.proofs.Goods.{inf-good}
-use Rattle.ieee.specs.Terms.{key32}
 use Rattle.ieee.proofs.Ranks.{lt-yes, lt-no, yes-lt, no-lt}
 use Rattle.stats.specs.declared.Near.{Near}
 use Rattle.stats.specs.Stats.{pickNear, stepNear, leastOf}

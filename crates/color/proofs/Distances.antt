@@ -6,9 +6,8 @@ use native.Mathlib.Nat.{le-trans, le-of-eq, one-mul, mul-le-mul-right}
 use lib.Dec.{T, lit≤}
 use lib.Ieee.{Float, binary32, sub, mul}
 use lib.Ieee.Positive.{positive}
-use Rattle.ieee.specs.Terms.{Good}
+use Rattle.ieee.specs.Terms.{Good, Within}
 use Rattle.ieee.proofs.Goods.{sub-real, square-good, add-good, scaled-good}
-use Rattle.ieee.specs.Terms.{Within}
 use Rattle.ieee.proofs.Within.{add-whole, sub-whole, mul-whole}
 use Rattle.color.specs.declared.Oklab.{Oklab}
 use Rattle.color.specs.Color.{sqdistOf, Real, Sized}

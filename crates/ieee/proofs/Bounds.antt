@@ -10,11 +10,9 @@ use lib.Ieee.Fits.{down-pos}
 use lib.Ieee.Positive.{through}
 use Rattle.ieee.proofs.Order.{factor-zero, zero-times, le-fin→}
 use Rattle.ieee.proofs.Total.{not-lt→le}
-use Rattle.ieee.specs.Terms.{plus}
+use Rattle.ieee.specs.Terms.{plus, zeroF, Minus0, Within, AtLeast, Exact}
 use Rattle.ieee.proofs.Plus.{mul-plus}
-use Rattle.ieee.specs.Terms.{zeroF, Minus0}
 use Rattle.ieee.proofs.NonNeg.{nonneg-split, plus→nonneg, null→nonneg}
-use Rattle.ieee.specs.Terms.{Within, AtLeast, Exact}
 use Rattle.ieee.proofs.Within.{whole-exact, cond-within, round-within, mul-within, add-whole}
 
 pub within-real : (x : Float) (k d : ℕ) → Within x k d → T (not (isNan x))

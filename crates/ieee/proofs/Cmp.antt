@@ -10,10 +10,8 @@ use lib.Ieee.{Float, nan, inf, fin, Format, top, neg, lt, le, fits, isNan, toBit
 use lib.Ieee.Bits.{ofBits-toBits, toBits-lt}
 use Rattle.ieee.proofs.Order.{same-test, le-fin→, le-fin←}
 use Rattle.ieee.proofs.Total.{decide, lt→not-le}
-use Rattle.ieee.specs.Terms.{sgn, abs, key, pack}
+use Rattle.ieee.specs.Terms.{sgn, abs, key, pack, zeroF, tle, keyOf}
 use Rattle.ieee.proofs.Keys.{bits-are, le-is-bits, size-small}
-use Rattle.ieee.specs.Terms.{zeroF}
-use Rattle.ieee.specs.Terms.{tle, keyOf}
 
 -- ---- the bits as a number: those with the sign set turned round, below those with it clear
 key-clear : (t b n : ℕ) → b ≡ 0 + n → n < t → cond (ltb b t) (b + t) (2 * t - suc b) ≡ t + n

@@ -11,10 +11,9 @@ use lib.Ieee.Scale.{finite}
 use lib.Ieee.Positive.{positive, positive-of-value}
 use lib.Ieee.Back.{round-whole}
 use borrow.Author.Tests.{ne-eqb}
-use Rattle.ieee.specs.Terms.{plus}
+use Rattle.ieee.specs.Terms.{plus, Good}
 use Rattle.ieee.proofs.Plus.{round-plus, add-plus, square-plus}
 use Rattle.ieee.proofs.Rings.{mul-commutes}
-use Rattle.ieee.specs.Terms.{Good}
 
 -- ---- no `nan`
 units-real : (f : Format) (s : Bool) (q k : ℕ) → T (not (isNan (units f s q k)))

@@ -20,10 +20,8 @@ use lib.Ieee.Bits.{ofBits-toBits, nanBits-above}
 use Rattle.ieee.proofs.Order.{same-test, le-fin→}
 use Rattle.ieee.proofs.Total.{total, refl-le, lt→le, lt-is, antisym, eq→le, eq→ge}
 use Rattle.ieee.proofs.Self.{fits-under}
-use Rattle.ieee.specs.Terms.{plus}
+use Rattle.ieee.specs.Terms.{plus, sgn, abs, pack, Good, key}
 use Rattle.ieee.proofs.Plus.{plus-real}
-use Rattle.ieee.specs.Terms.{sgn, abs, pack, Good}
-use Rattle.ieee.specs.Terms.{key}
 
 pack-top : (f : Format) → pack f (2 ^ (low f + suc (emax f))) ≡ ones f * hid f
 unfolding size

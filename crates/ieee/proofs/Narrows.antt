@@ -7,11 +7,9 @@ use lib.Ieee.{Float, nan, inf, fin, binary32, up, down, round, le, fits, isNan}
 use lib.Ieee.Fits.{down-pos, nan-fits, inf-fits, round-fits}
 use Rattle.ieee.proofs.Order.{lowest, highest, le-fin→}
 use Rattle.ieee.proofs.Self.{round-self}
-use Rattle.ieee.specs.Terms.{plus}
-use Rattle.ieee.specs.Terms.{Within, Exact}
+use Rattle.ieee.specs.Terms.{plus, Within, Exact, Good}
 use Rattle.ieee.proofs.Within.{round-within}
 use Rattle.ieee.proofs.Mono.{round-mono±}
-use Rattle.ieee.specs.Terms.{Good}
 use Rattle.ieee.proofs.Goods.{inf-good, round-good, round-real}
 use Rattle.ieee.specs.Narrow.{narrowOf}
 

@@ -12,11 +12,9 @@ use lib.Ieee.Fits.{down-pos}
 use lib.Ieee.Order.{le-of-values, round-mono}
 use Rattle.ieee.proofs.Order.{zero-times, trans, le-fin→, le-fin←}
 use Rattle.ieee.proofs.Self.{self}
-use Rattle.ieee.specs.Terms.{plus}
+use Rattle.ieee.specs.Terms.{plus, Within, zeroF, Minus0}
 use Rattle.ieee.proofs.Plus.{round-plus, add-plus, le-add}
-use Rattle.ieee.specs.Terms.{Within}
 use Rattle.ieee.proofs.Within.{whole-exact, round-within}
-use Rattle.ieee.specs.Terms.{zeroF, Minus0}
 
 pub plus→nonneg : (x : Float) → T (plus x) → T (le zeroF x)
 plus→nonneg nan h = absurd h

@@ -16,10 +16,9 @@ use lib.Ieee.Positive.{first-pos, through}
 use lib.Ieee.Scale.{grid, overflow, finite, round-val, round-under}
 use lib.Ieee.Back.{round-whole}
 use Rattle.ieee.proofs.Order.{le-fin→}
-use Rattle.ieee.specs.Terms.{plus}
+use Rattle.ieee.specs.Terms.{plus, Within, Exact, AtLeast}
 use Rattle.ieee.proofs.Plus.{round-plus}
 use Rattle.ieee.proofs.Self.{self}
-use Rattle.ieee.specs.Terms.{Within, Exact, AtLeast}
 
 -- ---- what is exact: a whole number up to 2 ^ prec, a value that fits, a closed fraction by computation
 pub whole-exact : (f : Format) (n : ℕ) → n ≤ 2 ^ prec f → Exact f n 1

@@ -23,10 +23,10 @@ use Rattle.job.specs.Rules.{Passed, answer, numbered}
 use Rattle.job.proofs.Passing.{all-pass}
 use Rattle.job.specs.Job.{Job, tileSize, firstOf, sizeOf, countsPart, countsOf, mostSubpalettes, mostColours, mostTiles, mostTileColours, mostSamples, nought, two, sixteen}
 use Rattle.job.specs.Checks.{firstNot, tileSized, among, within, weightFits, tileTest, tileFits, tilesFit, countTest, countFits, partFits, tileCountsFit, countsFit, componentFits, firstBad, componentsFit, sampleTest, sampleFits, samplesFit, sizeRules, shapeRules, tables, plainRules, sampledRules, plainAnswer, sampledAnswer}
-use Rattle.job.specs.Gives.{Sizes, Ready, Lent, Plain, Sampled}
+use Rattle.job.specs.Gives.{InRange, Ready, Lent, Plain, Sampled}
 
 -- ---- numbers
-sizes-ready : (size s c t : ℕ) → Passed (sizeRules size s c t) → Sizes size s c t
+sizes-ready : (size s c t : ℕ) → Passed (sizeRules size s c t) → InRange size s c t
 unfolding among tileSized
 sizes-ready size s c t (y, p) =
     let few : s ≤ mostSubpalettes = leb-true s mostSubpalettes (and-r (leb 1 s) (leb s mostSubpalettes) (p .0)) in
@@ -42,7 +42,7 @@ sizes-ready size s c t (y, p) =
       cells = mul-le-mul few cap;
     }
 
-pub sizes-of : (size s c t a : ℕ) → a ≡ answer (sizeRules size s c t) → a ≡ 0 → Sizes size s c t
+pub sizes-of : (size s c t a : ℕ) → a ≡ answer (sizeRules size s c t) → a ≡ 0 → InRange size s c t
 unfolding numbered
 sizes-of size s c t a e z = sizes-ready size s c t (all-pass (sizeRules size s c t) refl (sym e ∙ z))
 

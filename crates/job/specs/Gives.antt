@@ -12,7 +12,7 @@ use Rattle.ieee.specs.Terms.{Within}
 use Rattle.color.specs.Color.{Bounded}
 use Rattle.job.specs.Job.{Job, firstOf, sizeOf, countsOf, mostSubpalettes, mostColours, mostTiles, mostTileColours, mostSamples}
 
-pub record Sizes (size s c t : ℕ) : Type 0 where
+pub record InRange (size s c t : ℕ) : Type 0 where
   pub small : size ≤ 256
   pub subs : 1 ≤ s
   pub few : s ≤ mostSubpalettes
@@ -23,7 +23,7 @@ pub record Sizes (size s c t : ℕ) : Type 0 where
   pub cells : s * c ≤ mostSubpalettes * mostColours
 
 pub record Ready (J : Job) : Type 0 where
-  pub sizes : Sizes (J .size) (J .S) (J .C) (J .T)
+  pub sizes : InRange (J .size) (J .S) (J .C) (J .T)
   pub table : length (J .tiles) ≡ 2 * J .T
   pub three : length (J .colours) ≡ 3 * length (J .counts)
   pub total : length (J .counts) ≤ mostTileColours

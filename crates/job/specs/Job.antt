@@ -5,6 +5,7 @@ use mathlib.Core.List.{List}
 use lib.Dec.{eqb}
 use lib.ListN.{length, getD, take, drop}
 use lib.Ieee.{Float, binary32, ofBits}
+use Rattle.job.specs.declared.Sizes.{Sizes}
 
 -- S subpalettes of C colours, T tiles; two numbers a tile in the table, three a colour
 pub record Job : Type 0 where
@@ -20,6 +21,10 @@ pub record Job : Type 0 where
 
 abbrev pub job : ℕ → ℕ → ℕ → ℕ → Float → List ℕ → List Float → List ℕ → Job
 job size s c t weight tiles colours counts = record { size = size; S = s; C = c; T = t; weight = weight; tiles = tiles; colours = colours; counts = counts }
+
+-- the job that a call's numbers and lists make
+abbrev pub jobOf : Sizes → List ℕ → List Float → List ℕ → Job
+jobOf z tiles colours counts = job (z .size) (z .s) (z .c) (z .t) (z .weight) tiles colours counts
 
 -- ---- the tile table: first colour and number of colours of each tile
 abbrev pub firstOf : List ℕ → ℕ → ℕ

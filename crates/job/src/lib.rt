@@ -5,6 +5,17 @@ ghost use lib.Dec.{eqb};
 ghost use lib.ListN.{length};
 ghost use Rattle.job.specs.Job.{firstOf, sizeOf, coloursPart, countsPart, Placed};
 
+// The numbers of a call, by value: how many pixels a tile has at most, subpalettes, colours in each, tiles, samples (0 where none are
+// lent), and the weight of brightness.
+pub struct Sizes {
+    pub size: usize,
+    pub s: usize,
+    pub c: usize,
+    pub t: usize,
+    pub n: usize,
+    pub weight: f32,
+}
+
 // The pixels of a tile, at most.
 pub const TILE_SIZE: usize = 64;
 

@@ -1,9 +1,9 @@
 // Which number a job without samples gets: its sizes, lengths, limits and tables in the order of docs/SCOPE.md.
 // Every check takes what a stranger wrote: no sum or product in it can wrap.
-use sizes::Sizes;
+use job::Sizes;
 ghost use mathlib.Core.Path.{_≡_};
 ghost use Rattle.job.specs.Rules.{answer};
-ghost use Rattle.sizes.specs.Sized.{jobOf};
+ghost use Rattle.job.specs.Job.{jobOf};
 ghost use Rattle.job.specs.Checks.{formRules, plainAnswer};
 
 // Numbers 2 and 3 of a call without samples. `room` says whether the call's own slices have their lengths.

@@ -1,6 +1,6 @@
 // The numbers of a job that have limits of their own: its sizes and its weight.
 // Assumes nothing of them: they are what a stranger wrote.
-use sizes::Sizes;
+use job::Sizes;
 ghost use mathlib.Core.Path.{_≡_};
 ghost use Rattle.job.specs.Rules.{answer};
 ghost use Rattle.job.specs.Checks.{tileSized, among, weightFits, sizeRules};

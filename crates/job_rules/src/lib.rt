@@ -1,6 +1,6 @@
 // Which number a group of a job's rules gives: its tables, its samples.
 // Each takes what a stranger wrote, where the groups before it have passed: no sum or product in it can wrap.
-use sizes::Sizes;
+use job::Sizes;
 ghost use mathlib.Core.Path.{_≡_};
 ghost use Prim.Native.Nat.{_*_};
 ghost use lib.ListN.{length};

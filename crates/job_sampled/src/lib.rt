@@ -1,9 +1,9 @@
 // Which number a job with samples gets: its sizes, lengths, limits and tables in the order of docs/SCOPE.md.
 // Every check takes what a stranger wrote: no sum or product in it can wrap.
-use sizes::Sizes;
+use job::Sizes;
 ghost use mathlib.Core.Path.{_≡_};
 ghost use Rattle.job.specs.Rules.{answer};
-ghost use Rattle.sizes.specs.Sized.{jobOf};
+ghost use Rattle.job.specs.Job.{jobOf};
 ghost use Rattle.job.specs.Checks.{sampledFormRules, sampledAnswer};
 
 const MOST_SAMPLES: usize = 16384;

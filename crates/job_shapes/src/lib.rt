@@ -1,6 +1,6 @@
 // Which number the lengths of a job's slices give, and its components. What a stranger wrote is taken, where the rules before have passed:
 // no product in it can wrap.
-use sizes::Sizes;
+use job::Sizes;
 ghost use mathlib.Core.Path.{_≡_};
 ghost use Prim.Native.Nat.{_≤_};
 ghost use Rattle.job.specs.Rules.{answer};

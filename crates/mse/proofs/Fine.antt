@@ -15,11 +15,9 @@ use lib.Ieee.Fits.{fits-widens}
 use lib.Ieee.Bits.{ofBits-fits}
 use lib.Ieee.Positive.{positive}
 use borrow.Author.Tests.{eq-eqb, ne-eqb}
-use Rattle.ieee.specs.Terms.{plus}
+use Rattle.ieee.specs.Terms.{plus, Within, Good}
 use Rattle.ieee.proofs.Plus.{round-plus}
-use Rattle.ieee.specs.Terms.{Within}
 use Rattle.ieee.proofs.Within.{whole-exact, add-whole, mul-whole, div-whole, value-within, int-value}
-use Rattle.ieee.specs.Terms.{Good}
 use Rattle.ieee.proofs.Goods.{add-good, times-good, count-positive}
 use Rattle.ieee.specs.Narrow.{narrowOf}
 use Rattle.ieee.proofs.Narrows.{narrow-within, narrow-good}

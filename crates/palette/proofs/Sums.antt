@@ -11,8 +11,7 @@ use lib.IntN.{pos}
 use lib.Ieee.{Float, binary32, ofBits}
 use lib.Ieee.Positive.{positive}
 use lib.Ieee.Bits.{ofBits-fits}
-use Rattle.ieee.specs.Terms.{Good}
-use Rattle.ieee.specs.Terms.{key32}
+use Rattle.ieee.specs.Terms.{Good, key32}
 use Rattle.ieee.proofs.Goods.{add-good, times-good, count-positive}
 use Rattle.ieee.proofs.Grows.{add-grows}
 use Rattle.color.specs.declared.Oklab.{Oklab}

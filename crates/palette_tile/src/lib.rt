@@ -2,9 +2,9 @@
 // Each function gives what its definition in specs/Tiles.antt says; no definition reads a hint.
 ghost use mathlib.Core.Path.{_≡_};
 ghost use lib.ListN.{set};
-ghost use Rattle.sizes.specs.Sized.{jobOf};
+ghost use Rattle.job.specs.Job.{jobOf};
 ghost use Rattle.palette_tile.specs.Tiles.{fitAt, twoAt, Fitted, Paired};
-use sizes::Sizes;
+use job::Sizes;
 use stats::Near;
 use stats::Two;
 

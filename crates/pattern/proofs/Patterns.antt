@@ -9,10 +9,8 @@ use lib.Dec.{T, leb, ltb, leb→le, le→leb, ltb→lt, lt→ltb, not-T}
 use lib.Ieee.{Float, nan, inf, fin, binary32, ofBits, toBits, isNan, nanBits, ofFields, odd, le, lt, fits, up, down, low, size, span, climb}
 use lib.Ieee.Bits.{toBits-ofBits, ofBits-fits, nanBits-is, nanBits-above}
 use Rattle.ieee.proofs.Order.{le-fin→, le-fin←}
-use Rattle.ieee.specs.Terms.{sgn, abs, key, pack}
+use Rattle.ieee.specs.Terms.{sgn, abs, key, pack, Within, zeroF}
 use Rattle.ieee.proofs.Keys.{bits-are, size-small, bits→le, le→bits}
-use Rattle.ieee.specs.Terms.{Within}
-use Rattle.ieee.specs.Terms.{zeroF}
 use lib.Ieee.Fits.{up-pos}
 use native.Mathlib.Nat.{zero-mul, zero-div, mul-pos}
 use Rattle.ieee.proofs.Bounds.{within-real}

@@ -5,7 +5,7 @@ ghost use Rattle.job.specs.Job.{job};
 ghost use Rattle.quantizer.specs.Course.{course};
 ghost use Rattle.quantizer_draw.specs.Draws.{Going};
 use prng::Prng;
-use sizes::Sizes;
+use job::Sizes;
 use sample_cycle::SampleCycle;
 
 // Gives the generator's state after the draw.

@@ -4,7 +4,9 @@ use mathlib.Core.List.{List}
 use lib.ListN.{getD}
 use Rattle.color.specs.declared.Oklab.{Oklab}
 use Rattle.color.specs.Color.{colourAt}
-use Rattle.job.specs.Job.{Job, tileOf}
+use lib.Ieee.{Float}
+use Rattle.job.specs.declared.Sizes.{Sizes}
+use Rattle.job.specs.Job.{Job, jobOf, tileOf}
 
 -- n samples, two numbers each: a tile, and a colour by its place in that tile
 pub record Course : Type 0 where
@@ -14,6 +16,10 @@ pub record Course : Type 0 where
 
 abbrev pub course : Job → ℕ → List ℕ → Course
 course J n samples = record { job = J; n = n; samples = samples }
+
+-- the course that a call's numbers and lists make
+abbrev pub courseOf : Sizes → List ℕ → List Float → List ℕ → List ℕ → Course
+courseOf z tiles colours counts samples = course (jobOf z tiles colours counts) (z .n) samples
 
 -- draws in a round: a tenth of the samples
 abbrev pub b : Course → ℕ

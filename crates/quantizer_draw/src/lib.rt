@@ -1,10 +1,10 @@
 // One draw: the next sample of the order nudges a colour.
 // It is what the definitions in cycle's specs/Cycle.antt and quantizer's specs/Drawing.antt say.
-use sizes::Sizes;
+use job::Sizes;
 ghost use mathlib.Core.Path.{_≡_};
 ghost use Rattle.prng.specs.Shuffle.{deck};
 ghost use Rattle.cycle.specs.Cycle.{cycle, drawOne};
-ghost use Rattle.sized_course.specs.Sized.{courseOf};
+ghost use Rattle.quantizer.specs.Course.{courseOf};
 ghost use Rattle.quantizer_nudge.specs.Nudges.{movedBy, hintsBy};
 ghost use Rattle.quantizer_draw.specs.Draws.{Going};
 use sample_cycle::SampleCycle;

@@ -1,8 +1,8 @@
 // Sample i of a course nudges a colour: the nearest one, in the subpalette that fits the sample's tile best, moves towards it; the tile's hint names that subpalette.
 // It is what the definitions in quantizer's specs/Drawing.antt say.
-use sizes::Sizes;
+use job::Sizes;
 ghost use mathlib.Core.Path.{_≡_};
-ghost use Rattle.sized_course.specs.Sized.{courseOf};
+ghost use Rattle.quantizer.specs.Course.{courseOf};
 ghost use Rattle.quantizer_nudge.specs.Nudges.{movedBy, hintsBy, Drawing};
 
 // Sample i nudges a colour by alpha; `subs` subpalettes of `have` colours are present.

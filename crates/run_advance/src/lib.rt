@@ -1,8 +1,8 @@
 // The public call that makes a run's draws: at most an allotment, none past a stop.
-use sizes::Sizes;
+use job::Sizes;
 ghost use mathlib.Core.Path.{_≡_};
 ghost use Prim.Native.Nat.{_≤_};
-ghost use Rattle.sized_course.specs.Sized.{courseOf};
+ghost use Rattle.quantizer.specs.Course.{courseOf};
 ghost use Rattle.stages.specs.State.{draws};
 ghost use Rattle.stages.specs.Stages.{advance};
 ghost use Rattle.stages.specs.Calls.{memory, outcome, advanceCall};

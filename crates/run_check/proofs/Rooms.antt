@@ -10,7 +10,7 @@ use lib.Ieee.{Float}
 use lib.ListN.{length}
 use borrow.Author.Tests.{eq-eqb, ne-eqb, eqb-true, not-true, not-false}
 use Rattle.job.specs.Job.{mostSubpalettes, mostColours}
-use Rattle.sizes.specs.declared.Sizes.{Sizes}
+use Rattle.job.specs.declared.Sizes.{Sizes}
 use Rattle.stages.specs.Calls.{memory, memoryRoom, coloursRoom}
 use Rattle.run_check.specs.Room.{plain, Roomy, Lends}
 

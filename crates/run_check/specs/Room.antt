@@ -6,10 +6,9 @@ use mathlib.Core.Bool.{Bool, true}
 use mathlib.Core.List.{List, [], _++_}
 use lib.ListN.{length}
 use Rattle.job.specs.Job.{mostSubpalettes, mostColours}
-use Rattle.sizes.specs.declared.Sizes.{Sizes}
-use Rattle.sized_course.specs.Sized.{courseOf}
+use Rattle.job.specs.declared.Sizes.{Sizes}
+use Rattle.quantizer.specs.Course.{courseOf, Course}
 use Rattle.job.specs.Rules.{answer}
-use Rattle.quantizer.specs.Course.{Course}
 use Rattle.stages.specs.Record.{stateRules}
 use Rattle.stages.specs.Calls.{Memory, stateOf, jobRules}
 

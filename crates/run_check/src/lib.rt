@@ -1,13 +1,13 @@
 // Which number a call of a run gets: the job's, the record's, the working colours', the order's, the moment's, the reduced colours'.
 // Every check takes what a stranger wrote: no sum or product in it can wrap.
 use stages::Record;
-use sizes::Sizes;
+use job::Sizes;
 ghost use mathlib.Core.Path.{_≡_};
 ghost use mathlib.Core.Bool.{true, _&&_};
 ghost use Prim.Native.Nat.{_*_};
 ghost use lib.Dec.{eqb};
 ghost use lib.ListN.{length};
-ghost use Rattle.sized_course.specs.Sized.{courseOf};
+ghost use Rattle.quantizer.specs.Course.{courseOf};
 ghost use Rattle.stages.specs.Calls.{memory, memoryRoom, coloursRoom, startAnswer, advanceAnswer, handInAnswer, resultAnswer};
 ghost use Rattle.run_check.specs.Room.{plain, Roomy, Lends, runAnswer};
 

@@ -1,9 +1,9 @@
 // One draw on the lent memory: the record's generator and draws made drive the cycle of samples, its stage and rounds say what is present.
 use stages::Record;
-use sizes::Sizes;
+use job::Sizes;
 ghost use mathlib.Core.Path.{_≡_};
 ghost use mathlib.Core.List.{[]};
-ghost use Rattle.sized_course.specs.Sized.{courseOf};
+ghost use Rattle.quantizer.specs.Course.{courseOf};
 ghost use Rattle.stages.specs.State.{stateWith};
 ghost use Rattle.stages.specs.Stages.{draw};
 ghost use Rattle.run_draw.specs.Drawable.{Drawable};

@@ -1,9 +1,9 @@
 // The draws of a run that was accepted: each makes all that is then due, and none is made past a stop or past an allotment.
 use stages::Record;
-use sizes::Sizes;
+use job::Sizes;
 ghost use mathlib.Core.Path.{_≡_};
 ghost use lib.ListN.{length};
-ghost use Rattle.sized_course.specs.Sized.{courseOf};
+ghost use Rattle.quantizer.specs.Course.{courseOf};
 ghost use Rattle.stages.specs.State.{stateWith};
 ghost use Rattle.stages.specs.Stages.{step, advance, drawsOf};
 ghost use Rattle.stages.specs.Calls.{recordOf, memory, memoryOf, outcome};

@@ -8,8 +8,7 @@ use lib.Dec.{T, ltb, lt→ltb, ltb→lt}
 use lib.ListN.{length, getD, take, drop}
 use lib.Ieee.{Float, nan, binary32, ofBits, toBits, fits, lt}
 use lib.Ieee.Bits.{ofBits-toBits, toBits-lt}
-use Rattle.ieee.specs.Terms.{zeroF}
-use Rattle.ieee.specs.Terms.{Within}
+use Rattle.ieee.specs.Terms.{zeroF, Within}
 use Rattle.color.specs.Color.{Bounded}
 use Rattle.format.specs.Format.{times}
 use Rattle.format.proofs.Tests.{and-l, and-r, and-in}

@@ -14,8 +14,7 @@ use lib.Ieee.Fits.{up-pos}
 use lib.Ieee.Bits.{ofBits-toBits}
 use lib.Ieee.Positive.{positive}
 use Rattle.lists.specs.Every.{sum}
-use Rattle.ieee.specs.Terms.{zeroF}
-use Rattle.ieee.specs.Terms.{Within}
+use Rattle.ieee.specs.Terms.{zeroF, Within}
 use Rattle.color.specs.Color.{Bounded}
 use Rattle.format.specs.Format.{above, times}
 use Rattle.format.proofs.Tests.{and-in}

@@ -14,16 +14,14 @@ use Rattle.lists.specs.Every.{every, sum}
 use Rattle.lists.proofs.Tests.{and-i}
 use Rattle.lists.proofs.Loops.{every-all}
 use Rattle.ieee.proofs.Order.{le-fin←}
-use Rattle.ieee.specs.Terms.{zeroF}
-use Rattle.ieee.specs.Terms.{Within}
+use Rattle.ieee.specs.Terms.{zeroF, Within}
 use Rattle.color.specs.Color.{Bounded}
 use Rattle.format.specs.Format.{above, times}
 use Rattle.format.proofs.Tests.{and-l, and-r}
-use Rattle.job.specs.Checks.{firstNot}
+use Rattle.job.specs.Checks.{firstNot, among, within, weightFits, tileTest, tileFits, tilesFit, countTest, countFits, partFits, tileCountsFit, countsFit, componentFits, firstBad, componentsFit, plainRules, plainAnswer}
 use Rattle.job.proofs.First.{first-none}
 use Rattle.job.proofs.Passing.{pass-all}
 use Rattle.job.specs.Job.{tileSize, mostTileColours, firstOf, sizeOf, countsPart, nought, two, sixteen}
-use Rattle.job.specs.Checks.{among, within, weightFits, tileTest, tileFits, tilesFit, countTest, countFits, partFits, tileCountsFit, countsFit, componentFits, firstBad, componentsFit, plainRules, plainAnswer}
 use Rattle.pattern.proofs.Patterns.{weighs-is}
 use Rattle.sheet_format.specs.Sheet.{edition1, component, Colour, entry, colours, tile, Sheet, sheet}
 use Rattle.sheet_format.proofs.Headed.{above-says}

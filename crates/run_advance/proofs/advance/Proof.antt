@@ -2,7 +2,7 @@
 -- would be found only by comparing all that is lent. Assumes nothing.
 use mathlib.Core.Path.{refl}
 use denote.Ref.{now}
-use Rattle.sized_course.specs.Sized.{courseOf}
+use Rattle.quantizer.specs.Course.{courseOf}
 use Rattle.run_advance.proofs.Answered.{refused, work-asks, advanced}
 use borrow.Author.Needs.{needs}
 use Rattle.run_advance.proofs.advance.Statement.{statement}

@@ -1,7 +1,7 @@
 -- `run_draw::draw` meets its contract: what is asked and left is a law of proofs/Steps.antt. Its job is written out, since finding
 -- it means comparing all that is lent. Assumes nothing.
 use denote.Ref.{now}
-use Rattle.sized_course.specs.Sized.{courseOf}
+use Rattle.quantizer.specs.Course.{courseOf}
 use Rattle.run_draw.proofs.Steps.{going-by, drawn-by}
 use borrow.Author.Needs.{needs}
 use Rattle.run_draw.proofs.draw.Statement.{statement}

@@ -2,7 +2,7 @@
 use native.Mathlib.Omega.{arith}
 use Prim.Native.Nat.{_-_}
 use mir.Facts.{fits-le}
-use Rattle.sized_course.specs.Sized.{courseOf}
+use Rattle.quantizer.specs.Course.{courseOf}
 use Rattle.stages.specs.State.{stateWith}
 use Rattle.run_steps.proofs.Advances.{Advancing, begun, ongoing, allotted, gone-on, order-kept, hints-kept, palette-kept, least-kept, worked}
 use borrow.Author.Needs.{needs}

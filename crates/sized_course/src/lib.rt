@@ -1,1 +1,0 @@
-// A course of training by its numbers and lists: specs/ holds it.
