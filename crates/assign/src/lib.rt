@@ -1,16 +1,14 @@
 // The public call `assign`, from `assign_subpalettes` of the Rust: for each tile the subpalette that fits it best.
 // It first asks for the number of the first rule broken, over shared slices, so that a refusal writes nothing.
+use job::Sizes;
 ghost use mathlib.Core.Path.{_≡_};
-ghost use Rattle.job.specs.Job.{job, tileSize};
+ghost use Rattle.job.specs.Job.{jobOf, tileSize};
 ghost use Rattle.assign_tiles.specs.Tiles.{held};
 ghost use Rattle.assign.specs.Assign.{outcome, assignDef};
 
 // The subpalette that fits each tile best, in `out`, and in `hints` for a tile that is not empty. A number but 0 writes nothing.
 pub fn assign(
-    s: usize,
-    c: usize,
-    t: usize,
-    weight: f32,
+    z: Sizes,
     tiles: &[u32],
     colours: &[f32],
     counts: &[u32],
@@ -18,13 +16,10 @@ pub fn assign(
     hints: &mut [u32],
     out: &mut [u32],
 ) -> u32
-    ensures { λ r. ⌜ outcome r (held (now (hints .exit)) (now (out .exit))) ≡ assignDef tileSize (job s c t weight (now (tiles .entry)) (now (colours .entry)) (now (counts .entry))) (now (palette .entry)) (held (now (hints .entry)) (now (out .entry))) ⌝ }
+    ensures { λ r. ⌜ outcome r (held (now (hints .exit)) (now (out .exit))) ≡ assignDef tileSize (jobOf z (now (tiles .entry)) (now (colours .entry)) (now (counts .entry))) (now (palette .entry)) (held (now (hints .entry)) (now (out .entry))) ⌝ }
 {
     let number = assign_check::check_assign(
-        s,
-        c,
-        t,
-        weight,
+        z,
         tiles,
         colours,
         counts,
@@ -35,6 +30,6 @@ pub fn assign(
     if number != 0 {
         return number;
     }
-    assign_tiles::assign_tiles(s, c, t, weight, tiles, colours, counts, palette, hints, out);
+    assign_tiles::assign_tiles(z, tiles, colours, counts, palette, hints, out);
     0
 }

@@ -71,16 +71,16 @@ first-kept =
 
 -- what is told of each definition, over plain arguments
 module _ (K : Course) (m : Memory) where
-  start-tells : (seed : ℕ) → Tells Memory (answer (startRules tileSize K m)) m (toldRun (startCall tileSize K m seed))
+  start-tells : (seed : ℕ) → Tells Memory (answer (startRules tileSize K m)) m (toldRun (startCall K m seed))
   start-tells seed = tells (first .start K m seed .call) toldRun m (start-apart tileSize K m seed .low) (run-told _ _ _ refl)
 
-  advance-tells : (a : ℕ) → Tells Memory (answer (advanceRules tileSize K m)) m (toldRun (advanceCall tileSize K m a))
+  advance-tells : (a : ℕ) → Tells Memory (answer (advanceRules tileSize K m)) m (toldRun (advanceCall K m a))
   advance-tells a = tells (first .advance K m a .call) toldRun m (advance-apart tileSize K m a .low) (run-told _ _ _ refl)
 
-  hand-in-tells : (reduced : List Float) → Tells Memory (answer (handInRules tileSize K m reduced)) m (toldRun (handInCall tileSize K m reduced))
+  hand-in-tells : (reduced : List Float) → Tells Memory (answer (handInRules tileSize K m reduced)) m (toldRun (handInCall K m reduced))
   hand-in-tells reduced = tells (first .hand-in K m reduced .call) toldRun m (hand-in-apart tileSize K m reduced .low) (run-told _ _ _ refl)
 
-  result-tells : (out : List Float) → Tells (List Float) (answer (resultRules tileSize K m out)) out (toldColours (resultCall tileSize K m out))
+  result-tells : (out : List Float) → Tells (List Float) (answer (resultRules tileSize K m out)) out (toldColours (resultCall K m out))
   result-tells out = tells (first .result K m out .call) toldColours out (result-apart tileSize K m out .low) (colours-told _ _ _ refl)
 
 assign-tells : (J : Job) (palette : List Float) (h : Held) → let room = roomFor (J .T) (length (h .hints)) (length (h .out)) in Tells Held (answer (plainRules tileSize J palette room)) h (toldTiles (assignDef tileSize J palette h))

@@ -38,7 +38,7 @@ module _ (J : Job) (palette : List Float) where
   unfolding assignAnswer plainAnswer
   assign-accepted h e = sym (first-demand tileSize .assign J palette h .call .numbers) ∙ e
 
-advance-accepted : (K : Course) (m : Memory) (a : ℕ) → advanceCall tileSize K m a .number ≡ 0 → advanceAnswer tileSize K m ≡ 0
+advance-accepted : (K : Course) (m : Memory) (a : ℕ) → advanceCall K m a .number ≡ 0 → advanceAnswer K m ≡ 0
 unfolding advanceAnswer
 advance-accepted K m a h = sym (first-demand tileSize .advance K m a .call .numbers) ∙ h
 

@@ -15,10 +15,10 @@ use Rattle.contracts.proofs.Keeps.{keeps}
 use Rattle.contracts.proofs.Contracts.{contracts, exports}
 
 module _ (K : Course) (m : Memory) (a : ℕ) where
-  drawn : getD (advanceCall tileSize K m a .after .words) 4 0 ≡ getD (m .words) 4 0 + advanceCall tileSize K m a .drew
+  drawn : getD (advanceCall K m a .after .words) 4 0 ≡ getD (m .words) 4 0 + advanceCall K m a .drew
   drawn = third-demand tileSize few-pixels K .reported m a
 
-  told-drawn : getD (toldRun (advanceCall tileSize K m a) .after .words) 4 0 ≡ getD (m .words) 4 0 + toldRun (advanceCall tileSize K m a) .answer / 256
+  told-drawn : getD (toldRun (advanceCall K m a) .after .words) 4 0 ≡ getD (m .words) 4 0 + toldRun (advanceCall K m a) .answer / 256
   unfolding toldRun
   told-drawn = drawn ∙ ap (λ (d : ℕ). getD (m .words) 4 0 + d) (sym (advance-apart tileSize K m a .rest))
 

@@ -48,7 +48,7 @@ module _ (κs : Lfts (function.signature .lifetimes)) (a : Args function.signatu
   seen r e = outcome (r .number) (r .draws) (memory-left e)
 
   abbrev pub defined : Outcome
-  defined = advanceCall tileSize course-given memory-lent allotment-given
+  defined = advanceCall course-given memory-lent allotment-given
 
   abbrev pub answers : Outcome → Type 0
   answers = Answers Outcome (λ y. y .number) (answer (advanceRules tileSize course-given memory-lent)) (refused memory-lent)

@@ -46,7 +46,7 @@ module _ (κs : Lfts (function.signature .lifetimes)) (a : Args function.signatu
   seen r e = outcome r 0 (memory-left e)
 
   abbrev pub defined : Outcome
-  defined = handInCall tileSize course-given memory-lent reduced-given
+  defined = handInCall course-given memory-lent reduced-given
 
   abbrev pub answers : Outcome → Type 0
   answers = Answers Outcome (λ y. y .number) (answer (handInRules tileSize course-given memory-lent reduced-given)) (refused memory-lent)

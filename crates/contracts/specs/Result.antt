@@ -43,7 +43,7 @@ module _ (κs : Lfts (function.signature .lifetimes)) (a : Args function.signatu
   seen r e = copiedTo r (out-left e)
 
   abbrev pub defined : Copied
-  defined = resultCall tileSize course-given memory-lent out-lent
+  defined = resultCall course-given memory-lent out-lent
 
   abbrev pub answers : Copied → Type 0
   answers = Answers Copied (λ y. y .number) (answer (resultRules tileSize course-given memory-lent out-lent)) (λ k. copiedTo k out-lent)

@@ -44,7 +44,7 @@ module _ (κs : Lfts (function.signature .lifetimes)) (a : Args function.signatu
   seen r e = outcome r 0 (memory-left e)
 
   abbrev pub defined : Outcome
-  defined = startCall tileSize course-given memory-lent seed-given
+  defined = startCall course-given memory-lent seed-given
 
   abbrev pub answers : Outcome → Type 0
   answers = Answers Outcome (λ y. y .number) (answer (startRules tileSize course-given memory-lent)) (refused memory-lent)

@@ -1,5 +1,6 @@
 // What `fit` prints for a sheet: a refusal's line, or those of the job that it holds. Hints start at 0.
 // Assumes nothing.
+use job::Sizes;
 ghost use mathlib.Core.Path.{_≡_};
 ghost use Prim.Native.Nat.{_≤_};
 ghost use lib.ListN.{length};
@@ -19,32 +20,26 @@ fn no_hints() -> [u32; 1024]
 
 // The lines of a job whose lists stand at the beginning of these slices.
 fn put_job(
-    s: usize,
-    c: usize,
-    t: usize,
-    weight: f32,
+    z: Sizes,
     tiles: &[u32],
     colours: &[f32],
     counts: &[u32],
     palette: &[f32],
     out: &mut [u8],
 ) -> usize
-    requires { ⌜ Holds s c t weight (now tiles) (now colours) (now counts) (now palette) × (34060 ≤ length (now out)) ⌝ }
-    ensures { λ r. ⌜ Prints s c t weight (now (tiles .entry)) (now (colours .entry)) (now (counts .entry)) (now (palette .entry)) (now (out .entry)) (now (out .exit)) r ⌝ }
+    requires { ⌜ Holds (z .s) (z .c) (z .t) (z .weight) (now tiles) (now colours) (now counts) (now palette) × (34060 ≤ length (now out)) ⌝ }
+    ensures { λ r. ⌜ Prints (z .s) (z .c) (z .t) (z .weight) (now (tiles .entry)) (now (colours .entry)) (now (counts .entry)) (now (palette .entry)) (now (out .entry)) (now (out .exit)) r ⌝ }
 {
     let mut hints = no_hints();
-    let last = t - 1;
+    let last = z.t - 1;
     let n = job::first_of(tiles, last) + job::size_of(tiles, last);
     fit_tiles::put_fit(
-        s,
-        c,
-        t,
-        weight,
-        &tiles[..2 * t],
+        z,
+        &tiles[..2 * z.t],
         &colours[..3 * n],
         &counts[..n],
-        &palette[..3 * (s * c)],
-        &mut hints[..t],
+        &palette[..3 * (z.s * z.c)],
+        &mut hints[..z.t],
         out,
     )
 }

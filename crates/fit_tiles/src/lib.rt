@@ -1,11 +1,12 @@
 // The lines that `fit` prints for a job and a palette: the sizes, each tile's fit and each subpalette's load.
 // Assumes nothing.
+use job::Sizes;
 ghost use mathlib.Core.Path.{_≡_};
 ghost use Prim.Native.Nat.{ℕ, _+_, _*_, _≤_, _<_};
 ghost use lib.ListN.{length, getD};
 ghost use Rattle.assign_tiles.specs.Tiles.{subpaletteOf};
 ghost use Rattle.fit_lines.specs.Lines.{Stored};
-ghost use Rattle.job.specs.Job.{job};
+ghost use Rattle.job.specs.Job.{jobOf};
 ghost use Rattle.palette_tile.specs.Tiles.{Shown, Paired};
 ghost use Rattle.fit_tiles.specs.Text.{distBits, tileLines, loadLines, loadOf, fitText};
 
@@ -17,10 +18,7 @@ pub struct Found {
 
 // Tile i: an empty one has subpalette 0 and distance 0.
 fn tile_found(
-    s: usize,
-    c: usize,
-    t: usize,
-    weight: f32,
+    z: Sizes,
     tiles: &[u32],
     colours: &[f32],
     counts: &[u32],
@@ -28,26 +26,13 @@ fn tile_found(
     hints: &mut [u32],
     i: usize,
 ) -> Found
-    requires { ⌜ Paired (job s c t weight (now tiles) (now colours) (now counts)) (now palette) s c (now hints) i ⌝ }
-    ensures { λ r. ⌜ (r .sub ≡ subpaletteOf (job s c t weight (now (tiles .entry)) (now (colours .entry)) (now (counts .entry))) (now (palette .entry)) i) × (r .bits ≡ distBits (job s c t weight (now (tiles .entry)) (now (colours .entry)) (now (counts .entry))) (now (palette .entry)) i) ⌝ }
+    requires { ⌜ Paired (jobOf z (now tiles) (now colours) (now counts)) (now palette) (z .s) (z .c) (now hints) i ⌝ }
+    ensures { λ r. ⌜ (r .sub ≡ subpaletteOf (jobOf z (now (tiles .entry)) (now (colours .entry)) (now (counts .entry))) (now (palette .entry)) i) × (r .bits ≡ distBits (jobOf z (now (tiles .entry)) (now (colours .entry)) (now (counts .entry))) (now (palette .entry)) i) ⌝ }
 {
     if job::is_empty(tiles, i) {
         return Found { sub: 0, bits: 0 };
     }
-    let best = palette_tile::tile_fit(
-        s,
-        c,
-        t,
-        weight,
-        tiles,
-        colours,
-        counts,
-        palette,
-        s,
-        c,
-        hints,
-        i,
-    );
+    let best = palette_tile::tile_fit(z, tiles, colours, counts, palette, z.s, z.c, hints, i);
     Found {
         sub: best.index as u32,
         bits: f32::to_bits(best.dist),
@@ -56,10 +41,7 @@ fn tile_found(
 
 // A line for each tile, and how many tiles each subpalette has.
 fn put_tiles(
-    s: usize,
-    c: usize,
-    t: usize,
-    weight: f32,
+    z: Sizes,
     tiles: &[u32],
     colours: &[f32],
     counts: &[u32],
@@ -69,13 +51,13 @@ fn put_tiles(
     out: &mut [u8],
     at: usize,
 ) -> usize
-    requires { ⌜ Shown (job s c t weight (now tiles) (now colours) (now counts)) (now palette) s c × (length (now hints) ≡ t) × (s ≤ length (now loads)) × ((k : ℕ) → getD (now loads) k 0 ≡ 0) × (at + 33 * t ≤ length (now out)) ⌝ }
-    ensures { λ r. ⌜ Stored (now (out .entry)) (now (out .exit)) at r (tileLines (job s c t weight (now (tiles .entry)) (now (colours .entry)) (now (counts .entry))) (now (palette .entry)) t) × ((k : ℕ) → getD (now (loads .exit)) k 0 ≡ loadOf (job s c t weight (now (tiles .entry)) (now (colours .entry)) (now (counts .entry))) (now (palette .entry)) k t) ⌝ }
+    requires { ⌜ Shown (jobOf z (now tiles) (now colours) (now counts)) (now palette) (z .s) (z .c) × (length (now hints) ≡ (z .t)) × ((z .s) ≤ length (now loads)) × ((k : ℕ) → getD (now loads) k 0 ≡ 0) × (at + 33 * (z .t) ≤ length (now out)) ⌝ }
+    ensures { λ r. ⌜ Stored (now (out .entry)) (now (out .exit)) at r (tileLines (jobOf z (now (tiles .entry)) (now (colours .entry)) (now (counts .entry))) (now (palette .entry)) (z .t)) × ((k : ℕ) → getD (now (loads .exit)) k 0 ≡ loadOf (jobOf z (now (tiles .entry)) (now (colours .entry)) (now (counts .entry))) (now (palette .entry)) k (z .t)) ⌝ }
 {
     let mut q = at;
     let mut i = 0;
-    while i < t {
-        let found = tile_found(s, c, t, weight, tiles, colours, counts, palette, hints, i);
+    while i < z.t {
+        let found = tile_found(z, tiles, colours, counts, palette, hints, i);
         q = fit_lines::put_tile(out, q, i as u32, found.sub, found.bits);
         fit_count::count_tile(loads, found.sub);
         i += 1;
@@ -99,10 +81,7 @@ fn put_loads(s: usize, loads: &[u32], out: &mut [u8], at: usize) -> usize
 
 // All lines of a job and a palette that passed their checks.
 pub fn put_fit(
-    s: usize,
-    c: usize,
-    t: usize,
-    weight: f32,
+    z: Sizes,
     tiles: &[u32],
     colours: &[f32],
     counts: &[u32],
@@ -110,16 +89,13 @@ pub fn put_fit(
     hints: &mut [u32],
     out: &mut [u8],
 ) -> usize
-    requires { ⌜ Shown (job s c t weight (now tiles) (now colours) (now counts)) (now palette) s c × (length (now hints) ≡ t) × (34060 ≤ length (now out)) ⌝ }
-    ensures { λ r. ⌜ Stored (now (out .entry)) (now (out .exit)) 0 r (fitText (job s c t weight (now (tiles .entry)) (now (colours .entry)) (now (counts .entry))) (now (palette .entry))) ⌝ }
+    requires { ⌜ Shown (jobOf z (now tiles) (now colours) (now counts)) (now palette) (z .s) (z .c) × (length (now hints) ≡ (z .t)) × (34060 ≤ length (now out)) ⌝ }
+    ensures { λ r. ⌜ Stored (now (out .entry)) (now (out .exit)) 0 r (fitText (jobOf z (now (tiles .entry)) (now (colours .entry)) (now (counts .entry))) (now (palette .entry))) ⌝ }
 {
     let mut loads = [0u32; 16];
-    let a = fit_lines::put_head(out, 0, t as u32, s as u32);
+    let a = fit_lines::put_head(out, 0, z.t as u32, z.s as u32);
     let b = put_tiles(
-        s,
-        c,
-        t,
-        weight,
+        z,
         tiles,
         colours,
         counts,
@@ -129,5 +105,5 @@ pub fn put_fit(
         out,
         a,
     );
-    put_loads(s, &loads, out, b)
+    put_loads(z.s, &loads, out, b)
 }

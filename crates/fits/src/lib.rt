@@ -1,51 +1,25 @@
 // The public call single fit, over a job of one tile and its palette.
 // It first asks for the number of the first rule broken, over shared slices, so that a refusal writes nothing.
+use job::Sizes;
 ghost use mathlib.Core.Path.{_≡_};
-ghost use Rattle.job.specs.Job.{job, tileSize};
+ghost use Rattle.job.specs.Job.{jobOf, tileSize};
 ghost use Rattle.fits_outcome.specs.Fits.{singleOutcome, singleDef};
 use fits_outcome::Single;
 
 // The subpalette that fits the one tile of a job best, and its distance; its hint then names it.
 pub fn single_fit(
-    s: usize,
-    c: usize,
-    t: usize,
-    weight: f32,
+    z: Sizes,
     tiles: &[u32],
     colours: &[f32],
     counts: &[u32],
     palette: &[f32],
     hints: &mut [u32],
 ) -> Single
-    ensures { λ r. ⌜ singleOutcome r (now (hints .exit)) ≡ singleDef tileSize (job s c t weight (now (tiles .entry)) (now (colours .entry)) (now (counts .entry))) (now (palette .entry)) (now (hints .entry)) ⌝ }
+    ensures { λ r. ⌜ singleOutcome r (now (hints .exit)) ≡ singleDef tileSize (jobOf z (now (tiles .entry)) (now (colours .entry)) (now (counts .entry))) (now (palette .entry)) (now (hints .entry)) ⌝ }
 {
-    let number = fits_check::check_single(
-        job::TILE_SIZE,
-        s,
-        c,
-        t,
-        weight,
-        tiles,
-        colours,
-        counts,
-        palette,
-        hints.len(),
-    );
+    let number = fits_check::check_single(z, tiles, colours, counts, palette, hints.len());
     if number != 0 {
         return Single::Refused(number);
     }
-    Single::Best(palette_tile::tile_fit(
-        s,
-        c,
-        t,
-        weight,
-        tiles,
-        colours,
-        counts,
-        palette,
-        s,
-        c,
-        hints,
-        0,
-    ))
+    Single::Best(palette_tile::tile_fit(z, tiles, colours, counts, palette, z.s, z.c, hints, 0))
 }

@@ -1,52 +1,26 @@
 // The public call `best_two`, over a job of one tile and its palette.
 // It first asks for the number of the first rule broken, over shared slices, so that a refusal writes nothing.
+use job::Sizes;
 ghost use mathlib.Core.Path.{_≡_};
-ghost use Rattle.job.specs.Job.{job, tileSize};
+ghost use Rattle.job.specs.Job.{jobOf, tileSize};
 ghost use Rattle.fits_outcome.specs.Pairs.{pairOutcome, pairDef};
 use fits_outcome::Pair;
 
 // The subpalette that fits the one tile of a job best, its distance and the second smallest, infinity where there is none; its hint then
 // names it. An empty tile is answered: 0, 0 and 0, infinity if s is 1.
 pub fn best_two(
-    s: usize,
-    c: usize,
-    t: usize,
-    weight: f32,
+    z: Sizes,
     tiles: &[u32],
     colours: &[f32],
     counts: &[u32],
     palette: &[f32],
     hints: &mut [u32],
 ) -> Pair
-    ensures { λ r. ⌜ pairOutcome r (now (hints .exit)) ≡ pairDef tileSize (job s c t weight (now (tiles .entry)) (now (colours .entry)) (now (counts .entry))) (now (palette .entry)) (now (hints .entry)) ⌝ }
+    ensures { λ r. ⌜ pairOutcome r (now (hints .exit)) ≡ pairDef tileSize (jobOf z (now (tiles .entry)) (now (colours .entry)) (now (counts .entry))) (now (palette .entry)) (now (hints .entry)) ⌝ }
 {
-    let number = fits_check::check_one(
-        job::TILE_SIZE,
-        s,
-        c,
-        t,
-        weight,
-        tiles,
-        colours,
-        counts,
-        palette,
-        hints.len(),
-    );
+    let number = fits_check::check_one(z, tiles, colours, counts, palette, hints.len());
     if number != 0 {
         return Pair::Refused(number);
     }
-    Pair::Best(palette_tile::tile_two(
-        s,
-        c,
-        t,
-        weight,
-        tiles,
-        colours,
-        counts,
-        palette,
-        s,
-        c,
-        hints,
-        0,
-    ))
+    Pair::Best(palette_tile::tile_two(z, tiles, colours, counts, palette, z.s, z.c, hints, 0))
 }

@@ -22,6 +22,14 @@ pub record Job : Type 0 where
 abbrev pub job : ℕ → ℕ → ℕ → ℕ → Float → List ℕ → List Float → List ℕ → Job
 job size s c t weight tiles colours counts = record { size = size; S = s; C = c; T = t; weight = weight; tiles = tiles; colours = colours; counts = counts }
 
+-- the pixels of a tile
+abbrev pub tileSize : ℕ
+tileSize = 64
+
+-- the numbers of a call on tiles of 64 pixels
+abbrev pub sizesOf : ℕ → ℕ → ℕ → ℕ → Float → Sizes
+sizesOf s c t n weight = record { size = tileSize; s = s; c = c; t = t; n = n; weight = weight }
+
 -- the job that a call's numbers and lists make
 abbrev pub jobOf : Sizes → List ℕ → List Float → List ℕ → Job
 jobOf z tiles colours counts = job (z .size) (z .s) (z .c) (z .t) (z .weight) tiles colours counts
@@ -56,10 +64,6 @@ pub record Placed (per : ℕ) (tiles : List ℕ) (t length·part : ℕ) : Type 0
   pub inside : per * (firstOf tiles t + sizeOf tiles t) ≤ length·part
 
 -- ---- limits
--- the pixels of a tile
-abbrev pub tileSize : ℕ
-tileSize = 64
-
 abbrev pub mostSubpalettes : ℕ
 mostSubpalettes = 16
 

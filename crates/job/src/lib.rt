@@ -3,7 +3,7 @@ ghost use mathlib.Core.Path.{_≡_};
 ghost use Prim.Native.Nat.{ℕ, _+_, _*_, _<_};
 ghost use lib.Dec.{eqb};
 ghost use lib.ListN.{length};
-ghost use Rattle.job.specs.Job.{firstOf, sizeOf, coloursPart, countsPart, Placed};
+ghost use Rattle.job.specs.Job.{sizesOf, firstOf, sizeOf, coloursPart, countsPart, Placed};
 
 // The numbers of a call, by value: how many pixels a tile has at most, subpalettes, colours in each, tiles, samples (0 where none are
 // lent), and the weight of brightness.
@@ -18,6 +18,19 @@ pub struct Sizes {
 
 // The pixels of a tile, at most.
 pub const TILE_SIZE: usize = 64;
+
+pub fn sizes_of(s: usize, c: usize, t: usize, n: usize, weight: f32) -> Sizes
+    ensures { λ r. ⌜ r ≡ sizesOf s c t n weight ⌝ }
+{
+    Sizes {
+        size: TILE_SIZE,
+        s,
+        c,
+        t,
+        n,
+        weight,
+    }
+}
 
 // The magnitude of a job's component, at most.
 pub const MOST_COMPONENT: f32 = 2.0;

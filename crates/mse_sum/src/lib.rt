@@ -1,9 +1,10 @@
 // The mean squared error of a palette over a job's tiles, each matched to the subpalette that fits it best.
 // It is what the definition in specs/Mse.antt of mse says; the hints then name each tile's winner.
+use job::Sizes;
 ghost use mathlib.Core.Path.{_≡_};
 ghost use Prim.Native.Nat.{_+_, _*_, _<_};
 ghost use lib.ListN.{length};
-ghost use Rattle.job.specs.Job.{job};
+ghost use Rattle.job.specs.Job.{jobOf};
 ghost use Rattle.palette.specs.Palette.{tileWith};
 ghost use Rattle.palette_tile.specs.Tiles.{hintStep, hintsOf, Shown};
 ghost use Rattle.mse.specs.Mse.{tileTally, tallyStep, meanOf, mseOf, Summed, Turn, Meaned};
@@ -29,10 +30,7 @@ fn tile_tally(s: &[f32], tile: &[f32], counts: &[u32], w: f32, from: Tally) -> T
 
 // Tile i's part in the sum; its hint is written, where it is not empty.
 fn tile_step(
-    s: usize,
-    c: usize,
-    t: usize,
-    weight: f32,
+    z: Sizes,
     tiles: &[u32],
     colours: &[f32],
     counts: &[u32],
@@ -43,31 +41,18 @@ fn tile_step(
     i: usize,
     sum: Tally,
 ) -> Tally
-    requires { ⌜ Turn (job s c t weight (now tiles) (now colours) (now counts)) (now pal) n have (now hints) i sum ⌝ }
-    ensures { λ r. ⌜ (r ≡ tallyStep (job s c t weight (now (tiles .entry)) (now (colours .entry)) (now (counts .entry))) (now (pal .entry)) n have i sum) × (now (hints .exit) ≡ hintStep (job s c t weight (now (tiles .entry)) (now (colours .entry)) (now (counts .entry))) (now (pal .entry)) n have i (now (hints .entry))) ⌝ }
+    requires { ⌜ Turn (jobOf z (now tiles) (now colours) (now counts)) (now pal) n have (now hints) i sum ⌝ }
+    ensures { λ r. ⌜ (r ≡ tallyStep (jobOf z (now (tiles .entry)) (now (colours .entry)) (now (counts .entry))) (now (pal .entry)) n have i sum) × (now (hints .exit) ≡ hintStep (jobOf z (now (tiles .entry)) (now (colours .entry)) (now (counts .entry))) (now (pal .entry)) n have i (now (hints .entry))) ⌝ }
 {
     if job::is_empty(tiles, i) {
         return sum;
     }
-    let best = palette_tile::tile_fit(
-        s,
-        c,
-        t,
-        weight,
-        tiles,
-        colours,
-        counts,
-        pal,
-        n,
-        have,
-        hints,
-        i,
-    );
+    let best = palette_tile::tile_fit(z, tiles, colours, counts, pal, n, have, hints, i);
     let winner = best.index;
-    let sub = palette::part(pal, c, have, winner);
+    let sub = palette::part(pal, z.c, have, winner);
     let tile = job::tile_part(tiles, colours, i);
     let part = job::counts_part(tiles, counts, i);
-    tile_tally(sub, tile, part, weight, sum)
+    tile_tally(sub, tile, part, z.weight, sum)
 }
 
 // The mean in f32 of a sum in f64; 0 where nothing counts.
@@ -83,10 +68,7 @@ fn mean(sum: Tally) -> f32
 
 // Mean squared error of n subpalettes of `have` colours over the tiles that are not empty.
 pub fn mse(
-    s: usize,
-    c: usize,
-    t: usize,
-    weight: f32,
+    z: Sizes,
     tiles: &[u32],
     colours: &[f32],
     counts: &[u32],
@@ -95,30 +77,16 @@ pub fn mse(
     have: usize,
     hints: &mut [u32],
 ) -> f32
-    requires { ⌜ Shown (job s c t weight (now tiles) (now colours) (now counts)) (now pal) n have × (length (now hints) ≡ t) ⌝ }
-    ensures { λ r. ⌜ (r ≡ mseOf (job s c t weight (now (tiles .entry)) (now (colours .entry)) (now (counts .entry))) (now (pal .entry)) n have) × (now (hints .exit) ≡ hintsOf (job s c t weight (now (tiles .entry)) (now (colours .entry)) (now (counts .entry))) (now (pal .entry)) n have (now (hints .entry)) t) ⌝ }
+    requires { ⌜ Shown (jobOf z (now tiles) (now colours) (now counts)) (now pal) n have × (length (now hints) ≡ (z .t)) ⌝ }
+    ensures { λ r. ⌜ (r ≡ mseOf (jobOf z (now (tiles .entry)) (now (colours .entry)) (now (counts .entry))) (now (pal .entry)) n have) × (now (hints .exit) ≡ hintsOf (jobOf z (now (tiles .entry)) (now (colours .entry)) (now (counts .entry))) (now (pal .entry)) n have (now (hints .entry)) (z .t)) ⌝ }
 {
     let mut sum = Tally {
         total: 0.0,
         count: 0,
     };
     let mut i = 0;
-    while i < t {
-        sum = tile_step(
-            s,
-            c,
-            t,
-            weight,
-            tiles,
-            colours,
-            counts,
-            pal,
-            n,
-            have,
-            hints,
-            i,
-            sum,
-        );
+    while i < z.t {
+        sum = tile_step(z, tiles, colours, counts, pal, n, have, hints, i, sum);
         i += 1;
     }
     mean(sum)

@@ -17,7 +17,8 @@ pub extern "C" fn probe_single_fit(
     index: &mut usize,
     dist: &mut f32,
 ) -> u32 {
-    match fits::single_fit(s, c, t, weight, tiles, colours, counts, palette, hints) {
+    let z = job::sizes_of(s, c, t, 0, weight);
+    match fits::single_fit(z, tiles, colours, counts, palette, hints) {
         Single::Best(near) => {
             *index = near.index;
             *dist = near.dist;
@@ -42,7 +43,8 @@ pub extern "C" fn probe_public_best_two(
     dist: &mut f32,
     second: &mut f32,
 ) -> u32 {
-    match fits_two::best_two(s, c, t, weight, tiles, colours, counts, palette, hints) {
+    let z = job::sizes_of(s, c, t, 0, weight);
+    match fits_two::best_two(z, tiles, colours, counts, palette, hints) {
         Pair::Best(two) => {
             *index = two.index;
             *dist = two.dist;

@@ -40,7 +40,8 @@ pub extern "C" fn probe_sheet_write(
     dst: &mut [u8],
     size: &mut usize,
 ) -> u32 {
-    match sheet::write(s, c, t, weight, tiles, colours, counts, palette, dst) {
+    let z = job::sizes_of(s, c, t, 0, weight);
+    match sheet::write(z, tiles, colours, counts, palette, dst) {
         Writing::Refused(number) => number,
         Writing::Bytes(n) => {
             *size = n;

@@ -1,7 +1,7 @@
 // Forwarders to what training does between draws. Assumes of callers what each callee requires.
 ghost use mathlib.Core.Path.{_≡_};
 ghost use lib.ListN.{length};
-ghost use Rattle.job.specs.Job.{job};
+ghost use Rattle.job.specs.Job.{sizesOf, jobOf};
 ghost use Rattle.palette_tile.specs.Tiles.{Shown};
 ghost use Rattle.quantizer_needs.specs.Asked.{Growing};
 
@@ -19,9 +19,10 @@ pub extern "C" fn probe_mse(
     have: usize,
     hints: &mut [u32],
 ) -> f32
-    requires { ⌜ Shown (job s c t weight (now tiles) (now colours) (now counts)) (now pal) n have × (length (now hints) ≡ t) ⌝ }
+    requires { ⌜ Shown (jobOf (sizesOf s c t 0 weight) (now tiles) (now colours) (now counts)) (now pal) n have × (length (now hints) ≡ t) ⌝ }
 {
-    mse_sum::mse(s, c, t, weight, tiles, colours, counts, pal, n, have, hints)
+    let z = job::sizes_of(s, c, t, 0, weight);
+    mse_sum::mse(z, tiles, colours, counts, pal, n, have, hints)
 }
 
 #[no_mangle]
@@ -37,9 +38,10 @@ pub extern "C" fn probe_grow(
     have: usize,
     hints: &mut [u32],
 )
-    requires { ⌜ Growing (job s c t weight (now tiles) (now colours) (now counts)) (now pal) have (now hints) ⌝ }
+    requires { ⌜ Growing (jobOf (sizesOf s c t 0 weight) (now tiles) (now colours) (now counts)) (now pal) have (now hints) ⌝ }
 {
-    quantizer_grow::grow_palette(s, c, t, weight, tiles, colours, counts, pal, have, hints)
+    let z = job::sizes_of(s, c, t, 0, weight);
+    quantizer_grow::grow_palette(z, tiles, colours, counts, pal, have, hints)
 }
 
 #[no_mangle]
@@ -54,9 +56,10 @@ pub extern "C" fn probe_replace_weakest(
     pal: &mut [f32],
     hints: &mut [u32],
 )
-    requires { ⌜ Shown (job s c t weight (now tiles) (now colours) (now counts)) (now pal) s c × (length (now hints) ≡ t) ⌝ }
+    requires { ⌜ Shown (jobOf (sizesOf s c t 0 weight) (now tiles) (now colours) (now counts)) (now pal) s c × (length (now hints) ≡ t) ⌝ }
 {
-    quantizer_replace::replace_weakest(s, c, t, weight, tiles, colours, counts, pal, hints)
+    let z = job::sizes_of(s, c, t, 0, weight);
+    quantizer_replace::replace_weakest(z, tiles, colours, counts, pal, hints)
 }
 
 #[no_mangle]
@@ -71,7 +74,8 @@ pub extern "C" fn probe_refine(
     pal: &mut [f32],
     hints: &mut [u32],
 )
-    requires { ⌜ Shown (job s c t weight (now tiles) (now colours) (now counts)) (now pal) s c × (length (now hints) ≡ t) ⌝ }
+    requires { ⌜ Shown (jobOf (sizesOf s c t 0 weight) (now tiles) (now colours) (now counts)) (now pal) s c × (length (now hints) ≡ t) ⌝ }
 {
-    quantizer_refine::refine(s, c, t, weight, tiles, colours, counts, pal, hints)
+    let z = job::sizes_of(s, c, t, 0, weight);
+    quantizer_refine::refine(z, tiles, colours, counts, pal, hints)
 }

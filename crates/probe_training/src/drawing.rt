@@ -1,11 +1,10 @@
 // A forwarder to one draw. Assumes of callers what the callee requires.
 ghost use Rattle.prng.specs.Shuffle.{deck};
 ghost use Rattle.cycle.specs.Cycle.{cycle};
-ghost use Rattle.job.specs.Job.{job};
-ghost use Rattle.quantizer.specs.Course.{course};
+ghost use Rattle.job.specs.Job.{sizesOf};
+ghost use Rattle.quantizer.specs.Course.{courseOf};
 ghost use Rattle.quantizer_draw.specs.Draws.{Going};
 use prng::Prng;
-use job::Sizes;
 use sample_cycle::SampleCycle;
 
 // Gives the generator's state after the draw.
@@ -29,11 +28,11 @@ pub extern "C" fn probe_draw(
     hints: &mut [u32],
     alpha: f32,
 ) -> u64
-    requires { ⌜ Going (course (job s c t weight (now tiles) (now colours) (now counts)) n (now samples)) (cycle (deck (now order) state) made) (now pal) subs have (now hints) ⌝ }
+    requires { ⌜ Going (courseOf (sizesOf s c t n weight) (now tiles) (now colours) (now counts) (now samples)) (cycle (deck (now order) state) made) (now pal) subs have (now hints) ⌝ }
 {
     let prng = Prng { state };
     let at = SampleCycle { prng, made };
-    let z = Sizes { size: 64, s, c, t, n, weight };
+    let z = job::sizes_of(s, c, t, n, weight);
     let after = quantizer_draw::draw(
         z,
         tiles,

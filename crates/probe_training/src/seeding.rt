@@ -1,9 +1,9 @@
 // Forwarders to the mean and the first colour of seeding, and to the choice of what is split next. Assumes of callers what each callee requires.
 ghost use mathlib.Core.Path.{_≡_};
 ghost use lib.ListN.{length};
-ghost use Rattle.job.specs.Job.{job};
+ghost use Rattle.job.specs.Job.{sizesOf, jobOf};
 ghost use Rattle.palette_tile.specs.Tiles.{Shown};
-ghost use Rattle.quantizer.specs.Course.{course};
+ghost use Rattle.quantizer.specs.Course.{courseOf};
 ghost use Rattle.quantizer_seed.specs.Seeds.{Averaging, Seeding};
 
 #[no_mangle]
@@ -36,9 +36,10 @@ pub extern "C" fn probe_seed(
     samples: &[u32],
     pal: &mut [f32],
 )
-    requires { ⌜ Seeding (course (job s c t weight (now tiles) (now colours) (now counts)) n (now samples)) (now pal) ⌝ }
+    requires { ⌜ Seeding (courseOf (sizesOf s c t n weight) (now tiles) (now colours) (now counts) (now samples)) (now pal) ⌝ }
 {
-    quantizer_seed::seed(s, c, t, n, weight, tiles, colours, counts, samples, pal)
+    let z = job::sizes_of(s, c, t, n, weight);
+    quantizer_seed::seed(z, tiles, colours, counts, samples, pal)
 }
 
 #[no_mangle]
@@ -54,7 +55,8 @@ pub extern "C" fn probe_worst(
     subs: usize,
     hints: &mut [u32],
 ) -> usize
-    requires { ⌜ Shown (job s c t weight (now tiles) (now colours) (now counts)) (now pal) subs 1 × (length (now hints) ≡ t) ⌝ }
+    requires { ⌜ Shown (jobOf (sizesOf s c t 0 weight) (now tiles) (now colours) (now counts)) (now pal) subs 1 × (length (now hints) ≡ t) ⌝ }
 {
-    quantizer_worst::worst(s, c, t, weight, tiles, colours, counts, pal, subs, hints)
+    let z = job::sizes_of(s, c, t, 0, weight);
+    quantizer_worst::worst(z, tiles, colours, counts, pal, subs, hints)
 }

@@ -1,17 +1,15 @@
 // The sums by colour that replacing the weakest is decided by, over all tiles of a job: what each has, and what would be added without it, from the two
 // nearest of each tile colour in the subpalette that its tile goes to. They are what specs/Replacing.antt of quantizer says.
+use job::Sizes;
 ghost use mathlib.Core.Path.{_≡_};
-ghost use Rattle.job.specs.Job.{job};
+ghost use Rattle.job.specs.Job.{jobOf};
 ghost use Rattle.quantizer.specs.Sums.{zeros};
 ghost use Rattle.quantizer.specs.Replacing.{shares, ownerOf, spreadStep, spreadOf};
 ghost use Rattle.quantizer_color_sums.specs.Asked.{Owned, OwnerTurn};
 
 // Tile i's part in the sums by colour: colour j of subpalette k is at the place k * c + j.
 fn color_step(
-    s: usize,
-    c: usize,
-    t: usize,
-    weight: f32,
+    z: Sizes,
     tiles: &[u32],
     colours: &[f32],
     counts: &[u32],
@@ -21,22 +19,19 @@ fn color_step(
     total: &mut [f32],
     second: &mut [f32],
 )
-    requires { ⌜ OwnerTurn (job s c t weight (now tiles) (now colours) (now counts)) (now pal) (now hints) i (shares (now total) (now second)) ⌝ }
-    ensures { λ r. ⌜ shares (now (total .exit)) (now (second .exit)) ≡ spreadStep (job s c t weight (now (tiles .entry)) (now (colours .entry)) (now (counts .entry))) (now (pal .entry)) (ownerOf (job s c t weight (now (tiles .entry)) (now (colours .entry)) (now (counts .entry))) (now (pal .entry)) i) i (shares (now (total .entry)) (now (second .entry))) ⌝ }
+    requires { ⌜ OwnerTurn (jobOf z (now tiles) (now colours) (now counts)) (now pal) (now hints) i (shares (now total) (now second)) ⌝ }
+    ensures { λ r. ⌜ shares (now (total .exit)) (now (second .exit)) ≡ spreadStep (jobOf z (now (tiles .entry)) (now (colours .entry)) (now (counts .entry))) (now (pal .entry)) (ownerOf (jobOf z (now (tiles .entry)) (now (colours .entry)) (now (counts .entry))) (now (pal .entry)) i) i (shares (now (total .entry)) (now (second .entry))) ⌝ }
 {
-    let owner = quantizer_owner::nearest_palette_of(s, hints, i);
-    let sub = palette::part(pal, c, c, owner);
+    let owner = quantizer_owner::nearest_palette_of(z.s, hints, i);
+    let sub = palette::part(pal, z.c, z.c, owner);
     let tile = job::tile_part(tiles, colours, i);
     let part = job::counts_part(tiles, counts, i);
-    quantizer_matches_two::for_each_match_two(sub, tile, part, weight, owner * c, total, second)
+    quantizer_matches_two::for_each_match_two(sub, tile, part, z.weight, owner * z.c, total, second)
 }
 
 // What each colour has, and what would be added without it, from the hints that palette_sums left.
 pub fn color_sums(
-    s: usize,
-    c: usize,
-    t: usize,
-    weight: f32,
+    z: Sizes,
     tiles: &[u32],
     colours: &[f32],
     counts: &[u32],
@@ -45,25 +40,12 @@ pub fn color_sums(
     total: &mut [f32],
     second: &mut [f32],
 )
-    requires { ⌜ Owned (job s c t weight (now tiles) (now colours) (now counts)) (now pal) (now hints) × ((now total ≡ zeros 256) × (now second ≡ zeros 256)) ⌝ }
-    ensures { λ r. ⌜ shares (now (total .exit)) (now (second .exit)) ≡ spreadOf (job s c t weight (now (tiles .entry)) (now (colours .entry)) (now (counts .entry))) (now (pal .entry)) (ownerOf (job s c t weight (now (tiles .entry)) (now (colours .entry)) (now (counts .entry))) (now (pal .entry))) t ⌝ }
+    requires { ⌜ Owned (jobOf z (now tiles) (now colours) (now counts)) (now pal) (now hints) × ((now total ≡ zeros 256) × (now second ≡ zeros 256)) ⌝ }
+    ensures { λ r. ⌜ shares (now (total .exit)) (now (second .exit)) ≡ spreadOf (jobOf z (now (tiles .entry)) (now (colours .entry)) (now (counts .entry))) (now (pal .entry)) (ownerOf (jobOf z (now (tiles .entry)) (now (colours .entry)) (now (counts .entry))) (now (pal .entry))) (z .t) ⌝ }
 {
     let mut i = 0;
-    while i < t {
-        color_step(
-            s,
-            c,
-            t,
-            weight,
-            tiles,
-            colours,
-            counts,
-            pal,
-            hints,
-            i,
-            total,
-            second,
-        );
+    while i < z.t {
+        color_step(z, tiles, colours, counts, pal, hints, i, total, second);
         i += 1;
     }
 }

@@ -1,18 +1,16 @@
 // The sums and the counts that one pass of refinement takes its means from: each tile colour goes to the nearest colour of the subpalette
 // that fits its tile best. They are what the definitions in quantizer's specs/Refining.antt say; the hints then name each tile's winner.
+use job::Sizes;
 ghost use mathlib.Core.Path.{_≡_};
 ghost use lib.ListN.{length};
-ghost use Rattle.job.specs.Job.{job};
+ghost use Rattle.job.specs.Job.{jobOf};
 ghost use Rattle.palette_tile.specs.Tiles.{winner, hintStep, hintsOf, Shown};
 ghost use Rattle.quantizer.specs.Refining.{gather, nothing, gatherStep, gatherOf};
 ghost use Rattle.quantizer_gather.specs.Turns.{Turned};
 
 // Tile i's part; its hint is written, where it is not empty.
 fn gather_step(
-    s: usize,
-    c: usize,
-    t: usize,
-    weight: f32,
+    z: Sizes,
     tiles: &[u32],
     colours: &[f32],
     counts: &[u32],
@@ -22,26 +20,23 @@ fn gather_step(
     sums: &mut [f32],
     cnts: &mut [u32],
 )
-    requires { ⌜ Turned (job s c t weight (now tiles) (now colours) (now counts)) (now pal) (now hints) i (gather (now sums) (now cnts)) ⌝ }
-    ensures { λ r. ⌜ (gather (now (sums .exit)) (now (cnts .exit)) ≡ gatherStep (job s c t weight (now (tiles .entry)) (now (colours .entry)) (now (counts .entry))) (now (pal .entry)) (winner (job s c t weight (now (tiles .entry)) (now (colours .entry)) (now (counts .entry))) (now (pal .entry)) s c i) i (gather (now (sums .entry)) (now (cnts .entry)))) × (now (hints .exit) ≡ hintStep (job s c t weight (now (tiles .entry)) (now (colours .entry)) (now (counts .entry))) (now (pal .entry)) s c i (now (hints .entry))) ⌝ }
+    requires { ⌜ Turned (jobOf z (now tiles) (now colours) (now counts)) (now pal) (now hints) i (gather (now sums) (now cnts)) ⌝ }
+    ensures { λ r. ⌜ (gather (now (sums .exit)) (now (cnts .exit)) ≡ gatherStep (jobOf z (now (tiles .entry)) (now (colours .entry)) (now (counts .entry))) (now (pal .entry)) (winner (jobOf z (now (tiles .entry)) (now (colours .entry)) (now (counts .entry))) (now (pal .entry)) (z .s) (z .c) i) i (gather (now (sums .entry)) (now (cnts .entry)))) × (now (hints .exit) ≡ hintStep (jobOf z (now (tiles .entry)) (now (colours .entry)) (now (counts .entry))) (now (pal .entry)) (z .s) (z .c) i (now (hints .entry))) ⌝ }
 {
     if job::is_empty(tiles, i) {
         return;
     }
-    let best = palette_tile::tile_fit(s, c, t, weight, tiles, colours, counts, pal, s, c, hints, i);
+    let best = palette_tile::tile_fit(z, tiles, colours, counts, pal, z.s, z.c, hints, i);
     let winner = best.index;
-    let sub = palette::part(pal, c, c, winner);
+    let sub = palette::part(pal, z.c, z.c, winner);
     let tile = job::tile_part(tiles, colours, i);
     let part = job::counts_part(tiles, counts, i);
-    quantizer_gather_tile::gather_tile(sub, tile, part, weight, winner * c, sums, cnts);
+    quantizer_gather_tile::gather_tile(sub, tile, part, z.weight, winner * z.c, sums, cnts);
 }
 
 // All tiles' parts, from sums and counts of 0.
 pub fn gather_all(
-    s: usize,
-    c: usize,
-    t: usize,
-    weight: f32,
+    z: Sizes,
     tiles: &[u32],
     colours: &[f32],
     counts: &[u32],
@@ -50,25 +45,12 @@ pub fn gather_all(
     sums: &mut [f32],
     cnts: &mut [u32],
 )
-    requires { ⌜ Shown (job s c t weight (now tiles) (now colours) (now counts)) (now pal) s c × ((length (now hints) ≡ t) × (gather (now sums) (now cnts) ≡ nothing)) ⌝ }
-    ensures { λ r. ⌜ (gather (now (sums .exit)) (now (cnts .exit)) ≡ gatherOf (job s c t weight (now (tiles .entry)) (now (colours .entry)) (now (counts .entry))) (now (pal .entry)) t) × (now (hints .exit) ≡ hintsOf (job s c t weight (now (tiles .entry)) (now (colours .entry)) (now (counts .entry))) (now (pal .entry)) s c (now (hints .entry)) t) ⌝ }
+    requires { ⌜ Shown (jobOf z (now tiles) (now colours) (now counts)) (now pal) (z .s) (z .c) × ((length (now hints) ≡ (z .t)) × (gather (now sums) (now cnts) ≡ nothing)) ⌝ }
+    ensures { λ r. ⌜ (gather (now (sums .exit)) (now (cnts .exit)) ≡ gatherOf (jobOf z (now (tiles .entry)) (now (colours .entry)) (now (counts .entry))) (now (pal .entry)) (z .t)) × (now (hints .exit) ≡ hintsOf (jobOf z (now (tiles .entry)) (now (colours .entry)) (now (counts .entry))) (now (pal .entry)) (z .s) (z .c) (now (hints .entry)) (z .t)) ⌝ }
 {
     let mut i = 0;
-    while i < t {
-        gather_step(
-            s,
-            c,
-            t,
-            weight,
-            tiles,
-            colours,
-            counts,
-            pal,
-            hints,
-            i,
-            sums,
-            cnts,
-        );
+    while i < z.t {
+        gather_step(z, tiles, colours, counts, pal, hints, i, sums, cnts);
         i += 1;
     }
 }

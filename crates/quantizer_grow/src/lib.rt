@@ -1,8 +1,9 @@
 // Grows every subpalette by one colour, splitting off each palette's currently weakest-fit colour.
 // The palette and the hints are left as specs/Growing.antt of quantizer says; the copy stands after the colours present.
+use job::Sizes;
 ghost use mathlib.Core.Path.{_≡_};
 ghost use Prim.Native.Nat.{_*_};
-ghost use Rattle.job.specs.Job.{job};
+ghost use Rattle.job.specs.Job.{jobOf};
 ghost use Rattle.palette_edit.specs.Edits.{colourCopied};
 ghost use Rattle.quantizer.specs.Sums.{sumsAt, greatest};
 ghost use Rattle.quantizer.specs.Growing.{grown, grownHints};
@@ -21,10 +22,7 @@ fn split_color(pal: &mut [f32], c: usize, have: usize, i: usize, total: &[f32])
 
 // A colour more in every subpalette, of which each has `have`, fewer than its c.
 pub fn grow_palette(
-    s: usize,
-    c: usize,
-    t: usize,
-    weight: f32,
+    z: Sizes,
     tiles: &[u32],
     colours: &[f32],
     counts: &[u32],
@@ -32,15 +30,12 @@ pub fn grow_palette(
     have: usize,
     hints: &mut [u32],
 )
-    requires { ⌜ Growing (job s c t weight (now tiles) (now colours) (now counts)) (now pal) have (now hints) ⌝ }
-    ensures { λ r. ⌜ (now (pal .exit) ≡ grown (job s c t weight (now (tiles .entry)) (now (colours .entry)) (now (counts .entry))) (now (pal .entry)) have) × (now (hints .exit) ≡ grownHints (job s c t weight (now (tiles .entry)) (now (colours .entry)) (now (counts .entry))) (now (pal .entry)) have (now (hints .entry))) ⌝ }
+    requires { ⌜ Growing (jobOf z (now tiles) (now colours) (now counts)) (now pal) have (now hints) ⌝ }
+    ensures { λ r. ⌜ (now (pal .exit) ≡ grown (jobOf z (now (tiles .entry)) (now (colours .entry)) (now (counts .entry))) (now (pal .entry)) have) × (now (hints .exit) ≡ grownHints (jobOf z (now (tiles .entry)) (now (colours .entry)) (now (counts .entry))) (now (pal .entry)) have (now (hints .entry))) ⌝ }
 {
     let mut total_color_distances = [0.0f32; 256];
     quantizer_needs::color_distances(
-        s,
-        c,
-        t,
-        weight,
+        z,
         tiles,
         colours,
         counts,
@@ -50,8 +45,8 @@ pub fn grow_palette(
         &mut total_color_distances,
     );
     let mut i = 0;
-    while i < s {
-        split_color(pal, c, have, i, &total_color_distances);
+    while i < z.s {
+        split_color(pal, z.c, have, i, &total_color_distances);
         i += 1;
     }
 }

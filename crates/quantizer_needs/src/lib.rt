@@ -1,7 +1,8 @@
 // The summed distance of each colour over a job's tiles, each in the subpalette that fits it best: what growing splits a colour by.
 // The sums and the hints are what specs/Growing.antt of quantizer says.
+use job::Sizes;
 ghost use mathlib.Core.Path.{_≡_};
-ghost use Rattle.job.specs.Job.{job};
+ghost use Rattle.job.specs.Job.{jobOf};
 ghost use Rattle.palette_tile.specs.Tiles.{winner, hintStep};
 ghost use Rattle.quantizer.specs.Sums.{zeros};
 ghost use Rattle.quantizer.specs.Growing.{needStep, grownHints};
@@ -10,10 +11,7 @@ ghost use Rattle.quantizer_needs.specs.Asked.{splitSums, NeedTurn, Growi
 // Tile i's part in the sums by colour, in the subpalette that fits it best: colour j of subpalette k is at the place k * c + j.
 // An empty tile is passed over, and keeps its hint.
 fn tile_step(
-    s: usize,
-    c: usize,
-    t: usize,
-    weight: f32,
+    z: Sizes,
     tiles: &[u32],
     colours: &[f32],
     counts: &[u32],
@@ -23,39 +21,23 @@ fn tile_step(
     i: usize,
     total: &mut [f32],
 )
-    requires { ⌜ NeedTurn (job s c t weight (now tiles) (now colours) (now counts)) (now pal) have (now hints) i (now total) ⌝ }
-    ensures { λ r. ⌜ (now (total .exit) ≡ needStep (job s c t weight (now (tiles .entry)) (now (colours .entry)) (now (counts .entry))) (now (pal .entry)) have (winner (job s c t weight (now (tiles .entry)) (now (colours .entry)) (now (counts .entry))) (now (pal .entry)) s have i) i (now (total .entry))) × (now (hints .exit) ≡ hintStep (job s c t weight (now (tiles .entry)) (now (colours .entry)) (now (counts .entry))) (now (pal .entry)) s have i (now (hints .entry))) ⌝ }
+    requires { ⌜ NeedTurn (jobOf z (now tiles) (now colours) (now counts)) (now pal) have (now hints) i (now total) ⌝ }
+    ensures { λ r. ⌜ (now (total .exit) ≡ needStep (jobOf z (now (tiles .entry)) (now (colours .entry)) (now (counts .entry))) (now (pal .entry)) have (winner (jobOf z (now (tiles .entry)) (now (colours .entry)) (now (counts .entry))) (now (pal .entry)) (z .s) have i) i (now (total .entry))) × (now (hints .exit) ≡ hintStep (jobOf z (now (tiles .entry)) (now (colours .entry)) (now (counts .entry))) (now (pal .entry)) (z .s) have i (now (hints .entry))) ⌝ }
 {
     if job::is_empty(tiles, i) {
         return;
     }
-    let best = palette_tile::tile_fit(
-        s,
-        c,
-        t,
-        weight,
-        tiles,
-        colours,
-        counts,
-        pal,
-        s,
-        have,
-        hints,
-        i,
-    );
+    let best = palette_tile::tile_fit(z, tiles, colours, counts, pal, z.s, have, hints, i);
     let winner = best.index;
-    let sub = palette::part(pal, c, have, winner);
+    let sub = palette::part(pal, z.c, have, winner);
     let tile = job::tile_part(tiles, colours, i);
     let part = job::counts_part(tiles, counts, i);
-    quantizer_matches::for_each_match(sub, tile, part, weight, winner * c, total)
+    quantizer_matches::for_each_match(sub, tile, part, z.weight, winner * z.c, total)
 }
 
 // The summed distance of each colour over the tiles; none is fitted where one colour each is present.
 pub fn color_distances(
-    s: usize,
-    c: usize,
-    t: usize,
-    weight: f32,
+    z: Sizes,
     tiles: &[u32],
     colours: &[f32],
     counts: &[u32],
@@ -64,28 +46,15 @@ pub fn color_distances(
     hints: &mut [u32],
     total: &mut [f32],
 )
-    requires { ⌜ Growing (job s c t weight (now tiles) (now colours) (now counts)) (now pal) have (now hints) × (now total ≡ zeros 256) ⌝ }
-    ensures { λ r. ⌜ (now (total .exit) ≡ splitSums (job s c t weight (now (tiles .entry)) (now (colours .entry)) (now (counts .entry))) (now (pal .entry)) have) × (now (hints .exit) ≡ grownHints (job s c t weight (now (tiles .entry)) (now (colours .entry)) (now (counts .entry))) (now (pal .entry)) have (now (hints .entry))) ⌝ }
+    requires { ⌜ Growing (jobOf z (now tiles) (now colours) (now counts)) (now pal) have (now hints) × (now total ≡ zeros 256) ⌝ }
+    ensures { λ r. ⌜ (now (total .exit) ≡ splitSums (jobOf z (now (tiles .entry)) (now (colours .entry)) (now (counts .entry))) (now (pal .entry)) have) × (now (hints .exit) ≡ grownHints (jobOf z (now (tiles .entry)) (now (colours .entry)) (now (counts .entry))) (now (pal .entry)) have (now (hints .entry))) ⌝ }
 {
     if have == 1 {
         return;
     }
     let mut i = 0;
-    while i < t {
-        tile_step(
-            s,
-            c,
-            t,
-            weight,
-            tiles,
-            colours,
-            counts,
-            pal,
-            have,
-            hints,
-            i,
-            total,
-        );
+    while i < z.t {
+        tile_step(z, tiles, colours, counts, pal, have, hints, i, total);
         i += 1;
     }
 }

@@ -1,9 +1,10 @@
 // The sums by subpalette that replacing the weakest is decided by, over all tiles of a job, the empty ones too: what each has, and what would be added
 // without it, from the best two of each tile. They are what specs/Replacing.antt of quantizer says; the hints then name each tile's best.
+use job::Sizes;
 ghost use mathlib.Core.Path.{_≡_};
 ghost use Prim.Native.Nat.{_<_};
 ghost use lib.ListN.{length};
-ghost use Rattle.job.specs.Job.{job};
+ghost use Rattle.job.specs.Job.{jobOf};
 ghost use Rattle.palette_tile.specs.Tiles.{Shown};
 ghost use Rattle.quantizer.specs.Sums.{zeros};
 ghost use Rattle.quantizer.specs.Replacing.{shares, shareWith, sharesOf, pairHints};
@@ -22,10 +23,7 @@ fn add_two(total: &mut [f32], removed: &mut [f32], r: Two)
 // What each subpalette has, and what would be added without it; the hints then name each tile's best. An empty tile goes through
 // best_two too, so that its hint becomes 0.
 pub fn palette_sums(
-    s: usize,
-    c: usize,
-    t: usize,
-    weight: f32,
+    z: Sizes,
     tiles: &[u32],
     colours: &[f32],
     counts: &[u32],
@@ -34,25 +32,12 @@ pub fn palette_sums(
     total: &mut [f32],
     removed: &mut [f32],
 )
-    requires { ⌜ Shown (job s c t weight (now tiles) (now colours) (now counts)) (now pal) s c × ((length (now hints) ≡ t) × ((now total ≡ zeros 16) × (now removed ≡ zeros 16))) ⌝ }
-    ensures { λ r. ⌜ (shares (now (total .exit)) (now (removed .exit)) ≡ sharesOf (job s c t weight (now (tiles .entry)) (now (colours .entry)) (now (counts .entry))) (now (pal .entry)) t) × (now (hints .exit) ≡ pairHints (job s c t weight (now (tiles .entry)) (now (colours .entry)) (now (counts .entry))) (now (pal .entry)) (now (hints .entry)) t) ⌝ }
+    requires { ⌜ Shown (jobOf z (now tiles) (now colours) (now counts)) (now pal) (z .s) (z .c) × ((length (now hints) ≡ (z .t)) × ((now total ≡ zeros 16) × (now removed ≡ zeros 16))) ⌝ }
+    ensures { λ r. ⌜ (shares (now (total .exit)) (now (removed .exit)) ≡ sharesOf (jobOf z (now (tiles .entry)) (now (colours .entry)) (now (counts .entry))) (now (pal .entry)) (z .t)) × (now (hints .exit) ≡ pairHints (jobOf z (now (tiles .entry)) (now (colours .entry)) (now (counts .entry))) (now (pal .entry)) (now (hints .entry)) (z .t)) ⌝ }
 {
     let mut i = 0;
-    while i < t {
-        let r = palette_tile::tile_two(
-            s,
-            c,
-            t,
-            weight,
-            tiles,
-            colours,
-            counts,
-            pal,
-            s,
-            c,
-            hints,
-            i,
-        );
+    while i < z.t {
+        let r = palette_tile::tile_two(z, tiles, colours, counts, pal, z.s, z.c, hints, i);
         add_two(total, removed, r);
         i += 1;
     }

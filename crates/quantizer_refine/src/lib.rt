@@ -1,8 +1,9 @@
 // One pass of refinement: each colour becomes the mean of the tile colours that are nearest to it, where there are any.
 // It is what the definitions in quantizer's specs/Refining.antt say. A mean is written only after all sums are complete, so into the palette itself.
+use job::Sizes;
 ghost use mathlib.Core.Path.{_≡_};
 ghost use lib.ListN.{length};
-ghost use Rattle.job.specs.Job.{job};
+ghost use Rattle.job.specs.Job.{jobOf};
 ghost use Rattle.palette_tile.specs.Tiles.{hintsOf, Shown};
 ghost use Rattle.quantizer.specs.Refining.{gather, meansOf, refined};
 ghost use Rattle.quantizer_mean.specs.Means.{Meaning};
@@ -21,33 +22,18 @@ fn write_means(pal: &mut [f32], n: usize, sums: &[f32], cnts: &[u32])
 
 // All s subpalettes of c colours are recentred; the hints name each tile's winner.
 pub fn refine(
-    s: usize,
-    c: usize,
-    t: usize,
-    weight: f32,
+    z: Sizes,
     tiles: &[u32],
     colours: &[f32],
     counts: &[u32],
     pal: &mut [f32],
     hints: &mut [u32],
 )
-    requires { ⌜ Shown (job s c t weight (now tiles) (now colours) (now counts)) (now pal) s c × (length (now hints) ≡ t) ⌝ }
-    ensures { λ r. ⌜ (now (pal .exit) ≡ refined (job s c t weight (now (tiles .entry)) (now (colours .entry)) (now (counts .entry))) (now (pal .entry))) × (now (hints .exit) ≡ hintsOf (job s c t weight (now (tiles .entry)) (now (colours .entry)) (now (counts .entry))) (now (pal .entry)) s c (now (hints .entry)) t) ⌝ }
+    requires { ⌜ Shown (jobOf z (now tiles) (now colours) (now counts)) (now pal) (z .s) (z .c) × (length (now hints) ≡ (z .t)) ⌝ }
+    ensures { λ r. ⌜ (now (pal .exit) ≡ refined (jobOf z (now (tiles .entry)) (now (colours .entry)) (now (counts .entry))) (now (pal .entry))) × (now (hints .exit) ≡ hintsOf (jobOf z (now (tiles .entry)) (now (colours .entry)) (now (counts .entry))) (now (pal .entry)) (z .s) (z .c) (now (hints .entry)) (z .t)) ⌝ }
 {
     let mut sums = [0.0f32; 768];
     let mut cnts = [0u32; 256];
-    quantizer_gather::gather_all(
-        s,
-        c,
-        t,
-        weight,
-        tiles,
-        colours,
-        counts,
-        pal,
-        hints,
-        &mut sums,
-        &mut cnts,
-    );
-    write_means(pal, s * c, &sums, &cnts);
+    quantizer_gather::gather_all(z, tiles, colours, counts, pal, hints, &mut sums, &mut cnts);
+    write_means(pal, z.s * z.c, &sums, &cnts);
 }

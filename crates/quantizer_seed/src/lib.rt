@@ -1,10 +1,10 @@
 // Seeding: the mean of the samples becomes the first colour, as the definitions in quantizer's specs/Seeding.antt say. Assumes nothing.
+use job::Sizes;
 ghost use mathlib.Core.Path.{_≡_};
 ghost use Prim.Native.Nat.{_/_};
 ghost use lib.ListN.{length};
 ghost use Rattle.color.specs.Color.{meanOf};
-ghost use Rattle.job.specs.Job.{job};
-ghost use Rattle.quantizer.specs.Course.{course};
+ghost use Rattle.quantizer.specs.Course.{courseOf};
 ghost use Rattle.quantizer.specs.Seeding.{seeded};
 ghost use Rattle.quantizer_seed.specs.Seeds.{toldColour, Averaging, Seeding};
 use color::Oklab;
@@ -31,19 +31,15 @@ pub fn mean_oklab(tiles: &[u32], colours: &[f32], samples: &[u32]) -> Oklab
 
 // The first colour of the palette becomes that mean.
 pub fn seed(
-    s: usize,
-    c: usize,
-    t: usize,
-    n: usize,
-    weight: f32,
+    z: Sizes,
     tiles: &[u32],
     colours: &[f32],
     counts: &[u32],
     samples: &[u32],
     pal: &mut [f32],
 )
-    requires { ⌜ Seeding (course (job s c t weight (now tiles) (now colours) (now counts)) n (now samples)) (now pal) ⌝ }
-    ensures { λ r. ⌜ now (pal .exit) ≡ seeded (course (job s c t weight (now (tiles .entry)) (now (colours .entry)) (now (counts .entry))) n (now (samples .entry))) (now (pal .entry)) ⌝ }
+    requires { ⌜ Seeding (courseOf z (now tiles) (now colours) (now counts) (now samples)) (now pal) ⌝ }
+    ensures { λ r. ⌜ now (pal .exit) ≡ seeded (courseOf z (now (tiles .entry)) (now (colours .entry)) (now (counts .entry)) (now (samples .entry))) (now (pal .entry)) ⌝ }
 {
     let mean = mean_oklab(tiles, colours, samples);
     color::put(pal, 0, mean);

@@ -1,18 +1,16 @@
 // Seeding: the subpalette of greatest summed distance is to be split next, as the definitions in quantizer's specs/Seeding.antt say.
 // Duplicating is palette_edit's. Assumes nothing.
+use job::Sizes;
 ghost use mathlib.Core.Path.{_≡_};
 ghost use lib.ListN.{length};
-ghost use Rattle.job.specs.Job.{job};
+ghost use Rattle.job.specs.Job.{jobOf};
 ghost use Rattle.palette_tile.specs.Tiles.{hintStep, hintsOf, Shown};
 ghost use Rattle.quantizer.specs.Seeding.{distanceStep, worstOf};
 ghost use Rattle.quantizer_worst.specs.Turns.{Turned};
 
 // Tile i's distance goes to the sum of the subpalette that fits it best, where it is not empty; its hint is written.
 fn distance_step(
-    s: usize,
-    c: usize,
-    t: usize,
-    weight: f32,
+    z: Sizes,
     tiles: &[u32],
     colours: &[f32],
     counts: &[u32],
@@ -22,36 +20,20 @@ fn distance_step(
     i: usize,
     distances: &mut [f32],
 )
-    requires { ⌜ Turned (job s c t weight (now tiles) (now colours) (now counts)) (now pal) subs (now hints) i (now distances) ⌝ }
-    ensures { λ r. ⌜ (now (distances .exit) ≡ distanceStep (job s c t weight (now (tiles .entry)) (now (colours .entry)) (now (counts .entry))) (now (pal .entry)) subs i (now (distances .entry))) × (now (hints .exit) ≡ hintStep (job s c t weight (now (tiles .entry)) (now (colours .entry)) (now (counts .entry))) (now (pal .entry)) subs 1 i (now (hints .entry))) ⌝ }
+    requires { ⌜ Turned (jobOf z (now tiles) (now colours) (now counts)) (now pal) subs (now hints) i (now distances) ⌝ }
+    ensures { λ r. ⌜ (now (distances .exit) ≡ distanceStep (jobOf z (now (tiles .entry)) (now (colours .entry)) (now (counts .entry))) (now (pal .entry)) subs i (now (distances .entry))) × (now (hints .exit) ≡ hintStep (jobOf z (now (tiles .entry)) (now (colours .entry)) (now (counts .entry))) (now (pal .entry)) subs 1 i (now (hints .entry))) ⌝ }
 {
     if job::is_empty(tiles, i) {
         return;
     }
-    let best = palette_tile::tile_fit(
-        s,
-        c,
-        t,
-        weight,
-        tiles,
-        colours,
-        counts,
-        pal,
-        subs,
-        1,
-        hints,
-        i,
-    );
+    let best = palette_tile::tile_fit(z, tiles, colours, counts, pal, subs, 1, hints, i);
     let winner = best.index;
     distances[winner] = distances[winner] + best.dist;
 }
 
 // Of the `subs` subpalettes present, of one colour each, the last of greatest summed distance.
 pub fn worst(
-    s: usize,
-    c: usize,
-    t: usize,
-    weight: f32,
+    z: Sizes,
     tiles: &[u32],
     colours: &[f32],
     counts: &[u32],
@@ -59,17 +41,14 @@ pub fn worst(
     subs: usize,
     hints: &mut [u32],
 ) -> usize
-    requires { ⌜ Shown (job s c t weight (now tiles) (now colours) (now counts)) (now pal) subs 1 × (length (now hints) ≡ t) ⌝ }
-    ensures { λ r. ⌜ (r ≡ worstOf (job s c t weight (now (tiles .entry)) (now (colours .entry)) (now (counts .entry))) (now (pal .entry)) subs) × (now (hints .exit) ≡ hintsOf (job s c t weight (now (tiles .entry)) (now (colours .entry)) (now (counts .entry))) (now (pal .entry)) subs 1 (now (hints .entry)) t) ⌝ }
+    requires { ⌜ Shown (jobOf z (now tiles) (now colours) (now counts)) (now pal) subs 1 × (length (now hints) ≡ (z .t)) ⌝ }
+    ensures { λ r. ⌜ (r ≡ worstOf (jobOf z (now (tiles .entry)) (now (colours .entry)) (now (counts .entry))) (now (pal .entry)) subs) × (now (hints .exit) ≡ hintsOf (jobOf z (now (tiles .entry)) (now (colours .entry)) (now (counts .entry))) (now (pal .entry)) subs 1 (now (hints .entry)) (z .t)) ⌝ }
 {
     let mut distances = [0.0f32; 16];
     let mut i = 0;
-    while i < t {
+    while i < z.t {
         distance_step(
-            s,
-            c,
-            t,
-            weight,
+            z,
             tiles,
             colours,
             counts,

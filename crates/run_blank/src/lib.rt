@@ -1,12 +1,12 @@
 // What a start writes before its first round: both palettes nought but for the samples' mean, and the first order.
+use job::Sizes;
 use sample_cycle::SampleCycle;
 use stages::Record;
 ghost use mathlib.Core.Path.{_≡_};
 ghost use mathlib.Core.List.{[]};
 ghost use Prim.Native.Nat.{_*_, _^_, _≤_};
 ghost use lib.ListN.{length};
-ghost use Rattle.job.specs.Job.{job};
-ghost use Rattle.quantizer.specs.Course.{course};
+ghost use Rattle.quantizer.specs.Course.{courseOf};
 ghost use Rattle.quantizer.specs.Sums.{zeros};
 ghost use Rattle.quantizer.specs.Seeding.{seeded};
 ghost use Rattle.stages.specs.State.{stateWith};
@@ -14,11 +14,7 @@ ghost use Rattle.run_blank.specs.Blanks.{dealt, Blanking};
 
 // Both palettes are zeroed, and the first colour becomes the mean of the samples.
 pub fn blank(
-    s: usize,
-    c: usize,
-    t: usize,
-    n: usize,
-    weight: f32,
+    z: Sizes,
     tiles: &[u32],
     colours: &[f32],
     counts: &[u32],
@@ -26,12 +22,12 @@ pub fn blank(
     palette: &mut [f32],
     least: &mut [f32],
 )
-    requires { ⌜ Blanking (course (job s c t weight (now tiles) (now colours) (now counts)) n (now samples)) (now palette) (now least) ⌝ }
-    ensures { λ _. ⌜ (now (palette .exit) ≡ seeded (course (job s c t weight (now (tiles .entry)) (now (colours .entry)) (now (counts .entry))) n (now (samples .entry))) (zeros (3 * (s * c)))) × (now (least .exit) ≡ zeros (3 * (s * c))) ⌝ }
+    requires { ⌜ Blanking (courseOf z (now tiles) (now colours) (now counts) (now samples)) (now palette) (now least) ⌝ }
+    ensures { λ _. ⌜ (now (palette .exit) ≡ seeded (courseOf z (now (tiles .entry)) (now (colours .entry)) (now (counts .entry)) (now (samples .entry))) (zeros (3 * ((z .s) * (z .c))))) × (now (least .exit) ≡ zeros (3 * ((z .s) * (z .c)))) ⌝ }
 {
     run_memory::zero(least);
     run_memory::zero(palette);
-    quantizer_seed::seed(s, c, t, n, weight, tiles, colours, counts, samples, palette);
+    quantizer_seed::seed(z, tiles, colours, counts, samples, palette);
 }
 
 // The first order is written; the record stands at the very beginning.

@@ -1,7 +1,7 @@
 // Which number a call of a run gets: the job's, the record's, the working colours', the order's, the moment's, the reduced colours'.
 // Every check takes what a stranger wrote: no sum or product in it can wrap.
-use stages::Record;
 use job::Sizes;
+use stages::Record;
 ghost use mathlib.Core.Path.{_≡_};
 ghost use mathlib.Core.Bool.{true, _&&_};
 ghost use Prim.Native.Nat.{_*_};
@@ -91,14 +91,7 @@ fn check_run(
     requires { ⌜ (room ≡ true → length (now words) ≡ 6) ⌝ }
     ensures { λ r. ⌜ r ≡ runAnswer (courseOf z (now (tiles .entry)) (now (colours .entry)) (now (counts .entry)) (now (samples .entry))) (memory (now (order .entry)) (now (hints .entry)) (now (palette .entry)) (now (least .entry)) (now (words .entry))) room ⌝ }
 {
-    let a = job_sampled::check_sampled(
-        z,
-        tiles,
-        colours,
-        counts,
-        samples,
-        room,
-    );
+    let a = job_sampled::check_sampled(z, tiles, colours, counts, samples, room);
     if a != 0 {
         return a;
     }
@@ -123,14 +116,7 @@ pub fn refuses_start(
     ensures { λ r. ⌜ r ≡ startAnswer (courseOf z (now (tiles .entry)) (now (colours .entry)) (now (counts .entry)) (now (samples .entry))) (memory (now (order .entry)) (now (hints .entry)) (now (palette .entry)) (now (least .entry)) (now (words .entry))) ⌝ }
 {
     let room = memory_room(z, order, hints, palette, least, words);
-    job_sampled::check_sampled(
-        z,
-        tiles,
-        colours,
-        counts,
-        samples,
-        room,
-    )
+    job_sampled::check_sampled(z, tiles, colours, counts, samples, room)
 }
 
 pub fn refuses_advance(

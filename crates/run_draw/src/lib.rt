@@ -1,6 +1,6 @@
 // One draw on the lent memory: the record's generator and draws made drive the cycle of samples, its stage and rounds say what is present.
-use stages::Record;
 use job::Sizes;
+use stages::Record;
 ghost use mathlib.Core.Path.{_≡_};
 ghost use mathlib.Core.List.{[]};
 ghost use Rattle.quantizer.specs.Course.{courseOf};

@@ -1,9 +1,10 @@
 // The public call that hands in reduced colours at a stop: they become the palette, and what follows that needs no draw is done.
 // The order, the second palette and the samples are not read; they are there to be checked, and named in what is promised.
+use job::Sizes;
 use stages::Record;
 ghost use mathlib.Core.Path.{_≡_};
-ghost use Rattle.job.specs.Job.{job, tileSize};
-ghost use Rattle.quantizer.specs.Course.{course};
+ghost use Rattle.job.specs.Job.{tileSize};
+ghost use Rattle.quantizer.specs.Course.{courseOf};
 ghost use Rattle.stages.specs.State.{stateWith};
 ghost use Rattle.stages.specs.Stages.{handIn};
 ghost use Rattle.stages.specs.Calls.{memory, outcome, handInCall};
@@ -11,11 +12,7 @@ ghost use Rattle.run_refine.specs.Refines.{Handed};
 
 // What follows a stop, with the colours handed in as the palette.
 fn go_on(
-    s: usize,
-    c: usize,
-    t: usize,
-    n: usize,
-    weight: f32,
+    z: Sizes,
     tiles: &[u32],
     colours: &[f32],
     counts: &[u32],
@@ -26,14 +23,14 @@ fn go_on(
     least: &[f32],
     r: Record,
 ) -> Record
-    requires { ⌜ Handed (course (job s c t weight (now tiles) (now colours) (now counts)) n (now samples)) (stateWith (now order) (now hints) (now palette) (now least) r) ⌝ }
-    ensures { λ x. ⌜ stateWith (now (order .entry)) (now (hints .exit)) (now (palette .exit)) (now (least .entry)) x ≡ handIn (course (job s c t weight (now (tiles .entry)) (now (colours .entry)) (now (counts .entry))) n (now (samples .entry))) (now (palette .entry)) (stateWith (now (order .entry)) (now (hints .entry)) (now (palette .entry)) (now (least .entry)) r) ⌝ }
+    requires { ⌜ Handed (courseOf z (now tiles) (now colours) (now counts) (now samples)) (stateWith (now order) (now hints) (now palette) (now least) r) ⌝ }
+    ensures { λ x. ⌜ stateWith (now (order .entry)) (now (hints .exit)) (now (palette .exit)) (now (least .entry)) x ≡ handIn (courseOf z (now (tiles .entry)) (now (colours .entry)) (now (counts .entry)) (now (samples .entry))) (now (palette .entry)) (stateWith (now (order .entry)) (now (hints .entry)) (now (palette .entry)) (now (least .entry)) r) ⌝ }
 {
     if r.stage == 3 {
-        return run_refine::final_draws(n, r);
+        return run_refine::final_draws(z.n, r);
     }
     if r.stage == 5 {
-        run_refine::refine_four(s, c, t, weight, tiles, colours, counts, palette, hints);
+        run_refine::refine_four(z, tiles, colours, counts, palette, hints);
         return Record {
             generator: r.generator,
             stage: 6,
@@ -55,11 +52,7 @@ fn go_on(
 
 // 0, or the number of the first rule that is broken; then all memory stays as it is.
 pub fn hand_in(
-    s: usize,
-    c: usize,
-    t: usize,
-    n: usize,
-    weight: f32,
+    z: Sizes,
     tiles: &[u32],
     colours: &[f32],
     counts: &[u32],
@@ -71,14 +64,10 @@ pub fn hand_in(
     words: &mut [u64],
     reduced: &[f32],
 ) -> u32
-    ensures { λ r. ⌜ outcome r 0 (memory (now (order .entry)) (now (hints .exit)) (now (palette .exit)) (now (least .entry)) (now (words .exit))) ≡ handInCall tileSize (course (job s c t weight (now (tiles .entry)) (now (colours .entry)) (now (counts .entry))) n (now (samples .entry))) (memory (now (order .entry)) (now (hints .entry)) (now (palette .entry)) (now (least .entry)) (now (words .entry))) (now (reduced .entry)) ⌝ }
+    ensures { λ r. ⌜ outcome r 0 (memory (now (order .entry)) (now (hints .exit)) (now (palette .exit)) (now (least .entry)) (now (words .exit))) ≡ handInCall (courseOf z (now (tiles .entry)) (now (colours .entry)) (now (counts .entry)) (now (samples .entry))) (memory (now (order .entry)) (now (hints .entry)) (now (palette .entry)) (now (least .entry)) (now (words .entry))) (now (reduced .entry)) ⌝ }
 {
     let a = run_check::refuses_hand_in(
-        s,
-        c,
-        t,
-        n,
-        weight,
+        z,
         tiles,
         colours,
         counts,
@@ -96,11 +85,7 @@ pub fn hand_in(
     run_memory::copy(reduced, palette);
     let r = run_record::record_of(words);
     let next = go_on(
-        s,
-        c,
-        t,
-        n,
-        weight,
+        z,
         tiles,
         colours,
         counts,

@@ -1,12 +1,13 @@
 // The second palette keeps the first one of least error: the first of its stage at once, a later one where its error is below the one kept.
 // The stop for reduction gives it back. The order of the samples is not touched, so it is left out.
+use job::Sizes;
 use stages::Record;
 ghost use mathlib.Core.Path.{_≡_};
 ghost use mathlib.Core.Logic.{_≢_};
 ghost use mathlib.Core.List.{[]};
 ghost use Prim.Native.Nat.{_<_};
-ghost use Rattle.job.specs.Job.{job};
-ghost use Rattle.quantizer.specs.Course.{course};
+ghost use Rattle.job.specs.Job.{jobOf};
+ghost use Rattle.quantizer.specs.Course.{courseOf};
 ghost use Rattle.stages.specs.State.{stateWith};
 ghost use Rattle.stages.specs.Stages.{enterReducing};
 ghost use Rattle.run_record.specs.Sized.{sized};
@@ -26,11 +27,7 @@ fn is_kept(round: u64, e: f32, error: u64) -> bool
 
 // The palette is seen at the start of a round of replacing: it is kept, with its error's bits, or passed by.
 pub fn look(
-    s: usize,
-    c: usize,
-    t: usize,
-    n: usize,
-    weight: f32,
+    z: Sizes,
     tiles: &[u32],
     colours: &[f32],
     counts: &[u32],
@@ -40,22 +37,10 @@ pub fn look(
     round: u64,
     r: Record,
 ) -> Record
-    requires { ⌜ Judging (job s c t weight (now tiles) (now colours) (now counts)) (now hints) (now palette) (now least) round r ⌝ }
-    ensures { λ x. ⌜ stateWith [] (now (hints .exit)) (now (palette .entry)) (now (least .exit)) x ≡ seen (course (job s c t weight (now (tiles .entry)) (now (colours .entry)) (now (counts .entry))) n []) round (stateWith [] (now (hints .entry)) (now (palette .entry)) (now (least .entry)) r) ⌝ }
+    requires { ⌜ Judging (jobOf z (now tiles) (now colours) (now counts)) (now hints) (now palette) (now least) round r ⌝ }
+    ensures { λ x. ⌜ stateWith [] (now (hints .exit)) (now (palette .entry)) (now (least .exit)) x ≡ seen (courseOf z (now (tiles .entry)) (now (colours .entry)) (now (counts .entry)) []) round (stateWith [] (now (hints .entry)) (now (palette .entry)) (now (least .entry)) r) ⌝ }
 {
-    let e = mse_sum::mse(
-        s,
-        c,
-        t,
-        weight,
-        tiles,
-        colours,
-        counts,
-        palette,
-        s,
-        c,
-        hints,
-    );
+    let e = mse_sum::mse(z, tiles, colours, counts, palette, z.s, z.c, hints);
     if is_kept(round, e, r.error) {
         run_memory::copy(palette, least);
         return Record {

@@ -1,16 +1,13 @@
 // The public call that copies the colours of a finished run.
+use job::Sizes;
 ghost use mathlib.Core.Path.{_≡_};
-ghost use Rattle.job.specs.Job.{job, tileSize};
-ghost use Rattle.quantizer.specs.Course.{course};
+ghost use Rattle.job.specs.Job.{tileSize};
+ghost use Rattle.quantizer.specs.Course.{courseOf};
 ghost use Rattle.stages.specs.Calls.{memory, copiedTo, resultCall};
 
 // 0, or the number of the first rule that is broken; then `out` stays as it is.
 pub fn result(
-    s: usize,
-    c: usize,
-    t: usize,
-    n: usize,
-    weight: f32,
+    z: Sizes,
     tiles: &[u32],
     colours: &[f32],
     counts: &[u32],
@@ -22,14 +19,10 @@ pub fn result(
     words: &[u64],
     out: &mut [f32],
 ) -> u32
-    ensures { λ r. ⌜ copiedTo r (now (out .exit)) ≡ resultCall tileSize (course (job s c t weight (now (tiles .entry)) (now (colours .entry)) (now (counts .entry))) n (now (samples .entry))) (memory (now (order .entry)) (now (hints .entry)) (now (palette .entry)) (now (least .entry)) (now (words .entry))) (now (out .entry)) ⌝ }
+    ensures { λ r. ⌜ copiedTo r (now (out .exit)) ≡ resultCall (courseOf z (now (tiles .entry)) (now (colours .entry)) (now (counts .entry)) (now (samples .entry))) (memory (now (order .entry)) (now (hints .entry)) (now (palette .entry)) (now (least .entry)) (now (words .entry))) (now (out .entry)) ⌝ }
 {
     let a = run_check::refuses_result(
-        s,
-        c,
-        t,
-        n,
-        weight,
+        z,
         tiles,
         colours,
         counts,

@@ -1,19 +1,15 @@
 // The first round of a run, and all that then needs no draw.
+use job::Sizes;
 use stages::Record;
 ghost use mathlib.Core.Path.{_≡_};
-ghost use Rattle.job.specs.Job.{job};
-ghost use Rattle.quantizer.specs.Course.{course};
+ghost use Rattle.quantizer.specs.Course.{courseOf};
 ghost use Rattle.stages.specs.State.{stateWith};
 ghost use Rattle.stages.specs.Stages.{settle};
 ghost use Rattle.run_round.specs.First.{firstRound, Beginning};
 
 // The first round is opened, and all that needs no draw is done.
 pub fn set_out(
-    s: usize,
-    c: usize,
-    t: usize,
-    n: usize,
-    weight: f32,
+    z: Sizes,
     tiles: &[u32],
     colours: &[f32],
     counts: &[u32],
@@ -24,31 +20,12 @@ pub fn set_out(
     least: &mut [f32],
     r: Record,
 ) -> Record
-    requires { ⌜ Beginning (course (job s c t weight (now tiles) (now colours) (now counts)) n (now samples)) (stateWith (now order) (now hints) (now palette) (now least) r) ⌝ }
-    ensures { λ x. ⌜ stateWith (now (order .entry)) (now (hints .exit)) (now (palette .exit)) (now (least .exit)) x ≡ settle (course (job s c t weight (now (tiles .entry)) (now (colours .entry)) (now (counts .entry))) n (now (samples .entry))) (firstRound (course (job s c t weight (now (tiles .entry)) (now (colours .entry)) (now (counts .entry))) n (now (samples .entry))) (stateWith (now (order .entry)) (now (hints .entry)) (now (palette .entry)) (now (least .entry)) r)) ⌝ }
+    requires { ⌜ Beginning (courseOf z (now tiles) (now colours) (now counts) (now samples)) (stateWith (now order) (now hints) (now palette) (now least) r) ⌝ }
+    ensures { λ x. ⌜ stateWith (now (order .entry)) (now (hints .exit)) (now (palette .exit)) (now (least .exit)) x ≡ settle (courseOf z (now (tiles .entry)) (now (colours .entry)) (now (counts .entry)) (now (samples .entry))) (firstRound (courseOf z (now (tiles .entry)) (now (colours .entry)) (now (counts .entry)) (now (samples .entry))) (stateWith (now (order .entry)) (now (hints .entry)) (now (palette .entry)) (now (least .entry)) r)) ⌝ }
 {
-    let first = run_turns::go_on(
-        s,
-        c,
-        t,
-        n,
-        weight,
-        tiles,
-        colours,
-        counts,
-        hints,
-        palette,
-        least,
-        0,
-        0,
-        r,
-    );
+    let first = run_turns::go_on(z, tiles, colours, counts, hints, palette, least, 0, 0, r);
     crate::settle(
-        s,
-        c,
-        t,
-        n,
-        weight,
+        z,
         tiles,
         colours,
         counts,

@@ -1,5 +1,7 @@
 // What closes a round, whatever its stage, and the settling of a run: all that needs no draw.
 // The order and the samples are not read: a round's end leaves them out, and settling names them in what it promises.
+use job::Sizes;
+
 pub mod first;
 mod seeding;
 
@@ -7,8 +9,8 @@ use stages::Record;
 ghost use mathlib.Core.Path.{_≡_};
 ghost use mathlib.Core.List.{[]};
 ghost use Prim.Native.Nat.{_≤_};
-ghost use Rattle.job.specs.Job.{job};
-ghost use Rattle.quantizer.specs.Course.{course};
+ghost use Rattle.job.specs.Job.{jobOf};
+ghost use Rattle.quantizer.specs.Course.{courseOf};
 ghost use Rattle.stages.specs.State.{stateWith};
 ghost use Rattle.stages.specs.Stages.{finishRound, settle};
 ghost use Rattle.run_round.specs.Settles.{Standing, Closing, turnAfter};
@@ -29,11 +31,7 @@ fn turn_after(s: usize, c: usize, r: Record) -> u64
 
 // A round's end, by its stage.
 fn finish_round(
-    s: usize,
-    c: usize,
-    t: usize,
-    n: usize,
-    weight: f32,
+    z: Sizes,
     tiles: &[u32],
     colours: &[f32],
     counts: &[u32],
@@ -42,26 +40,22 @@ fn finish_round(
     least: &mut [f32],
     r: Record,
 ) -> Record
-    requires { ⌜ Closing (job s c t weight (now tiles) (now colours) (now counts)) (now hints) (now palette) (now least) r ⌝ }
-    ensures { λ x. ⌜ stateWith [] (now (hints .exit)) (now (palette .exit)) (now (least .exit)) x ≡ finishRound (course (job s c t weight (now (tiles .entry)) (now (colours .entry)) (now (counts .entry))) n []) (stateWith [] (now (hints .entry)) (now (palette .entry)) (now (least .entry)) r) ⌝ }
+    requires { ⌜ Closing (jobOf z (now tiles) (now colours) (now counts)) (now hints) (now palette) (now least) r ⌝ }
+    ensures { λ x. ⌜ stateWith [] (now (hints .exit)) (now (palette .exit)) (now (least .exit)) x ≡ finishRound (courseOf z (now (tiles .entry)) (now (colours .entry)) (now (counts .entry)) []) (stateWith [] (now (hints .entry)) (now (palette .entry)) (now (least .entry)) r) ⌝ }
 {
-    let from = seeding::seek(s, c, t, weight, tiles, colours, counts, palette, hints, r);
+    let from = seeding::seek(z, tiles, colours, counts, palette, hints, r);
     if r.stage == 4 {
         return run_next::end_final(r);
     }
     run_turns::go_on(
-        s,
-        c,
-        t,
-        n,
-        weight,
+        z,
         tiles,
         colours,
         counts,
         hints,
         palette,
         least,
-        turn_after(s, c, r),
+        turn_after(z.s, z.c, r),
         from,
         r,
     )
@@ -69,11 +63,7 @@ fn finish_round(
 
 // Rounds are closed while one is due.
 pub fn settle(
-    s: usize,
-    c: usize,
-    t: usize,
-    n: usize,
-    weight: f32,
+    z: Sizes,
     tiles: &[u32],
     colours: &[f32],
     counts: &[u32],
@@ -84,25 +74,12 @@ pub fn settle(
     least: &mut [f32],
     r: Record,
 ) -> Record
-    requires { ⌜ Standing (course (job s c t weight (now tiles) (now colours) (now counts)) n (now samples)) (stateWith (now order) (now hints) (now palette) (now least) r) ⌝ }
-    ensures { λ x. ⌜ stateWith (now (order .entry)) (now (hints .exit)) (now (palette .exit)) (now (least .exit)) x ≡ settle (course (job s c t weight (now (tiles .entry)) (now (colours .entry)) (now (counts .entry))) n (now (samples .entry))) (stateWith (now (order .entry)) (now (hints .entry)) (now (palette .entry)) (now (least .entry)) r) ⌝ }
+    requires { ⌜ Standing (courseOf z (now tiles) (now colours) (now counts) (now samples)) (stateWith (now order) (now hints) (now palette) (now least) r) ⌝ }
+    ensures { λ x. ⌜ stateWith (now (order .entry)) (now (hints .exit)) (now (palette .exit)) (now (least .exit)) x ≡ settle (courseOf z (now (tiles .entry)) (now (colours .entry)) (now (counts .entry)) (now (samples .entry))) (stateWith (now (order .entry)) (now (hints .entry)) (now (palette .entry)) (now (least .entry)) r) ⌝ }
 {
     let mut at = r;
     while run_next::is_due(at) {
-        at = finish_round(
-            s,
-            c,
-            t,
-            n,
-            weight,
-            tiles,
-            colours,
-            counts,
-            hints,
-            palette,
-            least,
-            at,
-        );
+        at = finish_round(z, tiles, colours, counts, hints, palette, least, at);
     }
     at
 }

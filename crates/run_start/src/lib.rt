@@ -1,16 +1,13 @@
 // The public call that starts a run: both palettes nought but for the samples' mean, the first order, and all that needs no draw.
+use job::Sizes;
 ghost use mathlib.Core.Path.{_≡_};
-ghost use Rattle.job.specs.Job.{job, tileSize};
-ghost use Rattle.quantizer.specs.Course.{course};
+ghost use Rattle.job.specs.Job.{tileSize};
+ghost use Rattle.quantizer.specs.Course.{courseOf};
 ghost use Rattle.stages.specs.Calls.{memory, outcome, startCall};
 
 // 0, or the number of the first rule that is broken; then all memory stays as it is.
 pub fn start(
-    s: usize,
-    c: usize,
-    t: usize,
-    n: usize,
-    weight: f32,
+    z: Sizes,
     seed: u64,
     tiles: &[u32],
     colours: &[f32],
@@ -22,14 +19,10 @@ pub fn start(
     least: &mut [f32],
     words: &mut [u64],
 ) -> u32
-    ensures { λ r. ⌜ outcome r 0 (memory (now (order .exit)) (now (hints .exit)) (now (palette .exit)) (now (least .exit)) (now (words .exit))) ≡ startCall tileSize (course (job s c t weight (now (tiles .entry)) (now (colours .entry)) (now (counts .entry))) n (now (samples .entry))) (memory (now (order .entry)) (now (hints .entry)) (now (palette .entry)) (now (least .entry)) (now (words .entry))) seed ⌝ }
+    ensures { λ r. ⌜ outcome r 0 (memory (now (order .exit)) (now (hints .exit)) (now (palette .exit)) (now (least .exit)) (now (words .exit))) ≡ startCall (courseOf z (now (tiles .entry)) (now (colours .entry)) (now (counts .entry)) (now (samples .entry))) (memory (now (order .entry)) (now (hints .entry)) (now (palette .entry)) (now (least .entry)) (now (words .entry))) seed ⌝ }
 {
     let a = run_check::refuses_start(
-        s,
-        c,
-        t,
-        n,
-        weight,
+        z,
         tiles,
         colours,
         counts,
@@ -43,26 +36,10 @@ pub fn start(
     if a != 0 {
         return a;
     }
-    run_blank::blank(
-        s,
-        c,
-        t,
-        n,
-        weight,
-        tiles,
-        colours,
-        counts,
-        samples,
-        palette,
-        least,
-    );
+    run_blank::blank(z, tiles, colours, counts, samples, palette, least);
     let r = run_blank::deal(order, seed);
     let next = run_round::first::set_out(
-        s,
-        c,
-        t,
-        n,
-        weight,
+        z,
         tiles,
         colours,
         counts,

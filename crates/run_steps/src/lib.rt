@@ -1,6 +1,6 @@
 // The draws of a run that was accepted: each makes all that is then due, and none is made past a stop or past an allotment.
-use stages::Record;
 use job::Sizes;
+use stages::Record;
 ghost use mathlib.Core.Path.{_≡_};
 ghost use lib.ListN.{length};
 ghost use Rattle.quantizer.specs.Course.{courseOf};
@@ -25,17 +25,7 @@ fn step(
     requires { ⌜ Ongoing (courseOf z (now tiles) (now colours) (now counts) (now samples)) (stateWith (now order) (now hints) (now palette) (now least) r) ⌝ }
     ensures { λ x. ⌜ stateWith (now (order .exit)) (now (hints .exit)) (now (palette .exit)) (now (least .exit)) x ≡ step (courseOf z (now (tiles .entry)) (now (colours .entry)) (now (counts .entry)) (now (samples .entry))) (stateWith (now (order .entry)) (now (hints .entry)) (now (palette .entry)) (now (least .entry)) r) ⌝ }
 {
-    let drawn = run_draw::draw(
-        z,
-        tiles,
-        colours,
-        counts,
-        samples,
-        order,
-        hints,
-        palette,
-        r,
-    );
+    let drawn = run_draw::draw(z, tiles, colours, counts, samples, order, hints, palette, r);
     run_round::settle(
         z.s,
         z.c,

@@ -1,13 +1,15 @@
 // The rounds of a run up to the stop for reduction, counted in one: of seeding, until all subpalettes are there; of growing, where each gets
 // a colour more, until it has all of its own; of replacing.
 // The order of the samples is not touched, so it is left out.
+use job::Sizes;
+
 mod replacing;
 
 use stages::Record;
 ghost use mathlib.Core.Path.{_≡_};
 ghost use mathlib.Core.List.{[]};
-ghost use Rattle.job.specs.Job.{job};
-ghost use Rattle.quantizer.specs.Course.{course};
+ghost use Rattle.job.specs.Job.{jobOf};
+ghost use Rattle.quantizer.specs.Course.{courseOf};
 ghost use Rattle.stages.specs.State.{stateWith};
 ghost use Rattle.stages.specs.Stages.{openSeeding, openGrowing};
 ghost use Rattle.run_record.specs.Sized.{sized};
@@ -34,11 +36,7 @@ fn open_seeding(
 
 // A colour more in each subpalette, and a round of draws begins.
 fn open_growing(
-    s: usize,
-    c: usize,
-    t: usize,
-    n: usize,
-    weight: f32,
+    z: Sizes,
     tiles: &[u32],
     colours: &[f32],
     counts: &[u32],
@@ -47,32 +45,17 @@ fn open_growing(
     round: u64,
     r: Record,
 ) -> Record
-    requires { ⌜ Opening (job s c t weight (now tiles) (now colours) (now counts)) (now palette) round (now hints) ⌝ }
-    ensures { λ x. ⌜ stateWith [] (now (hints .exit)) (now (palette .exit)) [] x ≡ openGrowing (course (job s c t weight (now (tiles .entry)) (now (colours .entry)) (now (counts .entry))) n []) round (stateWith [] (now (hints .entry)) (now (palette .entry)) [] r) ⌝ }
+    requires { ⌜ Opening (jobOf z (now tiles) (now colours) (now counts)) (now palette) round (now hints) ⌝ }
+    ensures { λ x. ⌜ stateWith [] (now (hints .exit)) (now (palette .exit)) [] x ≡ openGrowing (courseOf z (now (tiles .entry)) (now (colours .entry)) (now (counts .entry)) []) round (stateWith [] (now (hints .entry)) (now (palette .entry)) [] r) ⌝ }
 {
     let have = round as usize + 1;
-    quantizer_grow::grow_palette(
-        s,
-        c,
-        t,
-        weight,
-        tiles,
-        colours,
-        counts,
-        palette,
-        have,
-        hints,
-    );
-    run_next::open_round(r, 1, round, n)
+    quantizer_grow::grow_palette(z, tiles, colours, counts, palette, have, hints);
+    run_next::open_round(r, 1, round, z.n)
 }
 
 // A turn: the next round in that count. One of seeding copies subpalette `from`.
 pub fn go_on(
-    s: usize,
-    c: usize,
-    t: usize,
-    n: usize,
-    weight: f32,
+    z: Sizes,
     tiles: &[u32],
     colours: &[f32],
     counts: &[u32],
@@ -83,37 +66,20 @@ pub fn go_on(
     from: usize,
     r: Record,
 ) -> Record
-    requires { ⌜ Going (job s c t weight (now tiles) (now colours) (now counts)) (now hints) (now palette) (now least) turn from r ⌝ }
-    ensures { λ x. ⌜ stateWith [] (now (hints .exit)) (now (palette .exit)) (now (least .exit)) x ≡ goOn (course (job s c t weight (now (tiles .entry)) (now (colours .entry)) (now (counts .entry))) n []) turn from (stateWith [] (now (hints .entry)) (now (palette .entry)) (now (least .entry)) r) ⌝ }
+    requires { ⌜ Going (jobOf z (now tiles) (now colours) (now counts)) (now hints) (now palette) (now least) turn from r ⌝ }
+    ensures { λ x. ⌜ stateWith [] (now (hints .exit)) (now (palette .exit)) (now (least .exit)) x ≡ goOn (courseOf z (now (tiles .entry)) (now (colours .entry)) (now (counts .entry)) []) turn from (stateWith [] (now (hints .entry)) (now (palette .entry)) (now (least .entry)) r) ⌝ }
 {
-    let seeded = s as u64 - 1;
+    let seeded = z.s as u64 - 1;
     if turn < seeded {
-        return open_seeding(s, c, n, palette, turn, from, r);
+        return open_seeding(z.s, z.c, z.n, palette, turn, from, r);
     }
     let later = turn - seeded;
-    let grown = c as u64 - 1;
+    let grown = z.c as u64 - 1;
     if later < grown {
-        return open_growing(
-            s,
-            c,
-            t,
-            n,
-            weight,
-            tiles,
-            colours,
-            counts,
-            hints,
-            palette,
-            later,
-            r,
-        );
+        return open_growing(z, tiles, colours, counts, hints, palette, later, r);
     }
     replacing::replace_on(
-        s,
-        c,
-        t,
-        n,
-        weight,
+        z,
         tiles,
         colours,
         counts,

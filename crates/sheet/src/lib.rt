@@ -1,7 +1,8 @@
 // The fit sheet's public calls: the reader and the writer. Neither asks anything of its caller, and a refusal writes nothing.
 // Assumes nothing.
+use job::Sizes;
 ghost use mathlib.Core.Path.{_≡_};
-ghost use Rattle.job.specs.Job.{job, tileSize};
+ghost use Rattle.job.specs.Job.{jobOf, tileSize};
 ghost use Rattle.sheet.specs.Sheets.{room, readOutcome, readDef, writeOutcome, writeDef};
 
 // What a reading finds: a refusal's number, or the numbers of a job whose lists are filled in.
@@ -64,39 +65,25 @@ pub enum Writing {
 
 // The sheet of a job and a palette, into lent bytes. Those past it stay.
 pub fn write(
-    s: usize,
-    c: usize,
-    t: usize,
-    weight: f32,
+    z: Sizes,
     tiles: &[u32],
     colours: &[f32],
     counts: &[u32],
     palette: &[f32],
     dst: &mut [u8],
 ) -> Writing
-    ensures { λ r. ⌜ writeOutcome r (now (dst .exit)) ≡ writeDef tileSize (job s c t weight (now (tiles .entry)) (now (colours .entry)) (now (counts .entry))) (now (palette .entry)) (now (dst .entry)) ⌝ }
+    ensures { λ r. ⌜ writeOutcome r (now (dst .exit)) ≡ writeDef tileSize (jobOf z (now (tiles .entry)) (now (colours .entry)) (now (counts .entry))) (now (palette .entry)) (now (dst .entry)) ⌝ }
 {
-    let number = job_check::check_job(
-        job::TILE_SIZE,
-        s,
-        c,
-        t,
-        weight,
-        tiles,
-        colours,
-        counts,
-        palette,
-        true,
-    );
+    let number = job_check::check_job(z, tiles, colours, counts, palette, true);
     if number != 0 {
         return Writing::Refused(number);
     }
-    let size = sheet_format::size_of(s, c, t, counts.len());
+    let size = sheet_format::size_of(z.s, z.c, z.t, counts.len());
     let n = format::bytes_for(size);
     let fault = sheet_room::place_for(n, dst.len());
     if fault != 0 {
         return Writing::Refused(fault);
     }
-    sheet_whole::pack_sheet(s, c, t, weight, tiles, colours, counts, palette, dst, size);
+    sheet_whole::pack_sheet(z, tiles, colours, counts, palette, dst, size);
     Writing::Bytes(n)
 }

@@ -1,10 +1,11 @@
 // Room for any sheet, and what a reading into it says of the slices' parts: laws over the definitions of `sheet`, in proofs/. The sheet
 // of a job that can be written. Assumes nothing.
+use job::Sizes;
 ghost use mathlib.Core.Path.{_≡_};
 ghost use Prim.Native.Nat.{_≤_};
 ghost use lib.ListN.{length};
 ghost use Rattle.format.specs.Format.{encode};
-ghost use Rattle.job.specs.Job.{job};
+ghost use Rattle.job.specs.Job.{jobOf};
 ghost use Rattle.sheet_format.specs.Sheet.{edition1, sheet};
 ghost use Rattle.sheet_pack.specs.Packed.{sheetOf};
 ghost use Rattle.fit_lines.specs.Lines.{Stored};
@@ -37,20 +38,17 @@ pub fn palette_room() -> [f32; 768]
 
 // The sheet of a job and a palette that can be written: the writer refuses none.
 pub fn put_sheet(
-    s: usize,
-    c: usize,
-    t: usize,
-    weight: f32,
+    z: Sizes,
     tiles: &[u32],
     colours: &[f32],
     counts: &[u32],
     palette: &[f32],
     out: &mut [u8],
 ) -> usize
-    requires { ⌜ Writable (job s c t weight (now tiles) (now colours) (now counts)) (now palette) × (65536 ≤ length (now out)) ⌝ }
-    ensures { λ r. ⌜ Stored (now (out .entry)) (now (out .exit)) 0 r (encode (sheet edition1) (sheetOf (job s c t weight (now (tiles .entry)) (now (colours .entry)) (now (counts .entry))) (now (palette .entry)))) × (r ≤ 65536) ⌝ }
+    requires { ⌜ Writable (jobOf z (now tiles) (now colours) (now counts)) (now palette) × (65536 ≤ length (now out)) ⌝ }
+    ensures { λ r. ⌜ Stored (now (out .entry)) (now (out .exit)) 0 r (encode (sheet edition1) (sheetOf (jobOf z (now (tiles .entry)) (now (colours .entry)) (now (counts .entry))) (now (palette .entry)))) × (r ≤ 65536) ⌝ }
 {
-    match sheet::write(s, c, t, weight, tiles, colours, counts, palette, out) {
+    match sheet::write(z, tiles, colours, counts, palette, out) {
         sheet::Writing::Refused(n) => 0,
         sheet::Writing::Bytes(n) => n,
     }

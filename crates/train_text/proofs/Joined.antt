@@ -22,11 +22,11 @@ module _ (K : Course) where
   left-by : (o : Outcome) (r d : ℕ) (m : Memory) → outcome r d m ≡ o → m ≡ o .after
   left-by o r d m e = ap (λ (x : Outcome). x .after) e
 
-  turn-joined : (d r q : ℕ) (m₀ m₁ m₂ : Memory) (reduced : List Float) → outcome r d m₁ ≡ advanceCall tileSize K m₀ all → reduced ≡ cut (m₁ .palette)
-      → outcome q 0 m₂ ≡ handInCall tileSize K m₁ reduced → m₂ ≡ turnCall K m₀
+  turn-joined : (d r q : ℕ) (m₀ m₁ m₂ : Memory) (reduced : List Float) → outcome r d m₁ ≡ advanceCall K m₀ all → reduced ≡ cut (m₁ .palette)
+      → outcome q 0 m₂ ≡ handInCall K m₁ reduced → m₂ ≡ turnCall K m₀
   unfolding turnCall
   turn-joined d r q m₀ m₁ m₂ reduced e c f =
-      left-by _ q 0 m₂ f ∙ ap (λ (x : List Float). handInCall tileSize K m₁ x .after) c ∙ ap (stopCall K) (left-by _ r d m₁ e)
+      left-by _ q 0 m₂ f ∙ ap (λ (x : List Float). handInCall K m₁ x .after) c ∙ ap (stopCall K) (left-by _ r d m₁ e)
 
   -- ---- the turns: after i of them the memory is what they leave, and as long as before
   pub record Turned (i : ℕ) (before after : Memory) : Type 0 where
@@ -43,8 +43,8 @@ module _ (K : Course) where
   none-turned m = record { few = omega arith; is = refl; order = refl; hints = refl; palette = refl; least = refl; words = refl }
 
   module _ (i : ℕ) (m₀ m₁ : Memory) (T : Turned i m₀ m₁) (l : i < 3) where
-    pub one-more : (d r q : ℕ) (m₂ m₃ : Memory) (reduced : List Float) → outcome r d m₂ ≡ advanceCall tileSize K m₁ all → reduced ≡ cut (m₂ .palette)
-        → outcome q 0 m₃ ≡ handInCall tileSize K m₂ reduced
+    pub one-more : (d r q : ℕ) (m₂ m₃ : Memory) (reduced : List Float) → outcome r d m₂ ≡ advanceCall K m₁ all → reduced ≡ cut (m₂ .palette)
+        → outcome q 0 m₃ ≡ handInCall K m₂ reduced
         → length (m₃ .order) ≡ length (m₁ .order)
         → length (m₂ .hints) ≡ length (m₁ .hints) → length (m₃ .hints) ≡ length (m₂ .hints)
         → length (m₂ .palette) ≡ length (m₁ .palette) → length (m₃ .palette) ≡ length (m₂ .palette)
@@ -74,6 +74,6 @@ module _ (K : Course) where
       t .is ∙ ap (λ (k : ℕ). turnCalls K k m₀) three
 
   -- the whole run
-  pub run-joined : (a : ℕ) (m₀ m₁ m₂ : Memory) → Passed (jobRules tileSize K true) → Roomy K m₀ → outcome a 0 m₁ ≡ startCall tileSize K m₀ 0 → m₂ ≡ turnCalls K 3 m₁
+  pub run-joined : (a : ℕ) (m₀ m₁ m₂ : Memory) → Passed (jobRules tileSize K true) → Roomy K m₀ → outcome a 0 m₁ ≡ startCall K m₀ 0 → m₂ ≡ turnCalls K 3 m₁
       → m₂ .palette ≡ trained K (m₀ .hints) .palette
   run-joined a m₀ m₁ m₂ P R e f = ap (λ (m : Memory). m .palette) (f ∙ ap (turnCalls K 3) (left-by _ a 0 m₁ e)) ∙ calls-train K P m₀ R

@@ -50,6 +50,6 @@ module _ (K : Course) (p : List Float) (D : Drawable K p) where
     }
 
     -- a run in them gives the trained palette
-    pub trained-there : (a : ℕ) (m₁ m₂ : Memory) → outcome a 0 m₁ ≡ startCall tileSize K lent 0 → m₂ ≡ turnCalls K 3 m₁ → m₂ .palette ≡ trainedPalette K
+    pub trained-there : (a : ℕ) (m₁ m₂ : Memory) → outcome a 0 m₁ ≡ startCall K lent 0 → m₂ ≡ turnCalls K 3 m₁ → m₂ .palette ≡ trainedPalette K
     unfolding trainedPalette
     trained-there a m₁ m₂ e f = run-joined K a lent m₁ m₂ (D .passed) roomy e f ∙ ap (λ (x : List ℕ). trained K x .palette) (no-hint hints (K .job .T) (tiles-fit (length hints) h) z)

@@ -1,4 +1,6 @@
 // What `train` writes for a sheet: a refusal's line, or the sheet with the palette that its tiles train. Assumes nothing.
+use job::Sizes;
+
 mod run;
 mod trained;
 
@@ -14,30 +16,24 @@ const MOST_BYTES: usize = 65536;
 
 // What is written for a job whose lists stand at the beginning of these slices.
 fn put_sheet(
-    s: usize,
-    c: usize,
-    t: usize,
-    weight: f32,
+    z: Sizes,
     tiles: &[u32],
     colours: &[f32],
     counts: &[u32],
     palette: &mut [f32],
     out: &mut [u8],
 ) -> usize
-    requires { ⌜ Holds s c t weight (now tiles) (now colours) (now counts) (now palette) × (65536 ≤ length (now out)) ⌝ }
-    ensures { λ r. ⌜ Writes s c t weight (now (tiles .entry)) (now (colours .entry)) (now (counts .entry)) (now (palette .entry)) (now (out .entry)) (now (out .exit)) r × (r ≤ 65536) ⌝ }
+    requires { ⌜ Holds (z .s) (z .c) (z .t) (z .weight) (now tiles) (now colours) (now counts) (now palette) × (65536 ≤ length (now out)) ⌝ }
+    ensures { λ r. ⌜ Writes (z .s) (z .c) (z .t) (z .weight) (now (tiles .entry)) (now (colours .entry)) (now (counts .entry)) (now (palette .entry)) (now (out .entry)) (now (out .exit)) r × (r ≤ 65536) ⌝ }
 {
-    let last = t - 1;
+    let last = z.t - 1;
     let n = job::first_of(tiles, last) + job::size_of(tiles, last);
     trained::put_job(
-        s,
-        c,
-        t,
-        weight,
-        &tiles[..2 * t],
+        z,
+        &tiles[..2 * z.t],
         &colours[..3 * n],
         &counts[..n],
-        &mut palette[..3 * (s * c)],
+        &mut palette[..3 * (z.s * z.c)],
         out,
     )
 }

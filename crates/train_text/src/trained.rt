@@ -1,45 +1,32 @@
 // A job that a sheet holds, trained and written again: its samples, the run, the sheet with the trained palette. Assumes nothing.
+use job::Sizes;
 ghost use mathlib.Core.Path.{_≡_};
 ghost use Prim.Native.Nat.{_≤_};
 ghost use lib.ListN.{length};
-ghost use Rattle.job.specs.Job.{job};
+ghost use Rattle.job.specs.Job.{jobOf};
 ghost use Rattle.sheet_parts.specs.Begins.{Writable};
 ghost use Rattle.fit_lines.specs.Lines.{Stored};
 ghost use Rattle.train_text.specs.Trained.{jobText};
 
 // What is written for a job: its sheet trained, or a refusal's line. The palette is lent to the run.
 pub fn put_job(
-    s: usize,
-    c: usize,
-    t: usize,
-    weight: f32,
+    z: Sizes,
     tiles: &[u32],
     colours: &[f32],
     counts: &[u32],
     palette: &mut [f32],
     out: &mut [u8],
 ) -> usize
-    requires { ⌜ Writable (job s c t weight (now tiles) (now colours) (now counts)) (now palette) × (65536 ≤ length (now out)) ⌝ }
-    ensures { λ r. ⌜ Stored (now (out .entry)) (now (out .exit)) 0 r (jobText (job s c t weight (now (tiles .entry)) (now (colours .entry)) (now (counts .entry)))) × (r ≤ 65536) ⌝ }
+    requires { ⌜ Writable (jobOf z (now tiles) (now colours) (now counts)) (now palette) × (65536 ≤ length (now out)) ⌝ }
+    ensures { λ r. ⌜ Stored (now (out .entry)) (now (out .exit)) 0 r (jobText (jobOf z (now (tiles .entry)) (now (colours .entry)) (now (counts .entry)))) × (r ≤ 65536) ⌝ }
 {
     let mut samples = train_parts::samples_room();
-    let m = train_samples::put_samples(t, tiles, counts, &mut samples);
+    let m = train_samples::put_samples(z.t, tiles, counts, &mut samples);
     let n = m / 2;
     let number = train_refusal::refusal(n);
     if number != 0 {
         return fit_lines::put_refused(out, 0, number);
     }
-    crate::run::train_palette(
-        s,
-        c,
-        t,
-        n,
-        weight,
-        tiles,
-        colours,
-        counts,
-        &samples[..m],
-        palette,
-    );
-    sheet_parts::put_sheet(s, c, t, weight, tiles, colours, counts, palette, out)
+    crate::run::train_palette(z, tiles, colours, counts, &samples[..m], palette);
+    sheet_parts::put_sheet(z, tiles, colours, counts, palette, out)
 }

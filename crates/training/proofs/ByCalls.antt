@@ -36,10 +36,10 @@ module _ (K : Course) (P : Passed (jobRules tileSize K true)) where
     pub is : m ≡ memoryOf s
     pub fit : Fit K s
 
-  started : (m : Memory) → Roomy K m → Holds (startCall tileSize K m 0 .after) (start K 0 (m .hints))
+  started : (m : Memory) → Roomy K m → Holds (startCall K m 0 .after) (start K 0 (m .hints))
   unfolding startCall
   started m r = record {
-    is = ap (λ (x : Outcome). x .after) (done (startAnswer tileSize K m) m 0 (start K 0 (m .hints)) (start-closed tileSize K m P r));
+    is = ap (λ (x : Outcome). x .after) (done (startAnswer K m) m 0 (start K 0 (m .hints)) (start-closed tileSize K m P r));
     fit = start-fit tileSize few-pixels K true D 0 (m .hints) (r .hints);
   }
 
@@ -51,11 +51,11 @@ module _ (K : Course) (P : Passed (jobRules tileSize K true)) where
       by : (draws (s .rec .stage) ≡ true) ⊎ (draws (s .rec .stage) ≡ false) → goCall K (memoryOf s) ≡ memoryOf (advance K all s)
       by (inl d) =
           unfold advanceCall in
-          ap (λ (x : Outcome). x .after) (done (advanceAnswer tileSize K (memoryOf s)) (memoryOf s) _ (advance K all (stateOf (memoryOf s))) (advance-closed tileSize K (memoryOf s) (holds tileSize K s P (H .fit)) (rw (held-state s) d)))
+          ap (λ (x : Outcome). x .after) (done (advanceAnswer K (memoryOf s)) (memoryOf s) _ (advance K all (stateOf (memoryOf s))) (advance-closed tileSize K (memoryOf s) (holds tileSize K s P (H .fit)) (rw (held-state s) d)))
           ∙ ap (λ (z : State). memoryOf (advance K all z)) (held-state s)
       by (inr d) =
           unfold advanceCall in
-          ap (λ (x : Outcome). x .after) (refused (advanceAnswer tileSize K (memoryOf s)) (memoryOf s) _ (advance K all (stateOf (memoryOf s))) (λ e. true≢false (sym (rw (held-state s) at (advance-opened tileSize K (memoryOf s) e .1)) ∙ d)))
+          ap (λ (x : Outcome). x .after) (refused (advanceAnswer K (memoryOf s)) (memoryOf s) _ (advance K all (stateOf (memoryOf s))) (λ e. true≢false (sym (rw (held-state s) at (advance-opened tileSize K (memoryOf s) e .1)) ∙ d)))
           ∙ ap memoryOf (sym (stays K s d))
 
   -- a hand-in at a stop
@@ -69,7 +69,7 @@ module _ (K : Course) (P : Passed (jobRules tileSize K true)) where
       long : coloursRoom tileSize K (cut (memoryOf s .palette)) ≡ true
       long = unfold coloursRoom in eq-eqb _ _ (length-cut (memoryOf s .palette) ∙ ap length same ∙ H .fit .sound .held .size)
 
-      taken : handInAnswer tileSize K (memoryOf s) (cut (memoryOf s .palette)) ≡ 0
+      taken : handInAnswer K (memoryOf s) (cut (memoryOf s .palette)) ≡ 0
       taken =
           handIn-closed tileSize K (memoryOf s) (cut (memoryOf s .palette)) (holds tileSize K s P (H .fit)) (rw (held-state s) d) long
           (cut-fits (memoryOf s .palette) (rw same (H .fit .sound .held .bound)))
@@ -77,7 +77,7 @@ module _ (K : Course) (P : Passed (jobRules tileSize K true)) where
       left : stopCall K (memoryOf s) ≡ memoryOf (handIn K (cut (s .palette)) s)
       left =
           unfold handInCall in
-          ap (λ (x : Outcome). x .after) (done (handInAnswer tileSize K (memoryOf s) (cut (memoryOf s .palette))) (memoryOf s) 0 (handIn K (cut (memoryOf s .palette)) (stateOf (memoryOf s))) taken)
+          ap (λ (x : Outcome). x .after) (done (handInAnswer K (memoryOf s) (cut (memoryOf s .palette))) (memoryOf s) 0 (handIn K (cut (memoryOf s .palette)) (stateOf (memoryOf s))) taken)
           ∙ ap (λ (z : State). memoryOf (handIn K (cut (memoryOf s .palette)) z)) (held-state s)
           ∙ ap (λ (x : List Float). memoryOf (handIn K (cut x) s)) same
 
@@ -98,7 +98,7 @@ module _ (K : Course) (P : Passed (jobRules tileSize K true)) where
     unfolding begun
     at-reduction = to-reduction K (D .ready .sizes .subs) (D .ready .sizes .some) few (D .few) (m .hints)
 
-    reduced : Holds (turnCalls K 1 (startCall tileSize K m 0 .after)) (turn K begun)
+    reduced : Holds (turnCalls K 1 (startCall K m 0 .after)) (turn K begun)
     unfolding turnCalls begun
     reduced = turned (started m r) (ap stops at-reduction)
 
@@ -108,7 +108,7 @@ module _ (K : Course) (P : Passed (jobRules tileSize K true)) where
         to-drawn K (D .ready .sizes .subs) (D .ready .sizes .some) few (D .few) (turn K begun) (reduced .fit .rests)
         (handed-late K (cut (goOn K begun .palette)) (goOn K begun) at-reduction)
 
-    drawn : Holds (turnCalls K 2 (startCall tileSize K m 0 .after)) (turn K (turn K begun))
+    drawn : Holds (turnCalls K 2 (startCall K m 0 .after)) (turn K (turn K begun))
     unfolding turnCalls
     drawn = turned reduced (ap stops at-drawn)
 

@@ -41,10 +41,10 @@ module _ (K : Course) where
 -- ---- the same by the public calls, over lent memory
 module _ (K : Course) where
   abbrev pub goCall : Memory → Memory
-  goCall m = advanceCall tileSize K m all .after
+  goCall m = advanceCall K m all .after
 
   abbrev pub stopCall : Memory → Memory
-  stopCall m = handInCall tileSize K m (cut (m .palette)) .after
+  stopCall m = handInCall K m (cut (m .palette)) .after
 
   unfoldable pub turnCall : Memory → Memory
   turnCall m = stopCall (goCall m)
@@ -56,4 +56,4 @@ module _ (K : Course) where
 
   -- a start and three turns
   abbrev pub trainCalls : Memory → Memory
-  trainCalls m = turnCalls 3 (startCall tileSize K m 0 .after)
+  trainCalls m = turnCalls 3 (startCall K m 0 .after)
