@@ -2,14 +2,14 @@
 use Prim.Native.Nat.{_≤_, _-_}
 use mathlib.Core.Path.{sym, _∙_}
 use borrow.Author.Needs.{needs}
-use Rattle.job.specs.Job.{job}
+use Rattle.job.specs.Job.{jobOf}
 use Rattle.assign_tiles.specs.Tiles.{held}
 use Rattle.assign_tiles.proofs.Fills.{Filled, filled-none, filled-more, filled-end}
 use Rattle.assign_tiles.proofs.assign_tiles.Statement.{statement}
 use Rattle.assign_tiles.proofs.assign_tiles.Tie as tie
 
 abbrev Inv-loop : tie.InvT-loop
-Inv-loop s c t weight tiles colours counts palette hints₀ out₀ i₀ hints out i = (i ≤ t) × Filled (job s c t weight tiles colours counts) palette (held hints₀ out₀) (held hints out) i
+Inv-loop z tiles colours counts palette hints₀ out₀ i₀ hints out i = (i ≤ t) × Filled (jobOf z tiles colours counts) palette (held hints₀ out₀) (held hints out) i
 
 abbrev μ-loop : tie.MeasureT-loop
 μ-loop s c t weight tiles colours counts palette hints₀ out₀ i₀ hints out i = t - i

@@ -4,7 +4,7 @@ use mathlib.Core.Path.{_≡_, refl, sym, ap, _∙_, subst}
 use mathlib.Core.List.{List}
 use native.Mathlib.Omega.{arith}
 use lib.ListN.{length, getD}
-use Rattle.job.specs.Job.{Job, job}
+use Rattle.job.specs.Job.{Job, jobOf}
 use Rattle.fit_lines.specs.Lines.{Stored}
 use Rattle.fit_tiles.specs.Text.{tileLines, loadOf}
 use Rattle.fit_tiles.proofs.Lengths.{tile-most}
@@ -13,9 +13,9 @@ use Rattle.fit_tiles.proofs.put_tiles.Statement.{statement}
 use Rattle.fit_tiles.proofs.put_tiles.Tie as tie
 
 abbrev Inv-loop : tie.InvT-loop
-Inv-loop s c t weight tiles colours counts palette hints₀ loads₀ out₀ at q₀ i₀ hints loads out q i =
+Inv-loop z tiles colours counts palette hints₀ loads₀ out₀ at q₀ i₀ hints loads out q i =
     (i ≤ t) × (length hints ≡ t) × (length loads ≡ length loads₀) × (length out ≡ length out₀) × (q ≤ at + 33 * i)
-    × Stored out₀ out at q (tileLines (job s c t weight tiles colours counts) palette i) × ((k : ℕ) → getD loads k 0 ≡ loadOf (job s c t weight tiles colours counts) palette k i)
+    × Stored out₀ out at q (tileLines (jobOf z tiles colours counts) palette i) × ((k : ℕ) → getD loads k 0 ≡ loadOf (jobOf z tiles colours counts) palette k i)
 
 abbrev μ-loop : tie.MeasureT-loop
 μ-loop s c t weight tiles colours counts palette hints₀ loads₀ out₀ at q₀ i₀ hints loads out q i = t - i
@@ -27,8 +27,8 @@ loop-holds c = (
   refl,
   refl,
   omega arith,
-  lines-none (job (c .before .before .before .before .before .before .before .args .s) (c .before .before .before .before .before .before .before .args .c) (c .before .before .before .before .before .before .before .args .t) (c .before .before .before .before .before .before .before .args .weight) (c .before .before .before .before .before .before .before .args .tiles .now) (c .before .before .before .before .before .before .before .args .colours .now) (c .before .before .before .before .before .before .before .args .counts .now)) (c .before .before .before .before .before .before .before .args .palette .now) (c .before .before .before .before .before .before .before .args .out .now) (c .before .before .before .before .before .before .before .args .at),
-  λ k. c .before .before .before .before .before .before .before .pre .3 k ∙ sym (load-none (job (c .before .before .before .before .before .before .before .args .s) (c .before .before .before .before .before .before .before .args .c) (c .before .before .before .before .before .before .before .args .t) (c .before .before .before .before .before .before .before .args .weight) (c .before .before .before .before .before .before .before .args .tiles .now) (c .before .before .before .before .before .before .before .args .colours .now) (c .before .before .before .before .before .before .before .args .counts .now)) (c .before .before .before .before .before .before .before .args .palette .now) k),
+  lines-none (jobOf (c .before .before .before .before .before .before .before .args .z) (c .before .before .before .before .before .before .before .args .tiles .now) (c .before .before .before .before .before .before .before .args .colours .now) (c .before .before .before .before .before .before .before .args .counts .now)) (c .before .before .before .before .before .before .before .args .palette .now) (c .before .before .before .before .before .before .before .args .out .now) (c .before .before .before .before .before .before .before .args .at),
+  λ k. c .before .before .before .before .before .before .before .pre .3 k ∙ sym (load-none (jobOf (c .before .before .before .before .before .before .before .args .z) (c .before .before .before .before .before .before .before .args .tiles .now) (c .before .before .before .before .before .before .before .args .colours .now) (c .before .before .before .before .before .before .before .args .counts .now)) (c .before .before .before .before .before .before .before .args .palette .now) k),
 )
 
 tile-found-requires : tie.Need-tile-found-requires Inv-loop μ-loop
@@ -45,7 +45,7 @@ count-tile-requires c κs =
     let f = c .before .before .before .before .before .before .before in
     let l = f .before .before .before in
     let z = l .before .before .before .before .before .before .before .before in
-    let J : Job = job (z .args .s) (z .args .c) (z .args .t) (z .args .weight) (z .args .tiles .now) (z .args .colours .now) (z .args .counts .now) in (
+    let J : Job = jobOf (z .args .z) (z .args .tiles .now) (z .args .colours .now) (z .args .counts .now) in (
       omega (arith, f .tile-found .ensures .0, sub-below J (z .args .palette .now) (z .pre .0) (l .loop .i)),
       omega (arith, l .loop .inv .6 (f .tile-found .result .sub), load-few J (z .args .palette .now) (f .tile-found .result .sub) (l .loop .i), z .pre .0 .ready .sizes .tiles),
     )
@@ -63,7 +63,7 @@ loop-again c =
     let f = p .before .before .before .before in
     let l = f .before .before .before in
     let z = l .before .before .before .before .before .before .before .before in
-    let J : Job = job (z .args .s) (z .args .c) (z .args .t) (z .args .weight) (z .args .tiles .now) (z .args .colours .now) (z .args .counts .now) in
+    let J : Job = jobOf (z .args .z) (z .args .tiles .now) (z .args .colours .now) (z .args .counts .now) in
     let k = f .tile-found .result .sub in
     let room = tile-most (l .loop .i) k (f .tile-found .result .bits) in (
       omega arith,
@@ -89,8 +89,8 @@ same-length-3 c = omega arith
 returns : tie.Need-returns Inv-loop μ-loop
 returns c =
     let e : c .before .loop .i ≡ c .before .before .before .before .before .before .before .before .before .args .t = omega arith in (
-      subst (λ (k : ℕ). Stored (c .before .before .before .before .before .before .before .before .before .args .out .now) (c .before .loop .out) (c .before .before .before .before .before .before .before .before .before .args .at) (c .before .loop .q) (tileLines (job (c .before .before .before .before .before .before .before .before .before .args .s) (c .before .before .before .before .before .before .before .before .before .args .c) (c .before .before .before .before .before .before .before .before .before .args .t) (c .before .before .before .before .before .before .before .before .before .args .weight) (c .before .before .before .before .before .before .before .before .before .args .tiles .now) (c .before .before .before .before .before .before .before .before .before .args .colours .now) (c .before .before .before .before .before .before .before .before .before .args .counts .now)) (c .before .before .before .before .before .before .before .before .before .args .palette .now) k)) e (c .before .loop .inv .5),
-      λ k. c .before .loop .inv .6 k ∙ ap (loadOf (job (c .before .before .before .before .before .before .before .before .before .args .s) (c .before .before .before .before .before .before .before .before .before .args .c) (c .before .before .before .before .before .before .before .before .before .args .t) (c .before .before .before .before .before .before .before .before .before .args .weight) (c .before .before .before .before .before .before .before .before .before .args .tiles .now) (c .before .before .before .before .before .before .before .before .before .args .colours .now) (c .before .before .before .before .before .before .before .before .before .args .counts .now)) (c .before .before .before .before .before .before .before .before .before .args .palette .now) k) e,
+      subst (λ (k : ℕ). Stored (c .before .before .before .before .before .before .before .before .before .args .out .now) (c .before .loop .out) (c .before .before .before .before .before .before .before .before .before .args .at) (c .before .loop .q) (tileLines (jobOf (c .before .before .before .before .before .before .before .before .before .args .z) (c .before .before .before .before .before .before .before .before .before .args .tiles .now) (c .before .before .before .before .before .before .before .before .before .args .colours .now) (c .before .before .before .before .before .before .before .before .before .args .counts .now)) (c .before .before .before .before .before .before .before .before .before .args .palette .now) k)) e (c .before .loop .inv .5),
+      λ k. c .before .loop .inv .6 k ∙ ap (loadOf (jobOf (c .before .before .before .before .before .before .before .before .before .args .z) (c .before .before .before .before .before .before .before .before .before .args .tiles .now) (c .before .before .before .before .before .before .before .before .before .args .colours .now) (c .before .before .before .before .before .before .before .before .before .args .counts .now)) (c .before .before .before .before .before .before .before .before .before .args .palette .now) k) e,
     )
 
 pub put-tiles-spec : {M : Type 1} → statement M

@@ -1,13 +1,13 @@
 -- `mse_sum::mse` meets its contract. The loop's invariant: the sum and the hints are those after the first i tiles. Assumes nothing.
 use Prim.Native.Nat.{_-_}
 use native.Mathlib.Omega.{arith}
-use Rattle.job.specs.Job.{job}
+use Rattle.job.specs.Job.{jobOf}
 use Rattle.mse.proofs.Turns.{Going, going-start, going-length, going-turn, going-more, going-meaned, going-end}
 use Rattle.mse_sum.proofs.mse.Statement.{statement}
 use Rattle.mse_sum.proofs.mse.Tie as tie
 
 abbrev Inv-loop : tie.InvT-loop
-Inv-loop s c t weight tiles colours counts pal n have hints₀ sum₀ i₀ hints sum i = Going (job s c t weight tiles colours counts) pal n have hints₀ hints sum i
+Inv-loop z tiles colours counts pal n have hints₀ sum₀ i₀ hints sum i = Going (jobOf z tiles colours counts) pal n have hints₀ hints sum i
 
 abbrev μ-loop : tie.MeasureT-loop
 μ-loop s c t weight tiles colours counts pal n have hints₀ sum₀ i₀ hints sum i = t - i

@@ -3,14 +3,14 @@ use Prim.Native.Nat.{_-_}
 use mathlib.Core.Path.{sym, ap, _∙_}
 use native.Mathlib.Omega.{arith}
 use lib.ListN.{length}
-use Rattle.job.specs.Job.{job}
+use Rattle.job.specs.Job.{jobOf}
 use Rattle.quantizer.specs.Replacing.{shares}
 use Rattle.quantizer_color_sums.proofs.Spreads.{Spreading, spreading-start, spreading-wide, spreading-turn, spreading-more, spreading-end}
 use Rattle.quantizer_color_sums.proofs.color_sums.Statement.{statement}
 use Rattle.quantizer_color_sums.proofs.color_sums.Tie as tie
 
 abbrev Inv-loop : tie.InvT-loop
-Inv-loop s c t weight tiles colours counts pal hints total₀ second₀ i₀ total second i = Spreading (job s c t weight tiles colours counts) pal (shares total second) i
+Inv-loop z tiles colours counts pal hints total₀ second₀ i₀ total second i = Spreading (jobOf z tiles colours counts) pal (shares total second) i
 
 abbrev μ-loop : tie.MeasureT-loop
 μ-loop s c t weight tiles colours counts pal hints total₀ second₀ i₀ total second i = t - i

@@ -2,14 +2,14 @@
 -- Assumes nothing.
 use Prim.Native.Nat.{_-_}
 use native.Mathlib.Omega.{arith}
-use Rattle.job.specs.Job.{job}
+use Rattle.job.specs.Job.{jobOf}
 use Rattle.quantizer.specs.Refining.{gather}
 use Rattle.quantizer_gather.proofs.Turns.{Going, going-start, going-length, going-whole, going-turn, going-more, going-end}
 use Rattle.quantizer_gather.proofs.gather_all.Statement.{statement}
 use Rattle.quantizer_gather.proofs.gather_all.Tie as tie
 
 abbrev Inv-loop : tie.InvT-loop
-Inv-loop s c t weight tiles colours counts pal hints₀ sums₀ cnts₀ i₀ hints sums cnts i = Going (job s c t weight tiles colours counts) pal hints₀ hints (gather sums cnts) i
+Inv-loop z tiles colours counts pal hints₀ sums₀ cnts₀ i₀ hints sums cnts i = Going (jobOf z tiles colours counts) pal hints₀ hints (gather sums cnts) i
 
 abbrev μ-loop : tie.MeasureT-loop
 μ-loop s c t weight tiles colours counts pal hints₀ sums₀ cnts₀ i₀ hints sums cnts i = t - i

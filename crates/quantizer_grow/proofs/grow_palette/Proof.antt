@@ -1,14 +1,14 @@
 -- `quantizer_grow::grow_palette` meets its contract. The loop's invariant: each of the first i subpalettes got its colour. Assumes nothing.
 use Prim.Native.Nat.{_-_}
 use native.Mathlib.Omega.{arith}
-use Rattle.job.specs.Job.{job}
+use Rattle.job.specs.Job.{jobOf}
 use Rattle.quantizer_grow.proofs.Splits.{Splitting, splitting-start, splitting-length, splitting-split, splitting-more, splitting-end}
 use borrow.Author.Needs.{needs}
 use Rattle.quantizer_grow.proofs.grow_palette.Statement.{statement}
 use Rattle.quantizer_grow.proofs.grow_palette.Tie as tie
 
 abbrev Inv-loop : tie.InvT-loop
-Inv-loop s c t weight tiles colours counts pal₀ have hints total-color-distances i₀ pal i = Splitting (job s c t weight tiles colours counts) pal₀ have pal i
+Inv-loop z tiles colours counts pal₀ have hints total-color-distances i₀ pal i = Splitting (jobOf z tiles colours counts) pal₀ have pal i
 
 abbrev μ-loop : tie.MeasureT-loop
 μ-loop s c t weight tiles colours counts pal₀ have hints total-color-distances i₀ pal i = s - i

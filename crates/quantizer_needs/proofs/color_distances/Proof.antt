@@ -3,13 +3,13 @@ use Prim.Native.Nat.{_-_}
 use mathlib.Core.Path.{sym, ap, _∙_}
 use native.Mathlib.Omega.{arith}
 use lib.ListN.{length}
-use Rattle.job.specs.Job.{job}
+use Rattle.job.specs.Job.{jobOf}
 use Rattle.quantizer_needs.proofs.Turns.{Needing, no-turn, needing-start, needing-length, needing-wide, needing-turn, needing-more, needing-end}
 use Rattle.quantizer_needs.proofs.color_distances.Statement.{statement}
 use Rattle.quantizer_needs.proofs.color_distances.Tie as tie
 
 abbrev Inv-loop : tie.InvT-loop
-Inv-loop s c t weight tiles colours counts pal have hints₀ total₀ i₀ hints total i = Needing (job s c t weight tiles colours counts) pal have hints₀ hints total i
+Inv-loop z tiles colours counts pal have hints₀ total₀ i₀ hints total i = Needing (jobOf z tiles colours counts) pal have hints₀ hints total i
 
 abbrev μ-loop : tie.MeasureT-loop
 μ-loop s c t weight tiles colours counts pal have hints₀ total₀ i₀ hints total i = t - i

@@ -3,14 +3,14 @@ use Prim.Native.Nat.{_-_}
 use mathlib.Core.Path.{sym, ap, _∙_}
 use native.Mathlib.Omega.{arith}
 use lib.ListN.{length}
-use Rattle.job.specs.Job.{job}
+use Rattle.job.specs.Job.{jobOf}
 use Rattle.quantizer.specs.Replacing.{shares}
 use Rattle.quantizer_palette_sums.proofs.Pairs.{Pairing, pairing-start, pairing-length, pairing-wide, pairing-paired, pairing-room, pairing-more, pairing-end}
 use Rattle.quantizer_palette_sums.proofs.palette_sums.Statement.{statement}
 use Rattle.quantizer_palette_sums.proofs.palette_sums.Tie as tie
 
 abbrev Inv-loop : tie.InvT-loop
-Inv-loop s c t weight tiles colours counts pal hints₀ total₀ removed₀ i₀ hints total removed i = Pairing (job s c t weight tiles colours counts) pal hints₀ hints (shares total removed) i
+Inv-loop z tiles colours counts pal hints₀ total₀ removed₀ i₀ hints total removed i = Pairing (jobOf z tiles colours counts) pal hints₀ hints (shares total removed) i
 
 abbrev μ-loop : tie.MeasureT-loop
 μ-loop s c t weight tiles colours counts pal hints₀ total₀ removed₀ i₀ hints total removed i = t - i

@@ -1,7 +1,7 @@
 -- `quantizer_recolor::replace_colors` meets its contract. The loop's invariant: a colour is replaced in each of the first i subpalettes. Assumes nothing.
 use Prim.Native.Nat.{_-_}
 use native.Mathlib.Omega.{arith}
-use Rattle.job.specs.Job.{job}
+use Rattle.job.specs.Job.{jobOf}
 use Rattle.quantizer.specs.Replacing.{shares}
 use Rattle.quantizer_recolor.proofs.Colours.{Recolouring, one-colour, recolouring-start, recolouring-length, recolouring-row, recolouring-more, recolouring-end}
 use borrow.Author.Needs.{needs}
@@ -9,7 +9,7 @@ use Rattle.quantizer_recolor.proofs.replace_colors.Statement.{statement
 use Rattle.quantizer_recolor.proofs.replace_colors.Tie as tie
 
 abbrev Inv-loop : tie.InvT-loop
-Inv-loop s c t weight tiles colours counts pal₀ hints total-color-mse second-color-mse i₀ pal i = Recolouring (job s c t weight tiles colours counts) pal₀ pal (shares total-color-mse second-color-mse) i
+Inv-loop z tiles colours counts pal₀ hints total-color-mse second-color-mse i₀ pal i = Recolouring (jobOf z tiles colours counts) pal₀ pal (shares total-color-mse second-color-mse) i
 
 abbrev μ-loop : tie.MeasureT-loop
 μ-loop s c t weight tiles colours counts pal₀ hints total-color-mse second-color-mse i₀ pal i = s - i

@@ -4,13 +4,13 @@ use Prim.Native.Nat.{_-_}
 use mathlib.Core.Path.{refl, sym}
 use native.Mathlib.Omega.{arith}
 use borrow.Author.Needs.{needs}
-use Rattle.job.specs.Job.{job}
+use Rattle.job.specs.Job.{jobOf}
 use Rattle.quantizer_worst.proofs.Turns.{Going, going-start, going-length, going-whole, going-turn, going-more, going-end, sums-room, sums-asked, worst-done}
 use Rattle.quantizer_worst.proofs.worst.Statement.{statement}
 use Rattle.quantizer_worst.proofs.worst.Tie as tie
 
 abbrev Inv-loop : tie.InvT-loop
-Inv-loop s c t weight tiles colours counts pal subs hints₀ distances₀ i₀ hints distances i = Going (job s c t weight tiles colours counts) pal subs hints₀ hints distances i
+Inv-loop z tiles colours counts pal subs hints₀ distances₀ i₀ hints distances i = Going (jobOf z tiles colours counts) pal subs hints₀ hints distances i
 
 abbrev μ-loop : tie.MeasureT-loop
 μ-loop s c t weight tiles colours counts pal subs hints₀ distances₀ i₀ hints distances i = t - i

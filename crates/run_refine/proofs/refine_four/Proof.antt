@@ -2,13 +2,13 @@
 use Prim.Native.Nat.{_-_}
 use mathlib.Core.Path.{sym, _∙_}
 use native.Mathlib.Omega.{arith}
-use Rattle.job.specs.Job.{job}
+use Rattle.job.specs.Job.{jobOf}
 use Rattle.run_refine.proofs.Laws.{Refining, begun, again, ended, shown-of}
 use Rattle.run_refine.proofs.refine_four.Statement.{statement}
 use Rattle.run_refine.proofs.refine_four.Tie as tie
 
 abbrev Inv-loop : tie.InvT-loop
-Inv-loop s c t weight tiles colours counts palette₀ hints₀ i₀ palette hints i = Refining (job s c t weight tiles colours counts) hints₀ palette₀ hints palette i
+Inv-loop z tiles colours counts palette₀ hints₀ i₀ palette hints i = Refining (jobOf z tiles colours counts) hints₀ palette₀ hints palette i
 
 abbrev μ-loop : tie.MeasureT-loop
 μ-loop s c t weight tiles colours counts palette₀ hints₀ i₀ palette hints i = 4 - i

@@ -1,7 +1,7 @@
 -- `run_round::settle` meets its contract. The invariant: what settling gives is still to come, from a state that can be closed. Assumes nothing.
 use mathlib.Core.Path.{refl, sym, _∙_}
 use Rattle.job.specs.Job.{job}
-use Rattle.quantizer.specs.Course.{course}
+use Rattle.quantizer.specs.Course.{courseOf}
 use Rattle.stages.specs.State.{stateWith}
 use Rattle.calls.proofs.Place.{togo}
 use Rattle.run_round.proofs.Closes.{Settling, begun, to-close, fewer, again, ended}
@@ -9,12 +9,12 @@ use Rattle.run_round.proofs.settle.Statement.{statement}
 use Rattle.run_round.proofs.settle.Tie as tie
 
 abbrev Inv-loop : tie.InvT-loop
-Inv-loop s c t n weight tiles colours counts samples order hints₀ palette₀ least₀ at₀ hints palette least at =
-    Settling (course (job s c t weight tiles colours counts) n samples) (stateWith order hints₀ palette₀ least₀ at₀) (stateWith order hints palette least at)
+Inv-loop z tiles colours counts samples order hints₀ palette₀ least₀ at₀ hints palette least at =
+    Settling (courseOf z tiles colours counts samples) (stateWith order hints₀ palette₀ least₀ at₀) (stateWith order hints palette least at)
 
 abbrev μ-loop : tie.MeasureT-loop
 μ-loop s c t n weight tiles colours counts samples order hints₀ palette₀ least₀ at₀ hints palette least at =
-    togo (course (job s c t weight tiles colours counts) n samples) (stateWith order hints palette least at)
+    togo (courseOf z tiles colours counts samples) (stateWith order hints palette least at)
 
 loop-holds : tie.Need-loop-holds Inv-loop μ-loop
 loop-holds c = begun _ _ (c .before .before .before .before .before .before .before .before .pre)

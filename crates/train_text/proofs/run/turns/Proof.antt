@@ -2,7 +2,7 @@
 use Prim.Native.Nat.{_-_}
 use native.Mathlib.Omega.{arith}
 use Rattle.job.specs.Job.{job}
-use Rattle.quantizer.specs.Course.{course}
+use Rattle.quantizer.specs.Course.{courseOf}
 use Rattle.stages.specs.Calls.{memory}
 use Rattle.sheet_parts.proofs.Parts.{front-long}
 use Rattle.train_text.proofs.Joined.{Turned, none-turned, one-more, next-fits, nearer, all-turned}
@@ -10,8 +10,8 @@ use Rattle.train_text.proofs.run.turns.Statement.{statement}
 use Rattle.train_text.proofs.run.turns.Tie as tie
 
 abbrev Inv-loop : tie.InvT-loop
-Inv-loop s c t n weight tiles colours counts samples order₀ hints₀ palette₀ least₀ words₀ passed₀ order hints palette least words passed =
-    Turned (course (job s c t weight tiles colours counts) n samples) passed (memory order₀ hints₀ palette₀ least₀ words₀) (memory order hints palette least words)
+Inv-loop z tiles colours counts samples order₀ hints₀ palette₀ least₀ words₀ passed₀ order hints palette least words passed =
+    Turned (courseOf z tiles colours counts samples) passed (memory order₀ hints₀ palette₀ least₀ words₀) (memory order hints palette least words)
 
 abbrev μ-loop : tie.MeasureT-loop
 μ-loop s c t n weight tiles colours counts samples order₀ hints₀ palette₀ least₀ words₀ passed₀ order hints palette least words passed =
