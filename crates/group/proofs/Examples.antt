@@ -9,7 +9,7 @@ use Rattle.group_pixels.specs.declared.Zero.the-variants.{Given, Absent}
 use Rattle.group_pixels.specs.Pixel.{isZero, kept, sameBytes, inGamut, sameBits, clash}
 use Rattle.group.specs.declared.Grouped.the-variants.{Done}
 use Rattle.group_refusal.specs.Refusal.{given, Lent, lent, some, firstOf, fault, lengthsFit, refusalWhere, refusal}
-use Rattle.group_fill.specs.Entries.{join, place, entries, indexes, bytesOf, oklabOf, countsOf, left}
+use Rattle.group.specs.Entries.{join, place, entries, indexes, bytesOf, oklabOf, countsOf, left}
 use Rattle.group.specs.Group.{outcome, grouping}
 
 -- pixels, four bytes each

@@ -7,8 +7,8 @@ use lib.Dec.{ltb}
 use borrow.Author.Tests.{ltb-false, eq-eqb, ne-eqb}
 use Rattle.group_refusal.specs.Refusal.{Pixels, Lent, firstOf, fault, refusalWhere, refusal}
 use Rattle.group.specs.declared.Grouped.the-variants.{Done, Refused}
-use Rattle.group_turn.specs.Turn.{Filled, filled}
-use Rattle.group_fill.specs.Entries.{fillTo}
+use Rattle.group.specs.Turn.{Filled, filled}
+use Rattle.group.specs.Entries.{fillTo}
 use Rattle.group.specs.Group.{outcome, grouping}
 
 accept : (a b : Bool) (v : ℕ) → cond a 2 (cond b v 3) ≡ 0 → (a ≡ false) × (b ≡ true)

@@ -10,7 +10,7 @@ use borrow.Author.Tests.{eqb-true}
 use Rattle.group.specs.declared.Grouped.{Grouped}
 use Rattle.group.specs.declared.Grouped.the-variants.{Done, Refused}
 use Rattle.group_refusal.specs.Refusal.{Pixels, Lent, lent, refusal}
-use Rattle.group_fill.specs.Entries.{entries, left}
+use Rattle.group.specs.Entries.{entries, left}
 use Rattle.group.specs.Group.{Outcome, outcome, numberOf, entriesOf, grouping}
 
 -- two outcomes that meet the contract are equal, in the answer and in each lent slice

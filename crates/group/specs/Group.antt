@@ -4,7 +4,7 @@ use Prim.Native.Nat.{ℕ}
 use lib.Dec.{eqb}
 use lib.ListN.{length}
 use Rattle.group_refusal.specs.Refusal.{Pixels, Lent, refusal}
-use Rattle.group_fill.specs.Entries.{entries, left}
+use Rattle.group.specs.Entries.{entries, left}
 use Rattle.group.specs.declared.Grouped.{Grouped}
 use Rattle.group.specs.declared.Grouped.the-variants.{Done, Refused}
 

@@ -1,9 +1,93 @@
 // Grouping, from `extract` of the Rust: the kept pixels of a tile become entries, one for each colour, with a count of their pixels.
 // What the first pass did not refuse, a second one fills into the room that the caller lends.
 ghost use mathlib.Core.Path.{_≡_};
+ghost use mathlib.Core.Bool.{true};
+ghost use Prim.Native.Nat.{_*_, _≤_, _<_};
+ghost use lib.ListN.{length};
+ghost use Rattle.group_refusal.specs.Refusal.{lent, given, sized};
 ghost use Rattle.job.specs.Job.{tileSize};
-ghost use Rattle.group_refusal.specs.Refusal.{given, lent};
+ghost use Rattle.group.specs.Turn.{seek, filled, turn, Roomy};
+ghost use Rattle.group.specs.Entries.{fillTo};
 ghost use Rattle.group.specs.Group.{outcome, grouping};
+
+// The first of n entries that has the bytes x, or n.
+fn position(n: usize, entry_bytes: &[u8], x: group_pixels::Rgba) -> usize
+    requires { ⌜ 4 * n ≤ length (now «entry_bytes») ⌝ }
+    ensures { λ r. ⌜ r ≡ seek n (now («entry_bytes» .entry)) x ⌝ }
+{
+    let mut e = 0usize;
+    while e < n {
+        if group_pixels::same_bytes(group_pixels::rgba_at(entry_bytes, e), x) {
+            return e;
+        }
+        e += 1;
+    }
+    n
+}
+
+// Pixel k joins the entry with its bytes, or begins one. The number of entries after it.
+pub fn settle(
+    k: usize,
+    n: usize,
+    pixels: &[u8],
+    oklab: &[f32],
+    zero: group_pixels::Zero,
+    entry_bytes: &mut [u8],
+    entry_oklab: &mut [f32],
+    entry_counts: &mut [u32],
+    index: &mut [u32],
+) -> usize
+    requires { ⌜ Roomy k n (now pixels) (now oklab) (lent (now «entry_bytes») (now «entry_oklab») (now «entry_counts») (now index)) ⌝ }
+    ensures { λ r. ⌜ filled r (lent (now («entry_bytes» .exit)) (now («entry_oklab» .exit)) (now («entry_counts» .exit)) (now (index .exit))) ≡ turn (now (pixels .entry)) (now (oklab .entry)) zero k (filled n (lent (now («entry_bytes» .entry)) (now («entry_oklab» .entry)) (now («entry_counts» .entry)) (now (index .entry)))) ⌝ }
+{
+    let x = group_pixels::rgba_at(pixels, k);
+    if !group_pixels::is_kept(zero, x) {
+        return n;
+    }
+    let e = position(n, entry_bytes, x);
+    index[k] = e as u32;
+    if e < n {
+        entry_counts[e] += 1;
+        return n;
+    }
+    group_pixels::put_rgba(entry_bytes, n, x);
+    color::put(entry_oklab, n, color::colour(oklab, k));
+    entry_counts[n] = 1;
+    n + 1
+}
+
+// On pixels that passed the first pass. The number of entries.
+pub fn fill(
+    p: usize,
+    pixels: &[u8],
+    oklab: &[f32],
+    zero: group_pixels::Zero,
+    entry_bytes: &mut [u8],
+    entry_oklab: &mut [f32],
+    entry_counts: &mut [u32],
+    index: &mut [u32],
+) -> usize
+    requires { ⌜ (p < 4294967296) × (sized (given p (now pixels) (now oklab) zero) (lent (now «entry_bytes») (now «entry_oklab») (now «entry_counts») (now index)) ≡ true) ⌝ }
+    ensures { λ r. ⌜ filled r (lent (now («entry_bytes» .exit)) (now («entry_oklab» .exit)) (now («entry_counts» .exit)) (now (index .exit))) ≡ fillTo (given p (now (pixels .entry)) (now (oklab .entry)) zero) p (lent (now («entry_bytes» .entry)) (now («entry_oklab» .entry)) (now («entry_counts» .entry)) (now (index .entry))) ⌝ }
+{
+    let mut n = 0usize;
+    let mut k = 0usize;
+    while k < p {
+        n = settle(
+            k,
+            n,
+            pixels,
+            oklab,
+            zero,
+            entry_bytes,
+            entry_oklab,
+            entry_counts,
+            index,
+        );
+        k += 1;
+    }
+    n
+}
 
 // The number of entries written, or the number of the refusal.
 pub enum Grouped {
@@ -38,7 +122,7 @@ pub fn group(
     if number != 0 {
         return Grouped::Refused(number);
     }
-    Grouped::Done(group_fill::fill(
+    Grouped::Done(fill(
         p,
         pixels,
         oklab,

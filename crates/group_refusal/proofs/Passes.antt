@@ -5,7 +5,7 @@ use mathlib.Core.Bool.{Bool, true, false, _&&_}
 use lib.Dec.{eqb}
 use borrow.Author.Tests.{eqb-true, lt-ltb, le-ltb}
 use Rattle.lists.proofs.Tests.{and-l, and-r}
-use Rattle.group_faults.specs.Faults.{firstOf, fault}
+use Rattle.group_refusal.specs.Faults.{firstOf, fault}
 use Rattle.group_refusal.specs.Refusal.{Pixels, lengthsFit, refusalWhere}
 
 -- ---- the refusal

@@ -6,7 +6,7 @@ use lib.Dec.{eqb, ltb}
 use lib.ListN.{length}
 use lib.Ieee.{Float}
 use Rattle.group_pixels.specs.declared.Zero.{Zero}
-unfoldable pub use Rattle.group_faults.specs.Faults.{some, firstOf, fault}
+unfoldable pub use Rattle.group_refusal.specs.Faults.{some, firstOf, fault}
 
 -- what a call is given to read: p pixels, each four bytes and an Oklab colour, and colour zero where there is one
 pub record Pixels : Type 0 where

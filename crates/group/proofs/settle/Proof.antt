@@ -1,0 +1,116 @@
+-- `group::settle` meets its contract: a turn, by what the code found: not kept, an entry joined, an entry begun. Assumes nothing.
+use native.Mathlib.Omega.{arith}
+use borrow.Author.Tests.{not-true, not-false}
+use borrow.Author.Needs.{needs}
+use Rattle.group.proofs.Turns.{at-most, turn-passes, turn-joins, turn-begins}
+use Rattle.group.proofs.settle.Statement.{statement}
+use Rattle.group.proofs.settle.Tie as tie
+
+rgba-at-requires : tie.Need-rgba-at-requires
+rgba-at-requires c κs = search needs
+
+is-kept-requires : tie.Need-is-kept-requires
+is-kept-requires c κs = search needs
+
+returns : tie.Need-returns
+returns c = turn-passes _ _ _ _ _ _ (c .before .before .rgba-at .ensures) (c .before .is-kept .ensures) (not-true _ (c .if1 .taken))
+
+position-requires : tie.Need-position-requires
+position-requires c κs = search needs
+
+cast-index : tie.Need-cast-index
+cast-index c = omega (arith, at-most _ _ _ _ (c .position .ensures))
+
+mul-index : tie.Need-mul-index
+mul-index c = search needs
+
+slice-write-index : tie.Need-slice-write-index
+slice-write-index c = search needs
+
+mul-entry-counts : tie.Need-mul-entry-counts
+mul-entry-counts c = search needs
+
+slice-read-entry-counts : tie.Need-slice-read-entry-counts
+slice-read-entry-counts c = search needs
+
+add-entry-counts : tie.Need-add-entry-counts
+add-entry-counts c = omega (arith, c .before .before .before .before .before .before .before .before .before .before .before .before .before .pre .counted (c .before .before .position .result) (c .before .if2 .taken))
+
+slice-write-entry-counts : tie.Need-slice-write-entry-counts
+slice-write-entry-counts c = search needs
+
+same-length : tie.Need-same-length
+same-length c = search needs
+
+same-length-2 : tie.Need-same-length-2
+same-length-2 c = search needs
+
+same-length-3 : tie.Need-same-length-3
+same-length-3 c = search needs
+
+returns-2 : tie.Need-returns-2
+returns-2 c = turn-joins _ _ _ _ _ _ (c .before .before .before .before .before .before .rgba-at .ensures) (c .before .before .before .before .before .is-kept .ensures) (not-false _ (c .before .before .before .before .if1 .left)) _ (c .before .before .position .ensures) (c .before .if2 .taken)
+
+put-rgba-requires : tie.Need-put-rgba-requires
+put-rgba-requires c κs = search needs
+
+colour-requires : tie.Need-colour-requires
+colour-requires c κs = search needs
+
+put-requires : tie.Need-put-requires
+put-requires c κs = search needs
+
+mul-entry-counts-2 : tie.Need-mul-entry-counts-2
+mul-entry-counts-2 c = search needs
+
+slice-write-entry-counts-2 : tie.Need-slice-write-entry-counts-2
+slice-write-entry-counts-2 c = search needs
+
+add-result : tie.Need-add-result
+add-result c = search needs
+
+same-length-4 : tie.Need-same-length-4
+same-length-4 c = search needs
+
+same-length-5 : tie.Need-same-length-5
+same-length-5 c = search needs
+
+same-length-6 : tie.Need-same-length-6
+same-length-6 c = search needs
+
+same-length-7 : tie.Need-same-length-7
+same-length-7 c = search needs
+
+returns-3 : tie.Need-returns-3
+returns-3 c = turn-begins _ _ _ _ _ _ (c .before .before .before .before .before .before .before .before .before .before .before .before .before .before .rgba-at .ensures) (c .before .before .before .before .before .before .before .before .before .before .before .before .before .is-kept .ensures) (not-false _ (c .before .before .before .before .before .before .before .before .before .before .before .before .if1 .left)) _ (c .before .before .before .before .before .before .before .before .before .before .position .ensures) (c .before .before .before .before .before .before .before .before .before .if2 .left) (c .before .before .before .before .before .before .before .put-rgba .ensures) (c .before .before .before .colour .ensures) (c .before .before .put .ensures)
+
+pub settle-spec : {M : Type 1} → statement M
+settle-spec =
+    tie.close
+    (tie.spec
+    rgba-at-requires
+    is-kept-requires
+    returns
+    position-requires
+    cast-index
+    mul-index
+    slice-write-index
+    mul-entry-counts
+    slice-read-entry-counts
+    add-entry-counts
+    slice-write-entry-counts
+    same-length
+    same-length-2
+    same-length-3
+    returns-2
+    put-rgba-requires
+    colour-requires
+    put-requires
+    mul-entry-counts-2
+    slice-write-entry-counts-2
+    add-result
+    same-length-4
+    same-length-5
+    same-length-6
+    same-length-7
+    returns-3)
