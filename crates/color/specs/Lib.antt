@@ -1,1 +1,2 @@
 pub mod Color
+pub mod Blend

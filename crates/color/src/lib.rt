@@ -1,9 +1,10 @@
-// Oklab colours: places of a flat slice of three numbers a colour, sums, products and quotients.
-// Each function gives what its definition in specs/Color.antt says, bit for bit.
+// Oklab colours: places of a flat slice of three numbers a colour, sums, products and quotients; the squared distance; a colour moved towards another.
+// Each function gives what its definition in specs/ says, bit for bit.
 ghost use mathlib.Core.Path.{_≡_};
 ghost use Prim.Native.Nat.{_+_, _*_, _≤_, _<_};
 ghost use lib.ListN.{length};
-ghost use Rattle.color.specs.Color.{colourAt, putAt, plusOf, scaledOf, plusTimes, overOf};
+ghost use Rattle.color.specs.Color.{colourAt, putAt, plusOf, scaledOf, plusTimes, overOf, sqdistOf};
+ghost use Rattle.color.specs.Blend.{blend, nudged};
 
 pub struct Oklab {
     pub l: f32,
@@ -73,5 +74,33 @@ pub fn over(x: Oklab, n: usize) -> Oklab
         l: x.l / f,
         a: x.a / f,
         b: x.b / f,
+    }
+}
+
+// Squared distance between two colours, penalizing chroma mismatch by `weight`.
+pub fn oklab_sqdist(p: Oklab, q: Oklab, weight: f32) -> f32
+    ensures { λ r. ⌜ r ≡ sqdistOf p q weight ⌝ }
+{
+    let dl = p.l - q.l;
+    let da = p.a - q.a;
+    let db = p.b - q.b;
+    dl * dl + weight * (da * da + db * db)
+}
+
+// (1 - alpha) of c and alpha of t.
+fn blend(alpha: f32, c: f32, t: f32) -> f32
+    ensures { λ r. ⌜ r ≡ blend alpha c t ⌝ }
+{
+    (1.0 - alpha) * c + alpha * t
+}
+
+// A colour moves towards another.
+pub fn nudged(alpha: f32, c: Oklab, t: Oklab) -> Oklab
+    ensures { λ r. ⌜ r ≡ nudged alpha c t ⌝ }
+{
+    Oklab {
+        l: blend(alpha, c.l, t.l),
+        a: blend(alpha, c.a, t.a),
+        b: blend(alpha, c.b, t.b),
     }
 }

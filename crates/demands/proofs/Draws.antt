@@ -14,7 +14,7 @@ use Rattle.color.specs.declared.Oklab.{Oklab}
 use Rattle.color.specs.Color.{colourAt, sqdistOf}
 use Rattle.color.proofs.Puts.{put-here, put-elsewhere}
 use Rattle.color.proofs.Sizes.{sized-real, bounded-finite}
-use Rattle.blend.specs.Blend.{nudged}
+use Rattle.color.specs.Blend.{nudged}
 use Rattle.stats.specs.declared.Near.{Near}
 use Rattle.job.specs.Gives.{Sampled}
 use Rattle.choice.specs.Least.{Least}

@@ -20,7 +20,7 @@ use Rattle.job.specs.Job.{job}
 use Rattle.job.specs.Rules.{answer}
 use Rattle.job.specs.Checks.{among, within, weightFits, tileTest, tileFits, tilesFit, countTest, countFits, partFits, tileCountsFit, countsFit, firstNot, componentFits, firstBad, sampleTest, sampleFits, samplesFit, plainAnswer}
 use Rattle.palette.proofs.Example.{middle-first}
-use Rattle.blend.proofs.Example.{half-way}
+use Rattle.color.proofs.Example.{half-way}
 use Rattle.palette_tile.specs.Tiles.{fitAt}
 use Rattle.assign_tiles.specs.Tiles.{Held, held}
 use Rattle.assign.specs.Assign.{roomFor, assignAnswer, assignDef}

@@ -12,7 +12,7 @@ use Rattle.cycle.specs.Tenth.{tenth}
 use Rattle.stats.specs.Stats.{valueAt, leastTwo}
 use Rattle.extremes.specs.Extremes.{argmaxOf, argminOf}
 use Rattle.job.specs.Job.{Job, job}
-use Rattle.blend.specs.Blend.{blend}
+use Rattle.color.specs.Blend.{blend}
 use Rattle.palette_tile.specs.Tiles.{fitAt}
 use Rattle.assign_tiles.specs.Tiles.{held}
 use Rattle.assign.specs.Assign.{assignDef}

@@ -10,7 +10,7 @@ use lib.Ieee.{Float, inf, lt}
 use Rattle.cycle.specs.Cycle.{drawOne}
 use Rattle.color.specs.declared.Oklab.{Oklab}
 use Rattle.color.specs.Color.{sqdistOf, colourAt}
-use Rattle.blend.specs.Blend.{nudged}
+use Rattle.color.specs.Blend.{nudged}
 use Rattle.stats.specs.declared.Near.{Near}
 use Rattle.job.specs.Job.{Job, nought, isEmpty}
 use Rattle.choice.specs.Least.{Least}

@@ -28,7 +28,7 @@ pub fn nearest(s: &[f32], q: Oklab, w: f32) -> Near
     };
     let mut i = 0;
     while i < n {
-        let d = color_distance::oklab_sqdist(color::colour(s, i), q, w);
+        let d = color::oklab_sqdist(color::colour(s, i), q, w);
         best = stats::step_near(best, i, d);
         i += 1;
     }

@@ -10,7 +10,7 @@ use Rattle.ieee.proofs.Within.{whole-exact, add-whole, mul-within}
 use Rattle.color.specs.declared.Oklab.{Oklab}
 use Rattle.color.specs.Color.{colourAt, Sized, Bounded}
 use Rattle.color.proofs.Sizes.{bounded-put}
-use Rattle.blend.specs.Blend.{blend}
+use Rattle.color.specs.Blend.{blend}
 use Rattle.palette_edit.specs.Edits.{nudgedAt, placeOf, colourCopied, subCopied}
 use Rattle.palette_edit.proofs.Kept.{all-sub-copied}
 

@@ -5,7 +5,7 @@ use mathlib.Core.List.{List}
 use lib.Ieee.{Float}
 use Rattle.color.specs.declared.Oklab.{Oklab}
 use Rattle.color.specs.Color.{colourAt, putAt}
-use Rattle.blend.specs.Blend.{nudged}
+use Rattle.color.specs.Blend.{nudged}
 use Rattle.palette_edit.specs.Edits.{nudgedAt, placeOf, colourCopied}
 
 pub put-nudged : (pal after : List Float) (place : ℕ) (t : Oklab) (alpha : Float) (c x : Oklab) → c ≡ colourAt pal place → x ≡ nudged alpha c t → after ≡ putAt pal place x → after ≡ nudgedAt pal place t alpha

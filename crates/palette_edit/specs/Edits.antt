@@ -5,7 +5,7 @@ use lib.Ieee.{Float}
 use Rattle.lists.specs.Parts.{copied}
 use Rattle.color.specs.declared.Oklab.{Oklab}
 use Rattle.color.specs.Color.{colourAt, putAt}
-use Rattle.blend.specs.Blend.{nudged}
+use Rattle.color.specs.Blend.{nudged}
 
 -- the colour at a place moves towards t
 abbrev pub nudgedAt : List Float → ℕ → Oklab → Float → List Float

@@ -12,7 +12,7 @@ pub fn nudge(pal: &mut [f32], place: usize, target: Oklab, alpha: f32)
     ensures { λ r. ⌜ now (pal .exit) ≡ nudgedAt (now (pal .entry)) place target alpha ⌝ }
 {
     let c = color::colour(pal, place);
-    color::put(pal, place, blend::nudged(alpha, c, target))
+    color::put(pal, place, color::nudged(alpha, c, target))
 }
 
 // Colour `to` of subpalette i becomes its colour `from`.

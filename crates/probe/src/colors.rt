@@ -1,4 +1,4 @@
-// A forwarder to color_distance. Asks nothing of callers.
+// A forwarder to the distance of `color`. Asks nothing of callers.
 use color::Oklab;
 
 #[no_mangle]
@@ -11,7 +11,7 @@ pub extern "C" fn probe_sqdist(
     qb: f32,
     weight: f32,
 ) -> f32 {
-    color_distance::oklab_sqdist(
+    color::oklab_sqdist(
         Oklab {
             l: pl,
             a: pa,

@@ -1,8 +1,8 @@
--- `blend::nudged` meets its contract, component by component. Assumes nothing.
+-- `color::nudged` meets its contract, component by component. Assumes nothing.
 use Rattle.color.proofs.Puts.{colour-eq}
 use borrow.Author.Needs.{needs}
-use Rattle.blend.proofs.nudged.Statement.{statement}
-use Rattle.blend.proofs.nudged.Tie as tie
+use Rattle.color.proofs.nudged.Statement.{statement}
+use Rattle.color.proofs.nudged.Tie as tie
 
 blend-requires : tie.Need-blend-requires
 blend-requires c κs = search needs
