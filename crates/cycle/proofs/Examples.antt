@@ -5,7 +5,7 @@ use Prim.Native.Nat.{ℕ, _<_}
 use lib.Dec.{lit<, lit≤}
 use Rattle.lists.specs.Count.{swapped}
 use Rattle.lists.specs.Firsts.{firsts, hits}
-use Rattle.splitmix.specs.SplitMix.{xorShift, mix, nextState, output}
+use Rattle.prng.specs.SplitMix.{xorShift, mix, nextState, output}
 use Rattle.prng.specs.Shuffle.{deck, turn, turns, shuffleOf}
 use Rattle.cycle.specs.Cycle.{ready, drawOne, after, drawAt}
 use Rattle.cycle.proofs.Even.{even}

@@ -10,7 +10,7 @@ use native.Mathlib.Omega.{arith}
 use lib.ListN.{length, getD}
 use Rattle.lists.specs.Count.{count, Permutation}
 use Rattle.lists.proofs.Counting.{hit-other, count-at, length-swapped, count-swapped}
-use Rattle.splitmix.specs.SplitMix.{output}
+use Rattle.prng.specs.SplitMix.{output}
 use Rattle.prng.specs.Shuffle.{Deck, deck, turn, turns, shuffleOf}
 
 -- a turn taken off the front

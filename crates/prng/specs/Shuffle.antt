@@ -3,7 +3,7 @@ use mathlib.Core.List.{List}
 use Prim.Native.Nat.{ℕ, zero, suc, _+_, _-_, _%_}
 use lib.ListN.{length}
 use Rattle.lists.specs.Count.{swapped}
-use Rattle.splitmix.specs.SplitMix.{nextState, output}
+use Rattle.prng.specs.SplitMix.{nextState, output}
 
 -- an order of items, and the state of the generator that shuffles it next
 pub record Deck : Type 0 where

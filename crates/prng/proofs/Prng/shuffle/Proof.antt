@@ -8,7 +8,7 @@ use lib.ListN.{length}
 use borrow.Author.Needs.{needs}
 use Rattle.lists.specs.Count.{swapped}
 use Rattle.lists.proofs.Counting.{length-swapped}
-use Rattle.splitmix.specs.SplitMix.{nextState}
+use Rattle.prng.specs.SplitMix.{nextState}
 use Rattle.prng.specs.Shuffle.{deck, turn, turns, shuffleOf}
 use Rattle.prng.proofs.Shuffled.{turns-front}
 use Rattle.prng.proofs.Prng.shuffle.Statement.{statement}

@@ -2,7 +2,7 @@
 use mathlib.Core.List.{List, [], _∷_}
 use mathlib.Core.Path.{_≡_, refl}
 use Prim.Native.Nat.{ℕ, zero, suc}
-use Rattle.splitmix.specs.SplitMix.{xorShift, nextState, mix, output}
+use Rattle.prng.specs.SplitMix.{xorShift, nextState, mix, output}
 
 -- the first k outputs from the state s
 unfoldable pub outputs : ℕ → ℕ → List ℕ
