@@ -2,7 +2,7 @@
 ghost use Prim.Native.Nat.{_+_, _^_, _<_, _≤_};
 ghost use lib.ListN.{length};
 use prng::Prng;
-use sample_cycle::SampleCycle;
+use cycle::SampleCycle;
 
 // Gives the output, and in `after` the state after it.
 #[no_mangle]
@@ -22,7 +22,7 @@ pub extern "C" fn probe_shuffle(state: u64, items: &mut [u32]) -> u64 {
 
 #[no_mangle]
 pub extern "C" fn probe_base_iterations(n: usize) -> u64 {
-    sample_cycle::base_iterations(n)
+    cycle::base_iterations(n)
 }
 
 // Writes the first order; gives the generator's state.

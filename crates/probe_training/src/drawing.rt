@@ -5,7 +5,7 @@ ghost use Rattle.job.specs.Job.{sizesOf};
 ghost use Rattle.quantizer.specs.Course.{courseOf};
 ghost use Rattle.quantizer_draw.specs.Draws.{Going};
 use prng::Prng;
-use sample_cycle::SampleCycle;
+use cycle::SampleCycle;
 
 // Gives the generator's state after the draw.
 #[no_mangle]

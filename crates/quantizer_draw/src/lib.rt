@@ -7,7 +7,7 @@ ghost use Rattle.cycle.specs.Cycle.{cycle, drawOne};
 ghost use Rattle.quantizer.specs.Course.{courseOf};
 ghost use Rattle.quantizer_nudge.specs.Nudges.{movedBy, hintsBy};
 ghost use Rattle.quantizer_draw.specs.Draws.{Going};
-use sample_cycle::SampleCycle;
+use cycle::SampleCycle;
 
 // The next sample of the order is drawn and nudges a colour. The order is shuffled first where a round is over.
 pub fn draw(

@@ -17,7 +17,7 @@ fn made_by(s: usize, c: usize, n: usize, stage: u64, rounds: u64, left: u64) -> 
     if !run_record::makes_draws(stage) {
         return line.before;
     }
-    let b = sample_cycle::base_iterations(n);
+    let b = cycle::base_iterations(n);
     line.before + rounds * b + (line.each - left)
 }
 

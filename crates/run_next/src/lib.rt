@@ -25,7 +25,7 @@ pub fn open_round(r: Record, stage: u64, round: u64, n: usize) -> Record
         generator: r.generator,
         stage,
         rounds: round,
-        left: sample_cycle::base_iterations(n),
+        left: cycle::base_iterations(n),
         made: r.made,
         error: r.error,
     }

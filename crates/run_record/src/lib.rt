@@ -53,7 +53,7 @@ pub fn stage_of(s: usize, c: usize, n: usize, stage: u64) -> Stage
     requires { ⌜ Sized s c n ⌝ }
     ensures { λ r. ⌜ r ≡ stageOf (sized s c n) stage ⌝ }
 {
-    let b = sample_cycle::base_iterations(n);
+    let b = cycle::base_iterations(n);
     let seeding = s as u64 - 1;
     let growing = c as u64 - 1;
     let both = s as u64 + c as u64;

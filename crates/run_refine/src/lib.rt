@@ -11,7 +11,7 @@ pub fn final_draws(n: usize, r: Record) -> Record
     requires { ⌜ n ≤ 16384 ⌝ }
     ensures { λ x. ⌜ x ≡ finalDraws n r ⌝ }
 {
-    let left = 10 * sample_cycle::base_iterations(n);
+    let left = 10 * cycle::base_iterations(n);
     if left == 0 {
         return Record {
             generator: r.generator,

@@ -1,12 +1,12 @@
--- `sample_cycle::SampleCycle::next` meets its contract. The order that is ready is as long as the one that was lent. Assumes nothing.
+-- `cycle::SampleCycle::next` meets its contract. The order that is ready is as long as the one that was lent. Assumes nothing.
 use Prim.Native.Nat.{_+_, _%_}
 use native.Mathlib.Nat.{mod-lt}
 use native.Mathlib.Omega.{arith}
 use lib.ListN.{getD, length}
 use Rattle.cycle.specs.Cycle.{cycle, drawn, drawOne}
 use borrow.Author.Needs.{needs}
-use Rattle.sample_cycle.proofs.SampleCycle.next.Statement.{statement}
-use Rattle.sample_cycle.proofs.SampleCycle.next.Tie as tie
+use Rattle.cycle.proofs.SampleCycle.next.Statement.{statement}
+use Rattle.cycle.proofs.SampleCycle.next.Tie as tie
 
 reshuffle-requires : tie.Need-reshuffle-requires
 reshuffle-requires c κs = search needs

@@ -1,13 +1,13 @@
--- `reshuffle::reshuffle` meets its contract: each return is a case of the definition. Assumes nothing.
+-- `cycle::reshuffle` meets its contract: each return is a case of the definition. Assumes nothing.
 use mathlib.Core.Path.{sym, ap, _∙_}
 use Prim.Native.Nat.{ℕ}
 use native.Mathlib.Omega.{arith}
 use Rattle.prng.specs.Shuffle.{deck}
 use Rattle.cycle.specs.Cycle.{cycle, ready}
 use Rattle.cycle.proofs.Ready.{ready-first, ready-within, ready-again}
 use borrow.Author.Needs.{needs}
-use Rattle.reshuffle.proofs.reshuffle.Statement.{statement}
-use Rattle.reshuffle.proofs.reshuffle.Tie as tie
+use Rattle.cycle.proofs.reshuffle.Statement.{statement}
+use Rattle.cycle.proofs.reshuffle.Tie as tie
 
 returns : tie.Need-returns
 returns c =

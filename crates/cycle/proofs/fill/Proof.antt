@@ -1,4 +1,4 @@
--- `sample_cycle::fill` meets its contract. The loop's invariant: the first i items are 0 .. i - 1. Assumes nothing.
+-- `cycle::fill` meets its contract. The loop's invariant: the first i items are 0 .. i - 1. Assumes nothing.
 use mathlib.Core.Path.{_≡_, refl, sym, ap, _∙_}
 use mathlib.Core.List.{List, [], _∷_, _++_}
 use Prim.Native.Nat.{ℕ, _-_, _≤_, _<_, zero-le}
@@ -8,8 +8,8 @@ use lib.ListN.{length, take, length-set}
 use lib.Seq.{take-all, take-suc-set}
 use borrow.Author.Needs.{needs}
 use Rattle.lists.specs.Firsts.{firsts, upTo}
-use Rattle.sample_cycle.proofs.fill.Statement.{statement}
-use Rattle.sample_cycle.proofs.fill.Tie as tie
+use Rattle.cycle.proofs.fill.Statement.{statement}
+use Rattle.cycle.proofs.fill.Tie as tie
 
 abbrev Inv-loop : tie.InvT-loop
 Inv-loop order₀ i₀ order i = (length order ≡ length order₀) × (i ≤ length order₀) × (take i order ≡ upTo i)

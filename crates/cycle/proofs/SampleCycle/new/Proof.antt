@@ -1,10 +1,10 @@
--- `sample_cycle::SampleCycle::new` meets its contract: what the shuffle gives of what `fill` wrote. Assumes nothing.
+-- `cycle::SampleCycle::new` meets its contract: what the shuffle gives of what `fill` wrote. Assumes nothing.
 use mathlib.Core.Path.{ap, _∙_}
 use Rattle.prng.specs.Shuffle.{Deck, shuffleOf}
 use Rattle.cycle.specs.Cycle.{cycle, after}
 use borrow.Author.Needs.{needs}
-use Rattle.sample_cycle.proofs.SampleCycle.new.Statement.{statement}
-use Rattle.sample_cycle.proofs.SampleCycle.new.Tie as tie
+use Rattle.cycle.proofs.SampleCycle.new.Statement.{statement}
+use Rattle.cycle.proofs.SampleCycle.new.Tie as tie
 
 fill-requires : tie.Need-fill-requires
 fill-requires c κs = search needs
