@@ -64,13 +64,13 @@ pub fn same_bytes(x: Rgba, y: Rgba) -> bool
 pub fn in_gamut(x: color::Oklab) -> bool
     ensures { λ r. ⌜ r ≡ inGamut x ⌝ }
 {
-    if !components::is_within(x.l, job::MOST_COMPONENT) {
+    if !job::is_within(x.l, job::MOST_COMPONENT) {
         return false;
     }
-    if !components::is_within(x.a, job::MOST_COMPONENT) {
+    if !job::is_within(x.a, job::MOST_COMPONENT) {
         return false;
     }
-    components::is_within(x.b, job::MOST_COMPONENT)
+    job::is_within(x.b, job::MOST_COMPONENT)
 }
 
 pub fn rgba_at(s: &[u8], i: usize) -> Rgba

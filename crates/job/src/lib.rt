@@ -1,9 +1,10 @@
-// A job's tiles as parts of what is lent. Assumes nothing.
+// A job's sizes by value, its tiles as parts of what is lent, and the test of its components. Assumes nothing.
 ghost use mathlib.Core.Path.{_≡_};
 ghost use Prim.Native.Nat.{ℕ, _+_, _*_, _<_};
 ghost use lib.Dec.{eqb};
 ghost use lib.ListN.{length};
 ghost use Rattle.job.specs.Job.{sizesOf, firstOf, sizeOf, coloursPart, countsPart, Placed};
+ghost use Rattle.job.specs.Checks.{within, firstBad};
 
 // The numbers of a call, by value: how many pixels a tile has at most, subpalettes, colours in each, tiles, samples (0 where none are
 // lent), and the weight of brightness.
@@ -80,4 +81,28 @@ pub fn counts_part<'a>(tiles: &[u32], counts: &'a [u32], i: usize) -> &'a [u32]
     let at = first_of(tiles, i);
     let size = size_of(tiles, i);
     &counts[at..at + size]
+}
+
+// From -limit to limit: no NaN and no infinity is.
+pub fn is_within(x: f32, limit: f32) -> bool
+    ensures { λ r. ⌜ r ≡ within limit x ⌝ }
+{
+    if x <= limit {
+        return x >= -limit;
+    }
+    false
+}
+
+// The index of the first component that is not within the limit, or how many there are.
+pub fn first_bad(xs: &[f32], limit: f32) -> usize
+    ensures { λ r. ⌜ r ≡ firstBad limit (now (xs .entry)) ⌝ }
+{
+    let mut i = 0usize;
+    while i < xs.len() {
+        if !is_within(xs[i], limit) {
+            return i;
+        }
+        i += 1;
+    }
+    i
 }

@@ -35,7 +35,7 @@ pub fn check_places(z: Sizes, tiles: &[u32], colours: &[f32], samples: &[u32]) -
     requires { ⌜ (length (now tiles) ≡ 2 * z .t) × (length (now samples) ≡ 2 * z .n) ⌝ }
     ensures { λ r. ⌜ r ≡ answer (placeRules (z .t) (now (tiles .entry)) (now (colours .entry)) (z .n) (now (samples .entry))) ⌝ }
 {
-    if components::first_bad(colours, job::MOST_COMPONENT) != colours.len() {
+    if job::first_bad(colours, job::MOST_COMPONENT) != colours.len() {
         return 7;
     }
     if !job_tables::samples_fit(tiles, z.t, samples, z.n) {

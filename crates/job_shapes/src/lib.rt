@@ -25,10 +25,10 @@ pub fn check_shapes(z: Sizes, tiles: &[u32], colours: &[f32], counts: &[u32]) ->
 pub fn check_near(palette: &[f32], colours: &[f32]) -> u32
     ensures { λ r. ⌜ r ≡ answer (nearRules (now (palette .entry)) (now (colours .entry))) ⌝ }
 {
-    if components::first_bad(palette, job::MOST_COMPONENT) != palette.len() {
+    if job::first_bad(palette, job::MOST_COMPONENT) != palette.len() {
         return 7;
     }
-    if components::first_bad(colours, job::MOST_COMPONENT) != colours.len() {
+    if job::first_bad(colours, job::MOST_COMPONENT) != colours.len() {
         return 7;
     }
     0

@@ -191,7 +191,7 @@ pub fn refuses_hand_in(
     if !run_record::is_stop(words[1]) {
         return 11;
     }
-    if components::first_bad(reduced, job::MOST_COMPONENT) != reduced.len() {
+    if job::first_bad(reduced, job::MOST_COMPONENT) != reduced.len() {
         return 7;
     }
     0

@@ -24,7 +24,7 @@ pub fn order_fits(n: usize, order: &[u32]) -> bool
 pub fn palette_fits(palette: &[f32]) -> bool
     ensures { λ r. ⌜ r ≡ componentsFit four (now (palette .entry)) ⌝ }
 {
-    components::first_bad(palette, MOST_WORKING) == palette.len()
+    job::first_bad(palette, MOST_WORKING) == palette.len()
 }
 
 // The second palette, which only stage 2 looks at.

@@ -1,4 +1,4 @@
--- `components::first_bad` meets its contract. The invariant: every component before i is within the limit. Assumes nothing.
+-- `job::first_bad` meets its contract. The invariant: every component before i is within the limit. Assumes nothing.
 use Prim.Native.Nat.{_≤_, _-_}
 use mathlib.Core.Path.{_≡_, refl}
 use mathlib.Core.Bool.{true}
@@ -6,11 +6,11 @@ use lib.ListN.{length}
 use borrow.Author.Needs.{needs}
 use Rattle.lists.specs.Every.{every}
 use Rattle.lists.proofs.Loops.{every-more}
 use Rattle.job.proofs.First.{first-at}
 use Rattle.job.specs.Checks.{componentFits, firstBad}
-use Rattle.components.proofs.Searches.{searched-all}
-use Rattle.components.proofs.first_bad.Statement.{statement}
-use Rattle.components.proofs.first_bad.Tie as tie
+use Rattle.job.proofs.Searches.{searched-all}
+use Rattle.job.proofs.first_bad.Statement.{statement}
+use Rattle.job.proofs.first_bad.Tie as tie
 
 abbrev Inv-loop : tie.InvT-loop
 Inv-loop xs limit i₀ i = (i ≤ length xs) × (every (componentFits limit xs) i ≡ true)
