@@ -21,7 +21,7 @@ fn check_form(
     if a != 0 {
         return a;
     }
-    let b = job_shapes::check_shapes(z, tiles, colours, counts);
+    let b = job_limits::check_shapes(z, tiles, colours, counts);
     if b != 0 {
         return b;
     }
@@ -53,5 +53,5 @@ pub fn check_job(
     if b != 0 {
         return b;
     }
-    job_shapes::check_near(palette, colours)
+    job_limits::check_near(palette, colours)
 }

@@ -26,7 +26,7 @@ fn check_sampled_form(
     if z.n > MOST_SAMPLES {
         return 2;
     }
-    let b = job_shapes::check_shapes(z, tiles, colours, counts);
+    let b = job_limits::check_shapes(z, tiles, colours, counts);
     if b != 0 {
         return b;
     }

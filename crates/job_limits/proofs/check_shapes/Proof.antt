@@ -1,9 +1,9 @@
--- `job_shapes::check_shapes` meets its contract, return by return. Assumes nothing.
+-- `job_limits::check_shapes` meets its contract, return by return. Assumes nothing.
 use borrow.Author.Tests.{eq-eqb, ne-eqb}
 use Rattle.job.proofs.Passing.{fails, skips, none}
 use borrow.Author.Needs.{needs}
-use Rattle.job_shapes.proofs.check_shapes.Statement.{statement}
-use Rattle.job_shapes.proofs.check_shapes.Tie as tie
+use Rattle.job_limits.proofs.check_shapes.Statement.{statement}
+use Rattle.job_limits.proofs.check_shapes.Tie as tie
 
 mul-if1 : tie.Need-mul-if1
 mul-if1 c = search needs

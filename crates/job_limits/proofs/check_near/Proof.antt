@@ -1,10 +1,10 @@
--- `job_shapes::check_near` meets its contract, return by return. Assumes nothing.
+-- `job_limits::check_near` meets its contract, return by return. Assumes nothing.
 use mathlib.Core.Path.{sym, _∙_}
 use borrow.Author.Tests.{eq-eqb, ne-eqb}
 use Rattle.job.proofs.Passing.{fails, skips, none}
 use borrow.Author.Needs.{needs}
-use Rattle.job_shapes.proofs.check_near.Statement.{statement}
-use Rattle.job_shapes.proofs.check_near.Tie as tie
+use Rattle.job_limits.proofs.check_near.Statement.{statement}
+use Rattle.job_limits.proofs.check_near.Tie as tie
 
 first-bad-requires : tie.Need-first-bad-requires
 first-bad-requires c κs = search needs
