@@ -21,7 +21,7 @@ pub fn check_tables(z: Sizes, tiles: &[u32], counts: &[u32]) -> u32
     if total > MOST_TILE_COLOURS {
         return 5;
     }
-    if !job_tiles::tiles_fit(z.size, tiles, z.t, total) {
+    if !job_tables::tiles_fit(z.size, tiles, z.t, total) {
         return 5;
     }
     if !job_tables::counts_fit(z.size, tiles, z.t, counts) {

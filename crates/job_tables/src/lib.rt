@@ -1,10 +1,27 @@
-// The tables of a job behind its tiles, each walked once: the counts of each tile, the samples.
+// The tables of a job, each walked once: its tiles, the counts of each tile, the samples.
 // They take what a stranger wrote: a sum is tested by a difference, so that none can wrap.
 ghost use mathlib.Core.Path.{_≡_};
 ghost use mathlib.Core.Bool.{true};
 ghost use Prim.Native.Nat.{_*_};
 ghost use lib.ListN.{length};
 ghost use Rattle.job.specs.Checks.{tilesFit, partFits, countsFit, samplesFit};
+
+pub fn tiles_fit(size: usize, tiles: &[u32], t: usize, total: usize) -> bool
+    requires { ⌜ length (now tiles) ≡ 2 * t ⌝ }
+    ensures { λ r. ⌜ r ≡ tilesFit size total (now (tiles .entry)) t ⌝ }
+{
+    let mut at = 0usize;
+    let mut i = 0usize;
+    while i < t {
+        let n = job::size_of(tiles, i);
+        if !job_entries::tile_fits(size, total, at, job::first_of(tiles, i), n) {
+            return false;
+        }
+        at += n;
+        i += 1;
+    }
+    at == total
+}
 
 // The counts of one tile.
 fn part_fits(size: usize, part: &[u32]) -> bool

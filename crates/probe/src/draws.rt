@@ -1,4 +1,4 @@
-// Forwarders to prng and sample_cycle. Assumes of callers what each callee requires.
+// Forwarders to `prng` and `cycle`. Assumes of callers what each callee requires.
 ghost use Prim.Native.Nat.{_+_, _^_, _<_, _≤_};
 ghost use lib.ListN.{length};
 use prng::Prng;

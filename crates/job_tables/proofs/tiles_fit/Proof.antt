@@ -1,10 +1,10 @@
--- `job_tiles::tiles_fit` meets its contract. The invariant: the tiles before i pass, and end at `at`. Assumes nothing.
+-- `job_tables::tiles_fit` meets its contract. The invariant: the tiles before i pass, and end at `at`. Assumes nothing.
 use Prim.Native.Nat.{_≤_, _-_}
 use native.Mathlib.Omega.{arith}
 use borrow.Author.Needs.{needs}
-use Rattle.job_tiles.proofs.Walks.{Tiled, tiled-start, tiled-fails, tiled-room, tiled-more, tiled-end}
-use Rattle.job_tiles.proofs.tiles_fit.Statement.{statement}
-use Rattle.job_tiles.proofs.tiles_fit.Tie as tie
+use Rattle.job_tables.proofs.TileWalks.{Tiled, tiled-start, tiled-fails, tiled-room, tiled-more, tiled-end}
+use Rattle.job_tables.proofs.tiles_fit.Statement.{statement}
+use Rattle.job_tables.proofs.tiles_fit.Tie as tie
 
 abbrev Inv-loop : tie.InvT-loop
 Inv-loop size tiles t total at₀ i₀ at i = (i ≤ t) × Tiled size total tiles at i
