@@ -91,7 +91,7 @@ fn check_run(
     requires { ⌜ (room ≡ true → length (now words) ≡ 6) ⌝ }
     ensures { λ r. ⌜ r ≡ runAnswer (courseOf z (now (tiles .entry)) (now (colours .entry)) (now (counts .entry)) (now (samples .entry))) (memory (now (order .entry)) (now (hints .entry)) (now (palette .entry)) (now (least .entry)) (now (words .entry))) room ⌝ }
 {
-    let a = job_sampled::check_sampled(z, tiles, colours, counts, samples, room);
+    let a = job_check::check_sampled(z, tiles, colours, counts, samples, room);
     if a != 0 {
         return a;
     }
@@ -116,7 +116,7 @@ pub fn refuses_start(
     ensures { λ r. ⌜ r ≡ startAnswer (courseOf z (now (tiles .entry)) (now (colours .entry)) (now (counts .entry)) (now (samples .entry))) (memory (now (order .entry)) (now (hints .entry)) (now (palette .entry)) (now (least .entry)) (now (words .entry))) ⌝ }
 {
     let room = memory_room(z, order, hints, palette, least, words);
-    job_sampled::check_sampled(z, tiles, colours, counts, samples, room)
+    job_check::check_sampled(z, tiles, colours, counts, samples, room)
 }
 
 pub fn refuses_advance(

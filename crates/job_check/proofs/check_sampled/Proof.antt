@@ -1,10 +1,10 @@
--- `job_sampled::check_sampled` meets its contract, return by return: each is a law of proofs/Answers.antt. Assumes nothing.
+-- `job_check::check_sampled` meets its contract, return by return: each is a law of proofs/Answers.antt. Assumes nothing.
 use denote.Ref.{now}
 use lib.ListN.{length}
-use Rattle.job_sampled.proofs.Answers.{sampled-table, sampled-pairs, sampled-form, sampled-tables, sampled-places}
+use Rattle.job_check.proofs.SampledAnswers.{sampled-table, sampled-pairs, sampled-form, sampled-tables, sampled-places}
 use borrow.Author.Needs.{needs}
-use Rattle.job_sampled.proofs.check_sampled.Statement.{statement}
-use Rattle.job_sampled.proofs.check_sampled.Tie as tie
+use Rattle.job_check.proofs.check_sampled.Statement.{statement}
+use Rattle.job_check.proofs.check_sampled.Tie as tie
 
 check-sampled-form-requires : tie.Need-check-sampled-form-requires
 check-sampled-form-requires c κs = search needs

@@ -1,10 +1,10 @@
--- `job_sampled::check_sampled_form` meets its contract, return by return: each is a law of proofs/Answers.antt. Assumes nothing.
+-- `job_check::check_sampled_form` meets its contract, return by return: each is a law of proofs/Answers.antt. Assumes nothing.
 use denote.Ref.{now}
 use Rattle.job.proofs.Ready.{sizes-of}
-use Rattle.job_sampled.proofs.Answers.{sampled-sizes, sampled-many, sampled-shapes, sampled-unpaired, sampled-room, sampled-none, sampled-passes}
+use Rattle.job_check.proofs.SampledAnswers.{sampled-sizes, sampled-many, sampled-shapes, sampled-unpaired, sampled-room, sampled-none, sampled-passes}
 use borrow.Author.Needs.{needs}
-use Rattle.job_sampled.proofs.check_sampled_form.Statement.{statement}
-use Rattle.job_sampled.proofs.check_sampled_form.Tie as tie
+use Rattle.job_check.proofs.check_sampled_form.Statement.{statement}
+use Rattle.job_check.proofs.check_sampled_form.Tie as tie
 
 check-sizes-requires : tie.Need-check-sizes-requires
 check-sizes-requires c κs = search needs
