@@ -1,3 +1,4 @@
 pub mod Writes
 pub mod Kept
 pub mod Gentle
+mod Copying

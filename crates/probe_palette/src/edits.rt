@@ -40,7 +40,7 @@ pub extern "C" fn probe_copy_subpalette(
 )
     requires { ⌜ (have ≤ c) × ((from * (3 * c) + 3 * c ≤ length (now pal)) × (to * (3 * c) + 3 * c ≤ length (now pal))) ⌝ }
 {
-    palette_copy::copy_subpalette(pal, c, have, from, to)
+    palette_edit::copy_subpalette(pal, c, have, from, to)
 }
 
 #[no_mangle]
@@ -53,5 +53,5 @@ pub extern "C" fn probe_duplicate_palette(
 )
     requires { ⌜ (have ≤ c) × ((from * (3 * c) + 3 * c ≤ length (now pal)) × (n * (3 * c) + 3 * c ≤ length (now pal))) ⌝ }
 {
-    palette_copy::duplicate_palette(pal, c, have, n, from)
+    palette_edit::duplicate_palette(pal, c, have, n, from)
 }

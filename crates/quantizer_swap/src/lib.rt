@@ -30,5 +30,5 @@ pub fn swap_subpalette(pal: &mut [f32], c: usize, s: Swap)
     if !gives {
         return;
     }
-    palette_copy::copy_subpalette(pal, c, c, from, to)
+    palette_edit::copy_subpalette(pal, c, c, from, to)
 }

@@ -30,7 +30,7 @@ fn open_seeding(
     ensures { λ x. ⌜ stateWith [] [] (now (palette .exit)) [] x ≡ openSeeding (sized s c n) round from (stateWith [] [] (now (palette .entry)) [] r) ⌝ }
 {
     let have = round as usize + 1;
-    palette_copy::duplicate_palette(palette, c, 1, have, from);
+    palette_edit::duplicate_palette(palette, c, 1, have, from);
     run_next::open_round(r, 0, round, n)
 }
 

@@ -1,13 +1,13 @@
--- `palette_copy::copy_subpalette` meets its contract. The loop's invariant: the first j numbers are copied. Assumes nothing.
+-- `palette_edit::copy_subpalette` meets its contract. The loop's invariant: the first j numbers are copied. Assumes nothing.
 use Prim.Native.Nat.{_*_, _-_, _≤_}
 use mathlib.Core.Path.{_≡_, refl}
 use native.Mathlib.Omega.{arith}
 use lib.ListN.{length, length-set}
 use lib.Seq.{paste, paste-zero}
 use Rattle.palette.specs.Palette.{subOf}
-use Rattle.palette_copy.proofs.Copying.{copy-turn, copy-end}
-use Rattle.palette_copy.proofs.copy_subpalette.Statement.{statement}
-use Rattle.palette_copy.proofs.copy_subpalette.Tie as tie
+use Rattle.palette_edit.proofs.Copying.{copy-turn, copy-end}
+use Rattle.palette_edit.proofs.copy_subpalette.Statement.{statement}
+use Rattle.palette_edit.proofs.copy_subpalette.Tie as tie
 
 abbrev Inv-loop : tie.InvT-loop
 Inv-loop pal₀ c have from to size f t j₀ pal j = (j ≤ size) × ((length pal ≡ length pal₀) × (pal ≡ paste pal₀ t (subOf pal₀ c have from) j))
