@@ -1,9 +1,29 @@
-// Selection helpers: the greatest and the least by IEEE 754's total order, as specs/Extremes.antt says.
+// Selection helpers: the greatest and the least by IEEE 754's total order of f32, which goes by their bits, as specs/Extremes.antt says.
 // No value may be a NaN: it is placed by its bits, which the language keeps to itself.
 ghost use mathlib.Core.Path.{_≡_};
+ghost use mathlib.Core.Bool.{not};
+ghost use lib.Dec.{T};
+ghost use lib.Ieee.{binary32, isNan, toBits};
 ghost use lib.ListN.{length};
+ghost use Rattle.ieee.specs.Terms.{keyOf};
 ghost use Rattle.stats.specs.Stats.{valueAt};
 ghost use Rattle.extremes.specs.Extremes.{NoNan, argmaxOf, argminOf};
+
+// The weight of the sign.
+const SIGN_32: u32 = 0x8000_0000;
+
+// A number that grows with IEEE 754's total order.
+pub fn total_key(x: f32) -> u32
+    requires { ⌜ T (not (isNan x)) ⌝ }
+    ensures { λ r. ⌜ r ≡ keyOf binary32 (toBits binary32 x) ⌝ }
+{
+    let bits = f32::to_bits(x);
+    if bits < SIGN_32 {
+        bits + SIGN_32
+    } else {
+        0xffff_ffff - bits
+    }
+}
 
 // The last of the greatest, 0 where there is none.
 pub fn argmax(values: &[f32]) -> usize
@@ -14,7 +34,7 @@ pub fn argmax(values: &[f32]) -> usize
     let mut best = 0;
     let mut i = 0;
     while i < n {
-        if total_order::total_key(values[best]) <= total_order::total_key(values[i]) {
+        if total_key(values[best]) <= total_key(values[i]) {
             best = i;
         }
         i += 1;
@@ -31,7 +51,7 @@ pub fn argmin(values: &[f32]) -> usize
     let mut best = 0;
     let mut i = 0;
     while i < n {
-        if total_order::total_key(values[i]) < total_order::total_key(values[best]) {
+        if total_key(values[i]) < total_key(values[best]) {
             best = i;
         }
         i += 1;

@@ -5,8 +5,8 @@ use native.Mathlib.Omega.{arith}
 use lib.Ieee.{binary32, toBits}
 use lib.Ieee.Bits.{toBits-lt}
 use Rattle.ieee.proofs.Order.{of-true}
-use Rattle.total_order.proofs.total_key.Statement.{statement}
-use Rattle.total_order.proofs.total_key.Tie as tie
+use Rattle.extremes.proofs.total_key.Statement.{statement}
+use Rattle.extremes.proofs.total_key.Tie as tie
 
 float-to-bits-bits : tie.Need-float-to-bits-bits
 float-to-bits-bits c = search needs
