@@ -20,7 +20,7 @@ fn tile_tally(s: &[f32], tile: &[f32], counts: &[u32], w: f32, from: Tally) -> T
     let mut count = from.count;
     let mut k = 0;
     while k < n {
-        let near = palette_near::nearest_distance(s, tile, k, w);
+        let near = palette_distance::near::nearest_distance(s, tile, k, w);
         total = total + (near as f64) * (counts[k] as f64);
         count = count + (counts[k] as u64);
         k += 1;
