@@ -1,8 +1,8 @@
 // Forwarders to `prng` and `cycle`. Assumes of callers what each callee requires.
 ghost use Prim.Native.Nat.{_+_, _^_, _<_, _≤_};
 ghost use lib.ListN.{length};
-use prng::Prng;
 use cycle::SampleCycle;
+use prng::Prng;
 
 // Gives the output, and in `after` the state after it.
 #[no_mangle]

@@ -4,8 +4,8 @@ ghost use Rattle.cycle.specs.Cycle.{cycle};
 ghost use Rattle.job.specs.Job.{sizesOf};
 ghost use Rattle.quantizer.specs.Course.{courseOf};
 ghost use Rattle.quantizer_draw.specs.Draws.{Going};
-use prng::Prng;
 use cycle::SampleCycle;
+use prng::Prng;
 
 // Gives the generator's state after the draw.
 #[no_mangle]

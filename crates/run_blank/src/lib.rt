@@ -1,6 +1,6 @@
 // What a start writes before its first round: both palettes nought but for the samples' mean, and the first order.
-use job::Sizes;
 use cycle::SampleCycle;
+use job::Sizes;
 use stages::Record;
 ghost use mathlib.Core.Path.{_≡_};
 ghost use mathlib.Core.List.{[]};

@@ -1,7 +1,7 @@
 // What a record's stage says: whether the run is finished; of a draw, what is present and how far a colour moves.
 // And the cycle that the record drives, and the record after a draw.
-use prng::Prng;
 use cycle::SampleCycle;
+use prng::Prng;
 use stages::Record;
 ghost use mathlib.Core.Path.{_≡_};
 ghost use mathlib.Core.List.{[]};
