@@ -1,4 +1,4 @@
-// Forwarders to palette_edit and palette_copy. Assumes of callers what each callee requires.
+// Forwarders to `palette_edit`. Assumes of callers what each callee requires.
 ghost use Prim.Native.Nat.{_+_, _*_, _≤_, _<_};
 ghost use lib.ListN.{length};
 use color::Oklab;
