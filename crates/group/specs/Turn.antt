@@ -13,7 +13,7 @@ use Rattle.group_pixels.specs.Pixel.{rgbaAt, putRgba, kept, sameBytes, There}
 use Rattle.group_refusal.specs.Refusal.{Lent, lent}
 
 -- there is room for pixel k after n entries, and no count is above k, so that one more fits a u32
-pub record Roomy (k n : ℕ) (bytes : List ℕ) (oklab : List Float) (m : Lent) : Type 0 where
+pub record PixelRoom (k n : ℕ) (bytes : List ℕ) (oklab : List Float) (m : Lent) : Type 0 where
   pub fits : k + 1 < 4294967296
   pub few : n ≤ k
   pub there : There bytes oklab k

@@ -6,7 +6,7 @@ ghost use Prim.Native.Nat.{_*_, _≤_, _<_};
 ghost use lib.ListN.{length};
 ghost use Rattle.group_refusal.specs.Refusal.{lent, given, sized};
 ghost use Rattle.job.specs.Job.{tileSize};
-ghost use Rattle.group.specs.Turn.{seek, filled, turn, Roomy};
+ghost use Rattle.group.specs.Turn.{seek, filled, turn, PixelRoom};
 ghost use Rattle.group.specs.Entries.{fillTo};
 ghost use Rattle.group.specs.Group.{outcome, grouping};
 
@@ -37,7 +37,7 @@ pub fn settle(
     entry_counts: &mut [u32],
     index: &mut [u32],
 ) -> usize
-    requires { ⌜ Roomy k n (now pixels) (now oklab) (lent (now «entry_bytes») (now «entry_oklab») (now «entry_counts») (now index)) ⌝ }
+    requires { ⌜ PixelRoom k n (now pixels) (now oklab) (lent (now «entry_bytes») (now «entry_oklab») (now «entry_counts») (now index)) ⌝ }
     ensures { λ r. ⌜ filled r (lent (now («entry_bytes» .exit)) (now («entry_oklab» .exit)) (now («entry_counts» .exit)) (now (index .exit))) ≡ turn (now (pixels .entry)) (now (oklab .entry)) zero k (filled n (lent (now («entry_bytes» .entry)) (now («entry_oklab» .entry)) (now («entry_counts» .entry)) (now (index .entry)))) ⌝ }
 {
     let x = group_pixels::rgba_at(pixels, k);

@@ -105,8 +105,8 @@ sampledFormRules size s c t n tiles colours counts samples room =
     ∷ (shapeRules t tiles colours counts ++ (rule 3 (eqb samples (2 * n)) ∷ rule 3 room ∷ rule 1 (leb 1 n) ∷ [])))
 
 -- 7 of a call without samples: the palette is among the job's colours
-abbrev pub nearRules : List Float → List Float → List Rule
-nearRules palette colours = rule 7 (componentsFit two palette) ∷ rule 7 (componentsFit two colours) ∷ []
+abbrev pub boundRules : List Float → List Float → List Rule
+boundRules palette colours = rule 7 (componentsFit two palette) ∷ rule 7 (componentsFit two colours) ∷ []
 
 -- 7 and 8 of a call with samples
 abbrev pub placeRules : ℕ → List ℕ → List Float → ℕ → List ℕ → List Rule
@@ -118,7 +118,7 @@ tables J = tableRules (J .size) (J .T) (J .weight) (J .tiles) (J .counts)
 
 abbrev pub plainRules : Job → List Float → Bool → List Rule
 plainRules J palette room =
-    formRules (J .size) (J .S) (J .C) (J .T) (J .tiles) (J .colours) (J .counts) (length palette) room ++ (tables J ++ nearRules palette (J .colours))
+    formRules (J .size) (J .S) (J .C) (J .T) (J .tiles) (J .colours) (J .counts) (length palette) room ++ (tables J ++ boundRules palette (J .colours))
 
 abbrev pub sampledRules : Job → ℕ → List ℕ → Bool → List Rule
 sampledRules J n samples room =

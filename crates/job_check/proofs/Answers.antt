@@ -8,7 +8,7 @@ use lib.ListN.{length}
 use borrow.Author.Tests.{eqb-true, eq-eqb, ne-eqb}
 use Rattle.job.specs.Rules.{Rule, answer, numbered}
 use Rattle.job.specs.Job.{Job}
-use Rattle.job.specs.Checks.{sizeRules, shapeRules, formRules, nearRules, tables, plainAnswer}
+use Rattle.job.specs.Checks.{sizeRules, shapeRules, formRules, boundRules, tables, plainAnswer}
 use Rattle.job.proofs.Passing.{stops, goes, skips, fails, refuses, passes, none, all-pass}
 use Rattle.job.proofs.Forms.{past-sizes, past-shapes}
 
@@ -58,6 +58,6 @@ module _ (J : Job) (palette : List Float) (room : Bool) where
       unfolding plainAnswer numbered
       plain-tables h = goes form _ a b refl e z (stops (tables J) _ b refl f h)
 
-      pub plain-near : b ≡ 0 → (d : ℕ) → d ≡ answer (nearRules palette (J .colours)) → d ≡ plainAnswer J palette room
+      pub plain-bounds : b ≡ 0 → (d : ℕ) → d ≡ answer (boundRules palette (J .colours)) → d ≡ plainAnswer J palette room
       unfolding plainAnswer numbered
-      plain-near y d g = goes form _ a d refl e z (goes (tables J) _ b d refl f y g)
+      plain-bounds y d g = goes form _ a d refl e z (goes (tables J) _ b d refl f y g)

@@ -53,7 +53,7 @@ pub fn check_job(
     if b != 0 {
         return b;
     }
-    job_limits::check_near(palette, colours)
+    job_limits::check_bounds(palette, colours)
 }
 
 const MOST_SAMPLES: usize = 16384;

@@ -3,7 +3,7 @@
 ghost use mathlib.Core.Path.{_≡_};
 ghost use Prim.Native.Nat.{_≤_};
 ghost use Rattle.job.specs.Rules.{answer};
-ghost use Rattle.job.specs.Checks.{tileSized, among, weightFits, sizeRules, shapeRules, nearRules};
+ghost use Rattle.job.specs.Checks.{tileSized, among, weightFits, sizeRules, shapeRules, boundRules};
 ghost use Rattle.job.specs.Job.{mostTiles};
 use job::Sizes;
 
@@ -75,8 +75,8 @@ pub fn check_shapes(z: Sizes, tiles: &[u32], colours: &[f32], counts: &[u32]) ->
 }
 
 // Number 7 of a call without samples.
-pub fn check_near(palette: &[f32], colours: &[f32]) -> u32
-    ensures { λ r. ⌜ r ≡ answer (nearRules (now (palette .entry)) (now (colours .entry))) ⌝ }
+pub fn check_bounds(palette: &[f32], colours: &[f32]) -> u32
+    ensures { λ r. ⌜ r ≡ answer (boundRules (now (palette .entry)) (now (colours .entry))) ⌝ }
 {
     if job::first_bad(palette, job::MOST_COMPONENT) != palette.len() {
         return 7;
