@@ -38,7 +38,8 @@ pub fn settle(
     index: &mut [u32],
 ) -> usize
     requires { ⌜ PixelRoom k n (now pixels) (now oklab) (lent (now «entry_bytes») (now «entry_oklab») (now «entry_counts») (now index)) ⌝ }
-    ensures { λ r. ⌜ filled r (lent (now («entry_bytes» .exit)) (now («entry_oklab» .exit)) (now («entry_counts» .exit)) (now (index .exit))) ≡ turn (now (pixels .entry)) (now (oklab .entry)) zero k (filled n (lent (now («entry_bytes» .entry)) (now («entry_oklab» .entry)) (now («entry_counts» .entry)) (now (index .entry)))) ⌝ }
+    ensures { λ r. ⌜ filled r (lent (now («entry_bytes» .exit)) (now («entry_oklab» .exit)) (now («entry_counts» .exit)) (now (index .exit)))
+        ≡ turn (now (pixels .entry)) (now (oklab .entry)) zero k (filled n (lent (now («entry_bytes» .entry)) (now («entry_oklab» .entry)) (now («entry_counts» .entry)) (now (index .entry)))) ⌝ }
 {
     let x = group_pixels::rgba_at(pixels, k);
     if !group_pixels::is_kept(zero, x) {
@@ -68,7 +69,8 @@ pub fn fill(
     index: &mut [u32],
 ) -> usize
     requires { ⌜ (p < 4294967296) × (sized (given p (now pixels) (now oklab) zero) (lent (now «entry_bytes») (now «entry_oklab») (now «entry_counts») (now index)) ≡ true) ⌝ }
-    ensures { λ r. ⌜ filled r (lent (now («entry_bytes» .exit)) (now («entry_oklab» .exit)) (now («entry_counts» .exit)) (now (index .exit))) ≡ fillTo (given p (now (pixels .entry)) (now (oklab .entry)) zero) p (lent (now («entry_bytes» .entry)) (now («entry_oklab» .entry)) (now («entry_counts» .entry)) (now (index .entry))) ⌝ }
+    ensures { λ r. ⌜ filled r (lent (now («entry_bytes» .exit)) (now («entry_oklab» .exit)) (now («entry_counts» .exit)) (now (index .exit)))
+        ≡ fillTo (given p (now (pixels .entry)) (now (oklab .entry)) zero) p (lent (now («entry_bytes» .entry)) (now («entry_oklab» .entry)) (now («entry_counts» .entry)) (now (index .entry))) ⌝ }
 {
     let mut n = 0usize;
     let mut k = 0usize;
@@ -106,7 +108,8 @@ pub fn group(
     entry_counts: &mut [u32],
     index: &mut [u32],
 ) -> Grouped
-    ensures { λ r. ⌜ outcome r (lent (now («entry_bytes» .exit)) (now («entry_oklab» .exit)) (now («entry_counts» .exit)) (now (index .exit))) ≡ grouping tileSize (given p (now (pixels .entry)) (now (oklab .entry)) zero) (lent (now («entry_bytes» .entry)) (now («entry_oklab» .entry)) (now («entry_counts» .entry)) (now (index .entry))) ⌝ }
+    ensures { λ r. ⌜ outcome r (lent (now («entry_bytes» .exit)) (now («entry_oklab» .exit)) (now («entry_counts» .exit)) (now (index .exit)))
+        ≡ grouping tileSize (given p (now (pixels .entry)) (now (oklab .entry)) zero) (lent (now («entry_bytes» .entry)) (now («entry_oklab» .entry)) (now («entry_counts» .entry)) (now (index .entry))) ⌝ }
 {
     let number = group_refusal::refuses(
         job::TILE_SIZE,
