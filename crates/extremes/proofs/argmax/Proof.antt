@@ -26,7 +26,9 @@ shared-slice-read-total-key : tie.Need-shared-slice-read-total-key Inv-loop μ-l
 shared-slice-read-total-key c = omega arith
 
 total-key-requires : tie.Need-total-key-requires Inv-loop μ-loop
-total-key-requires c κs = c .before .before .before .before .pre (c .before .before .loop .best) (omega arith)
+total-key-requires c κs =
+    let after-loop = c .before .before in let start = after-loop .before .before in
+    start .pre (after-loop .loop .best) (omega arith)
 
 mul-total-key-2 : tie.Need-mul-total-key-2 Inv-loop μ-loop
 mul-total-key-2 c = omega arith
@@ -35,7 +37,9 @@ shared-slice-read-total-key-2 : tie.Need-shared-slice-read-total-key-2 Inv-loop 
 shared-slice-read-total-key-2 c = omega arith
 
 total-key-requires-2 : tie.Need-total-key-requires-2 Inv-loop μ-loop
-total-key-requires-2 c κs = c .before .before .before .before .before .before .pre (c .before .before .before .before .loop .i) (omega arith)
+total-key-requires-2 c κs =
+    let after-loop = c .before .before .before .before in let start = after-loop .before .before in
+    start .pre (after-loop .loop .i) (omega arith)
 
 add-i : tie.Need-add-i Inv-loop μ-loop
 add-i c = omega arith
@@ -45,11 +49,14 @@ loop-less c = omega arith
 
 loop-again : tie.Need-loop-again Inv-loop μ-loop
 loop-again c =
-    let o = c .before .before .before .before .before .before .loop in
-    let pre = c .before .before .before .before .before .before .before .before .pre in
-    let fit = c .before .before .shared-slice-known3 .given in
-    let a = c .before .before .before .total-key .ensures in
-    let b = c .before .total-key2 .ensures in
+    let after-total-key2 = c .before in let after-shared-slice-known3 = after-total-key2 .before in
+    let after-total-key = after-shared-slice-known3 .before in let after-loop = after-total-key .before .before .before in
+    let start = after-loop .before .before in
+    let o = after-loop .loop in
+    let pre = start .pre in
+    let fit = after-shared-slice-known3 .shared-slice-known3 .given in
+    let a = after-total-key .total-key .ensures in
+    let b = after-total-key2 .total-key2 .ensures in
     ⊎-elim
     (λ v. (omega arith, omega (arith, v .1), v .1 ∙ max-taken _ fit _ pre _ _ (omega arith) (omega arith) _ _ a b (o .inv .2) (v .0 .taken)))
     (λ v. (omega arith, omega (arith, v .1), v .1 ∙ max-left _ fit _ pre _ _ (omega arith) (omega arith) _ _ a b (o .inv .2) (v .0 .left)))

@@ -26,8 +26,9 @@ loop-holds c = (search needs, refl, refl, refl, refl, start _ _)
 
 settle-requires : tie.Need-settle-requires Inv-loop μ-loop
 settle-requires c κs =
+    let start = c .before .before .before .before .before .before .before .before .before .before .before .before in
     let l = c .before .before .before .before .before in
-    let z = sizes _ _ _ _ _ _ _ (c .before .before .before .before .before .before .before .before .before .before .before .before .pre .1) in
+    let z = sizes _ _ _ _ _ _ _ (start .pre .1) in
     let f = held-few _ _ _ _ _ (l .loop .inv .5) in
     record {
       fits = omega arith;
@@ -48,9 +49,10 @@ loop-less c = search needs
 
 loop-again : tie.Need-loop-again Inv-loop μ-loop
 loop-again c =
+    let start = c .before .before .before .before .before .before .before .before .before .before .before .before .before .before .before .before .before .before .before .before .before in
     let s = c .before .before .before .before .before .before .before .before in
     let l = s .before .before .before .before .before .before in
-    let z = sizes _ _ _ _ _ _ _ (c .before .before .before .before .before .before .before .before .before .before .before .before .before .before .before .before .before .before .before .before .before .pre .1) in
+    let z = sizes _ _ _ _ _ _ _ (start .pre .1) in
     (search needs, search needs, search needs, search needs, search needs, turn-on _ _ _ _ _ _ _ (l .loop .inv .5) (s .settle .ensures) (omega arith) (omega arith) (omega arith))
 
 same-length : tie.Need-same-length Inv-loop μ-loop

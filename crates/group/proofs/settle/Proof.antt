@@ -34,7 +34,10 @@ slice-read-entry-counts : tie.Need-slice-read-entry-counts
 slice-read-entry-counts c = search needs
 
 add-entry-counts : tie.Need-add-entry-counts
-add-entry-counts c = omega (arith, c .before .before .before .before .before .before .before .before .before .before .before .before .before .pre .counted (c .before .before .position .result) (c .before .if2 .taken))
+add-entry-counts c =
+    let after-if2 = c .before in let after-position = after-if2 .before in
+    let start = after-position .before .before .before .before .before .before .before .before .before .before .before in
+    omega (arith, start .pre .counted (after-position .position .result) (after-if2 .if2 .taken))
 
 slice-write-entry-counts : tie.Need-slice-write-entry-counts
 slice-write-entry-counts c = search needs
@@ -49,7 +52,10 @@ same-length-3 : tie.Need-same-length-3
 same-length-3 c = search needs
 
 returns-2 : tie.Need-returns-2
-returns-2 c = turn-joins _ _ _ _ _ _ (c .before .before .before .before .before .before .rgba-at .ensures) (c .before .before .before .before .before .is-kept .ensures) (not-false _ (c .before .before .before .before .if1 .left)) _ (c .before .before .position .ensures) (c .before .if2 .taken)
+returns-2 c =
+    let after-if2 = c .before in let after-position = after-if2 .before in let after-if1 = after-position .before .before in
+    let after-is-kept = after-if1 .before in let after-rgba-at = after-is-kept .before in
+    turn-joins _ _ _ _ _ _ (after-rgba-at .rgba-at .ensures) (after-is-kept .is-kept .ensures) (not-false _ (after-if1 .if1 .left)) _ (after-position .position .ensures) (after-if2 .if2 .taken)
 
 put-rgba-requires : tie.Need-put-rgba-requires
 put-rgba-requires c κs = search needs
@@ -82,7 +88,11 @@ same-length-7 : tie.Need-same-length-7
 same-length-7 c = search needs
 
 returns-3 : tie.Need-returns-3
-returns-3 c = turn-begins _ _ _ _ _ _ (c .before .before .before .before .before .before .before .before .before .before .before .before .before .before .rgba-at .ensures) (c .before .before .before .before .before .before .before .before .before .before .before .before .before .is-kept .ensures) (not-false _ (c .before .before .before .before .before .before .before .before .before .before .before .before .if1 .left)) _ (c .before .before .before .before .before .before .before .before .before .before .position .ensures) (c .before .before .before .before .before .before .before .before .before .if2 .left) (c .before .before .before .before .before .before .before .put-rgba .ensures) (c .before .before .before .colour .ensures) (c .before .before .put .ensures)
+returns-3 c =
+    let after-put = c .before .before in let after-colour = after-put .before in let after-put-rgba = after-colour .before .before .before .before in
+    let after-if2 = after-put-rgba .before .before in let after-position = after-if2 .before in let after-if1 = after-position .before .before in
+    let after-is-kept = after-if1 .before in let after-rgba-at = after-is-kept .before in
+    turn-begins _ _ _ _ _ _ (after-rgba-at .rgba-at .ensures) (after-is-kept .is-kept .ensures) (not-false _ (after-if1 .if1 .left)) _ (after-position .position .ensures) (after-if2 .if2 .left) (after-put-rgba .put-rgba .ensures) (after-colour .colour .ensures) (after-put .put .ensures)
 
 pub settle-spec : {M : Type 1} → statement M
 settle-spec =

@@ -11,28 +11,48 @@ check-sizes-requires : tie.Need-check-sizes-requires
 check-sizes-requires c κs = search needs
 
 returns : tie.Need-returns
-returns c = let a = c .before .before .before .before .before .args in form-sizes (a .z .size) (a .z .s) (a .z .c) (a .z .t) (now (a .tiles)) (now (a .colours)) (now (a .counts)) (a .room) (a .palette) _ (c .before .check-sizes .ensures) (c .if1 .taken)
+returns c = let a =
+    let after-check-sizes = c .before in let start = after-check-sizes .before .before .before .before in
+    start .args in form-sizes (a .z .size) (a .z .s) (a .z .c) (a .z .t) (now (a .tiles)) (now (a .colours)) (now (a .counts)) (a .room) (a .palette) _ (after-check-sizes .check-sizes .ensures) (c .if1 .taken)
 
 check-shapes-requires : tie.Need-check-shapes-requires
 check-shapes-requires c κs = sizes-of _ _ _ _ _ (c .before .check-sizes .ensures) (c .if1 .left) .tiles
 
 returns-2 : tie.Need-returns-2
-returns-2 c = let a = c .before .before .before .before .before .before .before .args in form-shapes (a .z .size) (a .z .s) (a .z .c) (a .z .t) (now (a .tiles)) (now (a .colours)) (now (a .counts)) (a .room) _ (c .before .before .before .check-sizes .ensures) (c .before .before .if1 .left) (a .palette) _ (c .before .check-shapes .ensures) (c .if2 .taken)
+returns-2 c = let a =
+    let after-check-shapes = c .before in let after-if1 = after-check-shapes .before in let after-check-sizes = after-if1 .before in
+    let start = after-check-sizes .before .before .before .before in
+    start .args in form-shapes (a .z .size) (a .z .s) (a .z .c) (a .z .t) (now (a .tiles)) (now (a .colours)) (now (a .counts)) (a .room) _ (after-check-sizes .check-sizes .ensures) (after-if1 .if1 .left) (a .palette) _ (after-check-shapes .check-shapes .ensures) (c .if2 .taken)
 
 mul-if3 : tie.Need-mul-if3
-mul-if3 c = omega (arith, sizes-of _ _ _ _ _ (c .before .before .before .before .check-sizes .ensures) (c .before .before .before .if1 .left) .cells)
+mul-if3 c =
+    let after-if1 = c .before .before .before in let after-check-sizes = after-if1 .before in
+    omega (arith, sizes-of _ _ _ _ _ (after-check-sizes .check-sizes .ensures) (after-if1 .if1 .left) .cells)
 
 mul-if3-2 : tie.Need-mul-if3-2
-mul-if3-2 c = omega (arith, sizes-of _ _ _ _ _ (c .before .before .before .before .check-sizes .ensures) (c .before .before .before .if1 .left) .cells)
+mul-if3-2 c =
+    let after-if1 = c .before .before .before in let after-check-sizes = after-if1 .before in
+    omega (arith, sizes-of _ _ _ _ _ (after-check-sizes .check-sizes .ensures) (after-if1 .if1 .left) .cells)
 
 returns-3 : tie.Need-returns-3
-returns-3 c = let a = c .before .before .before .before .before .before .before .before .before .args in form-palette (a .z .size) (a .z .s) (a .z .c) (a .z .t) (now (a .tiles)) (now (a .colours)) (now (a .counts)) (a .room) _ (c .before .before .before .before .before .check-sizes .ensures) (c .before .before .before .before .if1 .left) _ (c .before .before .before .check-shapes .ensures) (c .before .before .if2 .left) (a .palette) (c .if3 .taken)
+returns-3 c = let a =
+    let after-if2 = c .before .before in let after-check-shapes = after-if2 .before in let after-if1 = after-check-shapes .before in
+    let after-check-sizes = after-if1 .before in let start = after-check-sizes .before .before .before .before in
+    start .args in form-palette (a .z .size) (a .z .s) (a .z .c) (a .z .t) (now (a .tiles)) (now (a .colours)) (now (a .counts)) (a .room) _ (after-check-sizes .check-sizes .ensures) (after-if1 .if1 .left) _ (after-check-shapes .check-shapes .ensures) (after-if2 .if2 .left) (a .palette) (c .if3 .taken)
 
 returns-4 : tie.Need-returns-4
-returns-4 c = let a = c .before .before .before .before .before .before .before .before .before .before .args in form-room (a .z .size) (a .z .s) (a .z .c) (a .z .t) (now (a .tiles)) (now (a .colours)) (now (a .counts)) (a .room) _ (c .before .before .before .before .before .before .check-sizes .ensures) (c .before .before .before .before .before .if1 .left) _ (c .before .before .before .before .check-shapes .ensures) (c .before .before .before .if2 .left) (a .palette) (c .before .if3 .left) (c .if4 .taken)
+returns-4 c = let a =
+    let after-if3 = c .before in let after-if2 = after-if3 .before .before in let after-check-shapes = after-if2 .before in
+    let after-if1 = after-check-shapes .before in let after-check-sizes = after-if1 .before in
+    let start = after-check-sizes .before .before .before .before in
+    start .args in form-room (a .z .size) (a .z .s) (a .z .c) (a .z .t) (now (a .tiles)) (now (a .colours)) (now (a .counts)) (a .room) _ (after-check-sizes .check-sizes .ensures) (after-if1 .if1 .left) _ (after-check-shapes .check-shapes .ensures) (after-if2 .if2 .left) (a .palette) (after-if3 .if3 .left) (c .if4 .taken)
 
 returns-5 : tie.Need-returns-5
-returns-5 c = let a = c .before .before .before .before .before .before .before .before .before .before .args in form-passes (a .z .size) (a .z .s) (a .z .c) (a .z .t) (now (a .tiles)) (now (a .colours)) (now (a .counts)) (a .room) _ (c .before .before .before .before .before .before .check-sizes .ensures) (c .before .before .before .before .before .if1 .left) _ (c .before .before .before .before .check-shapes .ensures) (c .before .before .before .if2 .left) (a .palette) (c .before .if3 .left) (c .if4 .left)
+returns-5 c = let a =
+    let after-if3 = c .before in let after-if2 = after-if3 .before .before in let after-check-shapes = after-if2 .before in
+    let after-if1 = after-check-shapes .before in let after-check-sizes = after-if1 .before in
+    let start = after-check-sizes .before .before .before .before in
+    start .args in form-passes (a .z .size) (a .z .s) (a .z .c) (a .z .t) (now (a .tiles)) (now (a .colours)) (now (a .counts)) (a .room) _ (after-check-sizes .check-sizes .ensures) (after-if1 .if1 .left) _ (after-check-shapes .check-shapes .ensures) (after-if2 .if2 .left) (a .palette) (after-if3 .if3 .left) (c .if4 .left)
 
 pub check-form-spec : {M : Type 1} → statement M
 check-form-spec =

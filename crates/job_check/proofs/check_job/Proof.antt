@@ -13,7 +13,9 @@ returns : tie.Need-returns
 returns c = plain-form _ _ _ _ (c .before .check-form .ensures) (c .if1 .taken)
 
 check-tables-requires : tie.Need-check-tables-requires
-check-tables-requires c κs = let a = c .before .before .before .before .before .before .args in form-table (a .z .size) (a .z .s) (a .z .c) (a .z .t) (now (a .tiles)) (now (a .colours)) (now (a .counts)) (a .room) _ (c .if1 .left) (length (now (a .palette))) (c .before .check-form .ensures)
+check-tables-requires c κs = let a =
+    let after-check-form = c .before in let start = after-check-form .before .before .before .before .before in
+    start .args in form-table (a .z .size) (a .z .s) (a .z .c) (a .z .t) (now (a .tiles)) (now (a .colours)) (now (a .counts)) (a .room) _ (c .if1 .left) (length (now (a .palette))) (after-check-form .check-form .ensures)
 
 returns-2 : tie.Need-returns-2
 returns-2 c = plain-tables _ _ _ _ (c .before .before .before .check-form .ensures) (c .before .before .if1 .left) _ (c .before .check-tables .ensures) (c .if2 .taken)
@@ -22,7 +24,10 @@ check-bounds-requires : tie.Need-check-bounds-requires
 check-bounds-requires c κs = search needs
 
 returns-3 : tie.Need-returns-3
-returns-3 c = plain-bounds _ _ _ _ (c .before .before .before .before .check-form .ensures) (c .before .before .before .if1 .left) _ (c .before .before .check-tables .ensures) (c .before .if2 .left) _ (c .check-bounds .ensures)
+returns-3 c =
+    let after-if2 = c .before in let after-check-tables = after-if2 .before in let after-if1 = after-check-tables .before in
+    let after-check-form = after-if1 .before in
+    plain-bounds _ _ _ _ (after-check-form .check-form .ensures) (after-if1 .if1 .left) _ (after-check-tables .check-tables .ensures) (after-if2 .if2 .left) _ (c .check-bounds .ensures)
 
 pub check-job-spec : {M : Type 1} → statement M
 check-job-spec =
