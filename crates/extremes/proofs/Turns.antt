@@ -11,7 +11,8 @@ use Rattle.ieee.specs.Terms.{tle, keyOf}
 use Rattle.ieee.proofs.Cmp.{tle-is-key}
 use Rattle.extremes.specs.Extremes.{NoNan, argmaxOf, argminOf}
 
-module _ (d : ℕ → Float) (F : (i : ℕ) → T (fits binary32 (d i))) (n : ℕ) (R : NoNan d n) (i best : ℕ) (I : i < n) (B : best < n) (a b : ℕ) (A : a ≡ keyOf binary32 (toBits binary32 (d best))) (C : b ≡ keyOf binary32 (toBits binary32 (d i))) where
+module _ (d : ℕ → Float) (F : (i : ℕ) → T (fits binary32 (d i))) (n : ℕ) (R : NoNan d n) (i best : ℕ) (I : i < n) (B : best < n) (a b : ℕ)
+    (A : a ≡ keyOf binary32 (toBits binary32 (d best))) (C : b ≡ keyOf binary32 (toBits binary32 (d i))) where
   by-keys : tle (d best) (d i) ≡ leb a b
   by-keys = tle-is-key binary32 (d best) (d i) (F best) (F i) (R best B) (R i I) ∙ sym (ap (leb a) C ∙ ap (λ (k : ℕ). leb k (keyOf binary32 (toBits binary32 (d i)))) A)
 

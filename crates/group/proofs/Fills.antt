@@ -159,7 +159,20 @@ module _ (es : List Entry) (x : Rgba) (o : Oklab) (m : Lent) (index : List ℕ) 
   unfolding bytesOf oklabOf countsOf
   begins h hb ho hc =
       let n : length es ≤ place es x = omega arith in
-      rw (le-ltb (place es x) (length es) n, anew es x o h, bytes-after es (seenOnce x o), oklab-after es (seenOnce x o), counts-after es (seenOnce x o), longer es (seenOnce x o), put-rgba (bytesOf es) (m .bytes) (length es) x (bytes-long es) hb, put-oklab (oklabOf es) (m .oklab) (length es) o (oklab-long es) ho, over-put (countsOf es) (m .counts) 1 (length es) (counts-long es) hc, add-one (length es))
+      rw (
+        le-ltb (place es x) (length es) n,
+        anew es x o h,
+        bytes-after es (seenOnce x o),
+        oklab-after es (seenOnce x o),
+        counts-after es (seenOnce x o),
+        longer es
+            (seenOnce x o),
+        put-rgba (bytesOf es) (m .bytes) (length es) x (bytes-long es) hb,
+        put-oklab (oklabOf es) (m .oklab) (length es) o (oklab-long es) ho,
+        over-put
+            (countsOf es) (m .counts) 1 (length es) (counts-long es) hc,
+        add-one (length es),
+      )
 
   pub settles : 4 * length es + 3 < length (m .bytes) → 3 * length es + 2 < length (m .oklab) → length es < length (m .counts)
       → settled k (seek (length es) (over (bytesOf es) (m .bytes)) x) x o held ≡ next (join es x o)
@@ -199,7 +212,11 @@ turn-fills q k m hb ho hc =
     let o = colourAt (q .oklab) k in
     let index = indexes q k (m .index) in
     rw (add-one k)
-    (by-cases (λ b. cond b (settled k (seek (length es) (over (bytesOf es) (m .bytes)) x) x o (held es x o m index k)) (held es x o m index k) ≡ filled (length (cond b (join es x o) es)) (lent (over (bytesOf (cond b (join es x o) es)) (m .bytes)) (over (oklabOf (cond b (join es x o) es)) (m .oklab)) (over (countsOf (cond b (join es x o) es)) (m .counts)) (cond b (set index k (place es x)) index)))
+    (by-cases
+    (λ b. cond b (settled k (seek (length es) (over (bytesOf es) (m .bytes)) x) x o (held es x o m index k)) (held es x o m index k) ≡ filled
+    (length (cond b (join es x o) es))
+    (lent (over (bytesOf (cond b (join es x o) es)) (m .bytes)) (over (oklabOf (cond b (join es x o) es)) (m .oklab))
+    (over (countsOf (cond b (join es x o) es)) (m .counts)) (cond b (set index k (place es x)) index)))
     (settles es x o m index k (omega arith) (omega arith) (omega arith)) refl (kept (q .zero) x))
 
 pub start : (q : Pixels) (m : Lent) → filled 0 m ≡ fillTo q 0 m

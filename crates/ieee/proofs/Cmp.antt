@@ -33,7 +33,8 @@ order : (s u : Bool) (t n l : ℕ) → n < t → l < t → cond s (cond u (leb l
 order false false t n l p q = same-test (leb n l) (leb (t + n) (t + l)) (λ (h : T (leb n l)). le→leb (t + n) (t + l) (omega (arith, leb→le n l h))) (λ (h : T (leb (t + n) (t + l))). le→leb n l (omega (arith, leb→le (t + n) (t + l) h)))
 order false true t n l p q = same-test false (leb (t + n) (t - suc l)) (λ (h : ⊥). absurd h) (λ (h : T (leb (t + n) (t - suc l))). omega (arith, leb→le (t + n) (t - suc l) h))
 order true false t n l p q = same-test true (leb (t - suc n) (t + l)) (λ (h : Unit {0}). le→leb (t - suc n) (t + l) (omega arith)) (λ (h : T (leb (t - suc n) (t + l))). tt)
-order true true t n l p q = same-test (leb l n) (leb (t - suc n) (t - suc l)) (λ (h : T (leb l n)). le→leb (t - suc n) (t - suc l) (omega (arith, leb→le l n h))) (λ (h : T (leb (t - suc n) (t - suc l))). le→leb l n (omega (arith, leb→le (t - suc n) (t - suc l) h)))
+order true true t n l p q = same-test (leb l n) (leb (t - suc n) (t - suc l)) (λ (h : T (leb l n)). le→leb (t - suc n) (t - suc l) (omega (arith, leb→le l n h)))
+    (λ (h : T (leb (t - suc n) (t - suc l))). le→leb l n (omega (arith, leb→le (t - suc n) (t - suc l) h)))
 
 key-is : (f : Format) (x : Float) (s : Bool) → sgn x ≡ s → T (fits f x) → T (not (isNan x)) → keyOf f (toBits f x) ≡ cond s (top f - suc (pack f (key f x))) (top f + pack f (key f x))
 key-is f x true e h p = key-set (top f) (toBits f x) (pack f (key f x)) (bits-are f x p ∙ ap (λ (b : Bool). cond b (top f) 0 + pack f (key f x)) e) (size-small f x h)

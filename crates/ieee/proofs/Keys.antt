@@ -4,7 +4,8 @@
 use mathlib.Core.Path.{_≡_, refl, sym, ap, _∙_, subst}
 use mathlib.Core.Logic.{inl, inr}
 use Prim.Native.Nat.{ℕ, zero, suc, _+_, _-_, _*_, _/_, _%_, _^_, _≤_, _<_, zero-le}
-use native.Mathlib.Nat.{le-refl, le-trans, le-of-eq, lt-of-le-of-lt, le-antisymm, eq-or-lt-of-le, zero-add, add-assoc, mul-comm, mul-assoc, mul-right-comm, mul-le-mul-right, mul-suc, suc-mul, le-div-iff-mul-le, div-le-of-le-mul, mul-div-cancel}
+use native.Mathlib.Nat.{le-refl, le-trans, le-of-eq, lt-of-le-of-lt, le-antisymm, eq-or-lt-of-le, zero-add, add-assoc}
+use native.Mathlib.Nat.{mul-comm, mul-assoc, mul-right-comm, mul-le-mul-right, mul-suc, suc-mul, le-div-iff-mul-le, div-le-of-le-mul, mul-div-cancel}
 use native.Mathlib.Omega.{arith}
 use mathlib.Core.Bool.{Bool, true, false, not, cond}
 use lib.IntN.{ℤ}
@@ -92,7 +93,9 @@ under-top : (f : Format) (s : Bool) (m : ℕ) (e : ℤ) → T (fits f (fin s m e
 under-top f s m e h =
     div-le-of-le-mul (down e)
     (le-trans (mul-le-mul-right (2 ^ low f) (fits-under f s m e h))
-    (le-of-eq (ap (λ (z : ℕ). z * 2 ^ low f) (mul-comm (2 ^ suc (emax f)) (down e)) ∙ mul-assoc (down e) (2 ^ suc (emax f)) (2 ^ low f) ∙ ap (λ (z : ℕ). down e * z) (mul-comm (2 ^ suc (emax f)) (2 ^ low f) ∙ sym (pow-add 2 (low f) (suc (emax f)))))))
+    (le-of-eq
+    (ap (λ (z : ℕ). z * 2 ^ low f) (mul-comm (2 ^ suc (emax f)) (down e)) ∙ mul-assoc (down e) (2 ^ suc (emax f)) (2 ^ low f) ∙ ap (λ (z : ℕ). down e * z)
+    (mul-comm (2 ^ suc (emax f)) (2 ^ low f) ∙ sym (pow-add 2 (low f) (suc (emax f)))))))
 
 pub key-top : (f : Format) (x : Float) → T (fits f x) → key f x ≤ key f (inf false)
 unfolding key

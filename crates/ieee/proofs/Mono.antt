@@ -151,7 +151,8 @@ sums s t r X Z Y p o q h =
     (beneath s (X * o * (q * q))) (above s (X * o * (q * q))) (beneath t (Z * p * (q * q))) (above t (Z * p * (q * q))) (beneath r (Y * o * (p * q))) (above r (Y * o * (p * q)))
     (rw (left, b) at first) (rw right at second) l)
 
-add-fin : (f : Format) (s : Bool) (m : ℕ) (e : ℤ) (t : Bool) (n : ℕ) (d : ℤ) → add f (fin s m e) (fin t n d) ≡ round f (sumSign s (m * up e * down d) t (n * up d * down e)) (sumSize s (m * up e * down d) t (n * up d * down e)) (down e * down d)
+add-fin : (f : Format) (s : Bool) (m : ℕ) (e : ℤ) (t : Bool) (n : ℕ) (d : ℤ) → add f (fin s m e) (fin t n d)
+    ≡ round f (sumSign s (m * up e * down d) t (n * up d * down e)) (sumSize s (m * up e * down d) t (n * up d * down e)) (down e * down d)
 unfolding add
 add-fin f s m e t n d = sum-is f s (m * up e * down d) t (n * up d * down e) (down e * down d)
 

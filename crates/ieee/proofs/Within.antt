@@ -2,7 +2,8 @@
 -- Assumes nothing.
 use mathlib.Core.Path.{_≡_, sym, subst}
 use Prim.Native.Nat.{ℕ, _+_, _-_, _*_, _^_, _≤_, _<_}
-use native.Mathlib.Nat.{le-trans, le-of-eq, lt-of-lt-of-le, lt-irrefl, mul-one, one-mul, mul-pos, mul-assoc, mul-comm, mul-left-comm, mul-right-comm, mul-le-mul, mul-le-mul-right, le-of-mul-le-mul-right, mul-mul-mul-comm, add-mul, add-le-add, le-add-right, le-add-left, sub-le}
+use native.Mathlib.Nat.{le-trans, le-of-eq, lt-of-lt-of-le, lt-irrefl, mul-one, one-mul, mul-pos, mul-assoc, mul-comm, mul-left-comm}
+use native.Mathlib.Nat.{mul-right-comm, mul-le-mul, mul-le-mul-right, le-of-mul-le-mul-right, mul-mul-mul-comm, add-mul, add-le-add, le-add-right, le-add-left, sub-le}
 use native.Mathlib.Omega.{arith}
 use mathlib.Core.Bool.{Bool, true, false, _&&_, Bool·beq, cond, true≢false}
 use lib.IntN.{ℤ, pos}

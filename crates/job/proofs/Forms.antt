@@ -11,6 +11,7 @@ pub past-sizes : (size s c t a : ℕ) → a ≡ answer (sizeRules size s c t) �
 unfolding numbered
 past-sizes size s c t a e z k rs h = goes (sizeRules size s c t) rs a k refl e z h
 
-pub past-shapes : (t : ℕ) (tiles : List ℕ) (colours : List Float) (counts : List ℕ) (b : ℕ) → b ≡ answer (shapeRules t tiles colours counts) → b ≡ 0 → (k : ℕ) (rs : List Rule) → k ≡ answer rs → k ≡ answer (shapeRules t tiles colours counts ++ rs)
+pub past-shapes : (t : ℕ) (tiles : List ℕ) (colours : List Float) (counts : List ℕ) (b : ℕ) → b ≡ answer (shapeRules t tiles colours counts) → b ≡ 0
+    → (k : ℕ) (rs : List Rule) → k ≡ answer rs → k ≡ answer (shapeRules t tiles colours counts ++ rs)
 unfolding numbered
 past-shapes t tiles colours counts b f y k rs h = goes (shapeRules t tiles colours counts) rs b k refl f y h

@@ -22,7 +22,8 @@ use Rattle.job.proofs.First.{none-first}
 use Rattle.job.specs.Rules.{Passed, answer, numbered}
 use Rattle.job.proofs.Passing.{all-pass}
 use Rattle.job.specs.Job.{Job, tileSize, firstOf, sizeOf, countsPart, countsOf, mostSubpalettes, mostColours, mostTiles, mostTileColours, mostSamples, nought, two, sixteen}
-use Rattle.job.specs.Checks.{firstNot, tileSized, among, within, weightFits, tileTest, tileFits, tilesFit, countTest, countFits, partFits, tileCountsFit, countsFit, componentFits, firstBad, componentsFit, sampleTest, sampleFits, samplesFit, sizeRules, shapeRules, tables, plainRules, sampledRules, plainAnswer, sampledAnswer}
+use Rattle.job.specs.Checks.{firstNot, tileSized, among, within, weightFits, tileTest, tileFits, tilesFit, countTest, countFits, partFits, tileCountsFit, countsFit}
+use Rattle.job.specs.Checks.{componentFits, firstBad, componentsFit, sampleTest, sampleFits, samplesFit, sizeRules, shapeRules, tables, plainRules, sampledRules, plainAnswer, sampledAnswer}
 use Rattle.job.specs.Gives.{InRange, Ready, Lent, Plain, Sampled}
 
 -- ---- numbers

@@ -59,7 +59,8 @@ module _ (tiles : List ℕ) (t : ℕ) (samples : List ℕ) where
   unfolding samplesFit
   sampled-fails n i r tile place e a b h l = every-fails (sampleFits tiles t samples) n i r (sampled i r tile place e a b) h l
 
-  pub sampled-more : (i : ℕ) (r : Bool) (tile place : ℕ) → r ≡ sampleTest tiles t tile place → tile ≡ getD samples (2 * i) 0 → place ≡ getD samples (2 * i + 1) 0 → every (sampleFits tiles t samples) i ≡ true → not r ≡ false → every (sampleFits tiles t samples) (i + 1) ≡ true
+  pub sampled-more : (i : ℕ) (r : Bool) (tile place : ℕ) → r ≡ sampleTest tiles t tile place → tile ≡ getD samples (2 * i) 0 → place ≡ getD samples (2 * i + 1) 0
+      → every (sampleFits tiles t samples) i ≡ true → not r ≡ false → every (sampleFits tiles t samples) (i + 1) ≡ true
   sampled-more i r tile place e a b g h = every-more (sampleFits tiles t samples) i r g (sampled i r tile place e a b) h
 
 -- ---- the counts of each tile

@@ -34,7 +34,11 @@ loop-less : tie.Need-loop-less Inv-loop μ-loop
 loop-less c = search needs
 
 loop-again : tie.Need-loop-again Inv-loop μ-loop
-loop-again c = let l = c .before .before .before .before in (search needs, seek-on _ _ _ _ (l .loop .inv .1) (c .before .before .before .loop-test .taken) (c .before .before .rgba-at .ensures) (c .before .same-bytes .ensures) (c .if1 .left))
+loop-again c = let l = c .before .before .before .before in (
+  search needs,
+  seek-on _ _ _ _ (l .loop .inv .1) (c .before .before .before .loop-test .taken)
+      (c .before .before .rgba-at .ensures) (c .before .same-bytes .ensures) (c .if1 .left),
+)
 
 returns-2 : tie.Need-returns-2 Inv-loop μ-loop
 returns-2 c = seek-none _ _ _ _ (c .before .loop .inv .1) (c .before .loop .inv .0) (c .loop-test .left)

@@ -92,7 +92,8 @@ returns-3 c =
     let after-put = c .before .before in let after-colour = after-put .before in let after-put-rgba = after-colour .before .before .before .before in
     let after-if2 = after-put-rgba .before .before in let after-position = after-if2 .before in let after-if1 = after-position .before .before in
     let after-is-kept = after-if1 .before in let after-rgba-at = after-is-kept .before in
-    turn-begins _ _ _ _ _ _ (after-rgba-at .rgba-at .ensures) (after-is-kept .is-kept .ensures) (not-false _ (after-if1 .if1 .left)) _ (after-position .position .ensures) (after-if2 .if2 .left) (after-put-rgba .put-rgba .ensures) (after-colour .colour .ensures) (after-put .put .ensures)
+    turn-begins _ _ _ _ _ _ (after-rgba-at .rgba-at .ensures) (after-is-kept .is-kept .ensures) (not-false _ (after-if1 .if1 .left)) _ (after-position .position .ensures)
+    (after-if2 .if2 .left) (after-put-rgba .put-rgba .ensures) (after-colour .colour .ensures) (after-put .put .ensures)
 
 pub settle-spec : {M : Type 1} → statement M
 settle-spec =

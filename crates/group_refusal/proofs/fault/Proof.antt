@@ -29,14 +29,22 @@ unfolding fault
 returns-2 c =
     let after-in-gamut = c .before in let after-colour = after-in-gamut .before in let after-if1 = after-colour .before in
     let after-is-kept = after-if1 .before in let after-rgba-at = after-is-kept .before in
-    then _ _ _ _ (told (kept _) (after-rgba-at .rgba-at .ensures) (after-is-kept .is-kept .ensures) (not-false _ (after-if1 .if1 .left))) (else _ _ _ _ (told inGamut (after-colour .colour .ensures) (after-in-gamut .in-gamut .ensures) (not-true _ (c .if2 .taken))) refl)
+    then _ _ _ _ (told (kept _) (after-rgba-at .rgba-at .ensures) (after-is-kept .is-kept .ensures) (not-false _ (after-if1 .if1 .left)))
+    (else _ _ _ _ (told inGamut (after-colour .colour .ensures) (after-in-gamut .in-gamut .ensures) (not-true _ (c .if2 .taken))) refl)
 
 clashes-requires : tie.Need-clashes-requires
 clashes-requires c κs = let p =
     let after-in-gamut = c .before in let after-colour = after-in-gamut .before in let after-if1 = after-colour .before in
     let after-is-kept = after-if1 .before in let after-rgba-at = after-is-kept .before in let start = after-rgba-at .before .before .before in
-    start .pre in
-    (p .1, record { there = p .0; is-kept = told (kept _) (after-rgba-at .rgba-at .ensures) (after-is-kept .is-kept .ensures) (not-false _ (after-if1 .if1 .left)); is-real = told inGamut (after-colour .colour .ensures) (after-in-gamut .in-gamut .ensures) (not-false _ (c .if2 .left)) })
+    start .pre in (
+      p .1,
+      record {
+        there = p .0;
+        is-kept = told (kept _) (after-rgba-at .rgba-at .ensures) (after-is-kept .is-kept .ensures)
+            (not-false _ (after-if1 .if1 .left));
+        is-real = told inGamut (after-colour .colour .ensures) (after-in-gamut .in-gamut .ensures) (not-false _ (c .if2 .left));
+      },
+    )
 
 returns-3 : tie.Need-returns-3
 unfolding fault
@@ -44,7 +52,9 @@ returns-3 c =
     let after-clashes = c .before in let after-if2 = after-clashes .before in let after-in-gamut = after-if2 .before in
     let after-colour = after-in-gamut .before in let after-if1 = after-colour .before in let after-is-kept = after-if1 .before in
     let after-rgba-at = after-is-kept .before in
-    then _ _ _ _ (told (kept _) (after-rgba-at .rgba-at .ensures) (after-is-kept .is-kept .ensures) (not-false _ (after-if1 .if1 .left))) (then _ _ _ _ (told inGamut (after-colour .colour .ensures) (after-in-gamut .in-gamut .ensures) (not-false _ (after-if2 .if2 .left))) (then _ _ _ _ (sym (after-clashes .clashes .ensures) ∙ c .if3 .taken) refl))
+    then _ _ _ _ (told (kept _) (after-rgba-at .rgba-at .ensures) (after-is-kept .is-kept .ensures) (not-false _ (after-if1 .if1 .left)))
+    (then _ _ _ _ (told inGamut (after-colour .colour .ensures) (after-in-gamut .in-gamut .ensures) (not-false _ (after-if2 .if2 .left)))
+    (then _ _ _ _ (sym (after-clashes .clashes .ensures) ∙ c .if3 .taken) refl))
 
 returns-4 : tie.Need-returns-4
 unfolding fault
@@ -52,7 +62,9 @@ returns-4 c =
     let after-clashes = c .before in let after-if2 = after-clashes .before in let after-in-gamut = after-if2 .before in
     let after-colour = after-in-gamut .before in let after-if1 = after-colour .before in let after-is-kept = after-if1 .before in
     let after-rgba-at = after-is-kept .before in
-    then _ _ _ _ (told (kept _) (after-rgba-at .rgba-at .ensures) (after-is-kept .is-kept .ensures) (not-false _ (after-if1 .if1 .left))) (then _ _ _ _ (told inGamut (after-colour .colour .ensures) (after-in-gamut .in-gamut .ensures) (not-false _ (after-if2 .if2 .left))) (else _ _ _ _ (sym (after-clashes .clashes .ensures) ∙ c .if3 .left) refl))
+    then _ _ _ _ (told (kept _) (after-rgba-at .rgba-at .ensures) (after-is-kept .is-kept .ensures) (not-false _ (after-if1 .if1 .left)))
+    (then _ _ _ _ (told inGamut (after-colour .colour .ensures) (after-in-gamut .in-gamut .ensures) (not-false _ (after-if2 .if2 .left)))
+    (else _ _ _ _ (sym (after-clashes .clashes .ensures) ∙ c .if3 .left) refl))
 
 pub fault-spec : {M : Type 1} → statement M
 fault-spec =

@@ -30,7 +30,12 @@ loop-less : tie.Need-loop-less Inv-loop μ-loop
 loop-less c = search needs
 
 loop-again : tie.Need-loop-again Inv-loop μ-loop
-loop-again c = (search needs, first-on _ _ _ _ (c .before .before .before .loop .inv .1) (c .before .before .loop-test .taken) (c .before .fault .ensures) (c .if1 .left), real-on _ _ _ _ _ (c .before .before .before .loop .inv .2) (c .before .fault .ensures) (c .if1 .left))
+loop-again c = (
+  search needs,
+  first-on _ _ _ _ (c .before .before .before .loop .inv .1) (c .before .before .loop-test .taken) (c .before .fault .ensures)
+      (c .if1 .left),
+  real-on _ _ _ _ _ (c .before .before .before .loop .inv .2) (c .before .fault .ensures) (c .if1 .left),
+)
 
 returns-2 : tie.Need-returns-2 Inv-loop μ-loop
 returns-2 c = first-none _ _ _ _ (c .before .loop .inv .1) (c .loop-test .left)

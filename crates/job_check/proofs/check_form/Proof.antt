@@ -22,7 +22,8 @@ returns-2 : tie.Need-returns-2
 returns-2 c = let a =
     let after-check-shapes = c .before in let after-if1 = after-check-shapes .before in let after-check-sizes = after-if1 .before in
     let start = after-check-sizes .before .before .before .before in
-    start .args in form-shapes (a .z .size) (a .z .s) (a .z .c) (a .z .t) (now (a .tiles)) (now (a .colours)) (now (a .counts)) (a .room) _ (after-check-sizes .check-sizes .ensures) (after-if1 .if1 .left) (a .palette) _ (after-check-shapes .check-shapes .ensures) (c .if2 .taken)
+    start .args in form-shapes (a .z .size) (a .z .s) (a .z .c) (a .z .t) (now (a .tiles)) (now (a .colours)) (now (a .counts)) (a .room) _
+    (after-check-sizes .check-sizes .ensures) (after-if1 .if1 .left) (a .palette) _ (after-check-shapes .check-shapes .ensures) (c .if2 .taken)
 
 mul-if3 : tie.Need-mul-if3
 mul-if3 c =
@@ -38,21 +39,26 @@ returns-3 : tie.Need-returns-3
 returns-3 c = let a =
     let after-if2 = c .before .before in let after-check-shapes = after-if2 .before in let after-if1 = after-check-shapes .before in
     let after-check-sizes = after-if1 .before in let start = after-check-sizes .before .before .before .before in
-    start .args in form-palette (a .z .size) (a .z .s) (a .z .c) (a .z .t) (now (a .tiles)) (now (a .colours)) (now (a .counts)) (a .room) _ (after-check-sizes .check-sizes .ensures) (after-if1 .if1 .left) _ (after-check-shapes .check-shapes .ensures) (after-if2 .if2 .left) (a .palette) (c .if3 .taken)
+    start .args in form-palette (a .z .size) (a .z .s) (a .z .c) (a .z .t) (now (a .tiles)) (now (a .colours)) (now (a .counts)) (a .room) _
+    (after-check-sizes .check-sizes .ensures) (after-if1 .if1 .left) _ (after-check-shapes .check-shapes .ensures) (after-if2 .if2 .left) (a .palette) (c .if3 .taken)
 
 returns-4 : tie.Need-returns-4
 returns-4 c = let a =
     let after-if3 = c .before in let after-if2 = after-if3 .before .before in let after-check-shapes = after-if2 .before in
     let after-if1 = after-check-shapes .before in let after-check-sizes = after-if1 .before in
     let start = after-check-sizes .before .before .before .before in
-    start .args in form-room (a .z .size) (a .z .s) (a .z .c) (a .z .t) (now (a .tiles)) (now (a .colours)) (now (a .counts)) (a .room) _ (after-check-sizes .check-sizes .ensures) (after-if1 .if1 .left) _ (after-check-shapes .check-shapes .ensures) (after-if2 .if2 .left) (a .palette) (after-if3 .if3 .left) (c .if4 .taken)
+    start .args in form-room (a .z .size) (a .z .s) (a .z .c) (a .z .t) (now (a .tiles)) (now (a .colours)) (now (a .counts)) (a .room) _
+    (after-check-sizes .check-sizes .ensures) (after-if1 .if1 .left) _ (after-check-shapes .check-shapes .ensures) (after-if2 .if2 .left) (a .palette)
+    (after-if3 .if3 .left) (c .if4 .taken)
 
 returns-5 : tie.Need-returns-5
 returns-5 c = let a =
     let after-if3 = c .before in let after-if2 = after-if3 .before .before in let after-check-shapes = after-if2 .before in
     let after-if1 = after-check-shapes .before in let after-check-sizes = after-if1 .before in
     let start = after-check-sizes .before .before .before .before in
-    start .args in form-passes (a .z .size) (a .z .s) (a .z .c) (a .z .t) (now (a .tiles)) (now (a .colours)) (now (a .counts)) (a .room) _ (after-check-sizes .check-sizes .ensures) (after-if1 .if1 .left) _ (after-check-shapes .check-shapes .ensures) (after-if2 .if2 .left) (a .palette) (after-if3 .if3 .left) (c .if4 .left)
+    start .args in form-passes (a .z .size) (a .z .s) (a .z .c) (a .z .t) (now (a .tiles)) (now (a .colours)) (now (a .counts)) (a .room) _
+    (after-check-sizes .check-sizes .ensures) (after-if1 .if1 .left) _ (after-check-shapes .check-shapes .ensures) (after-if2 .if2 .left) (a .palette)
+    (after-if3 .if3 .left) (c .if4 .left)
 
 pub check-form-spec : {M : Type 1} → statement M
 check-form-spec =

@@ -15,7 +15,8 @@ returns c = sampled-form _ _ _ _ _ (c .before .check-sampled-form .ensures) (c .
 check-tables-requires : tie.Need-check-tables-requires
 check-tables-requires c κs = let a =
     let after-check-sampled-form = c .before in let start = after-check-sampled-form .before .before .before .before .before in
-    start .args in sampled-table (a .z .size) (a .z .s) (a .z .c) (a .z .t) (now (a .tiles)) (now (a .colours)) (now (a .counts)) (a .room) _ (c .if1 .left) (a .z .n) (length (now (a .samples))) (after-check-sampled-form .check-sampled-form .ensures)
+    start .args in sampled-table (a .z .size) (a .z .s) (a .z .c) (a .z .t) (now (a .tiles)) (now (a .colours)) (now (a .counts)) (a .room) _ (c .if1 .left) (a .z .n)
+    (length (now (a .samples))) (after-check-sampled-form .check-sampled-form .ensures)
 
 returns-2 : tie.Need-returns-2
 returns-2 c = sampled-tables _ _ _ _ _ (c .before .before .before .check-sampled-form .ensures) (c .before .before .if1 .left) _ (c .before .check-tables .ensures) (c .if2 .taken)
@@ -24,7 +25,13 @@ check-places-requires : tie.Need-check-places-requires
 check-places-requires c κs = let a =
     let after-if1 = c .before .before in let after-check-sampled-form = after-if1 .before in
     let start = after-check-sampled-form .before .before .before .before .before in
-    start .args in (sampled-table (a .z .size) (a .z .s) (a .z .c) (a .z .t) (now (a .tiles)) (now (a .colours)) (now (a .counts)) (a .room) _ (after-if1 .if1 .left) (a .z .n) (length (now (a .samples))) (after-check-sampled-form .check-sampled-form .ensures), sampled-pairs (a .z .size) (a .z .s) (a .z .c) (a .z .t) (now (a .tiles)) (now (a .colours)) (now (a .counts)) (a .room) _ (after-if1 .if1 .left) (a .z .n) (length (now (a .samples))) (after-check-sampled-form .check-sampled-form .ensures))
+    start .args in (
+      sampled-table (a .z .size) (a .z .s) (a .z .c) (a .z .t) (now (a .tiles)) (now (a .colours)) (now (a .counts)) (a .room) _ (after-if1 .if1 .left)
+          (a .z .n) (length (now (a .samples))) (after-check-sampled-form .check-sampled-form .ensures),
+      sampled-pairs (a .z .size) (a .z .s) (a .z .c) (a .z .t)
+          (now (a .tiles)) (now (a .colours)) (now (a .counts)) (a .room) _ (after-if1 .if1 .left) (a .z .n) (length (now (a .samples)))
+          (after-check-sampled-form .check-sampled-form .ensures),
+    )
 
 returns-3 : tie.Need-returns-3
 returns-3 c =

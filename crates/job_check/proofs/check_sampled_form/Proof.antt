@@ -17,7 +17,8 @@ returns c = let a =
 returns-2 : tie.Need-returns-2
 returns-2 c = let a =
     let after-if1 = c .before .before in let after-check-sizes = after-if1 .before in let start = after-check-sizes .before .before .before .before in
-    start .args in sampled-many (a .z .size) (a .z .s) (a .z .c) (a .z .t) (now (a .tiles)) (now (a .colours)) (now (a .counts)) (a .room) _ (after-check-sizes .check-sizes .ensures) (after-if1 .if1 .left) (a .z .n) (a .samples) (c .if2 .taken)
+    start .args in sampled-many (a .z .size) (a .z .s) (a .z .c) (a .z .t) (now (a .tiles)) (now (a .colours)) (now (a .counts)) (a .room) _
+    (after-check-sizes .check-sizes .ensures) (after-if1 .if1 .left) (a .z .n) (a .samples) (c .if2 .taken)
 
 check-shapes-requires : tie.Need-check-shapes-requires
 check-shapes-requires c κs = sizes-of _ _ _ _ _ (c .before .before .before .check-sizes .ensures) (c .before .before .if1 .left) .tiles
@@ -26,7 +27,9 @@ returns-3 : tie.Need-returns-3
 returns-3 c = let a =
     let after-check-shapes = c .before in let after-if2 = after-check-shapes .before in let after-if1 = after-if2 .before .before in
     let after-check-sizes = after-if1 .before in let start = after-check-sizes .before .before .before .before in
-    start .args in sampled-shapes (a .z .size) (a .z .s) (a .z .c) (a .z .t) (now (a .tiles)) (now (a .colours)) (now (a .counts)) (a .room) _ (after-check-sizes .check-sizes .ensures) (after-if1 .if1 .left) (a .z .n) (a .samples) (after-if2 .if2 .left) _ (after-check-shapes .check-shapes .ensures) (c .if3 .taken)
+    start .args in sampled-shapes (a .z .size) (a .z .s) (a .z .c) (a .z .t) (now (a .tiles)) (now (a .colours)) (now (a .counts)) (a .room) _
+    (after-check-sizes .check-sizes .ensures) (after-if1 .if1 .left) (a .z .n) (a .samples) (after-if2 .if2 .left) _ (after-check-shapes .check-shapes .ensures)
+    (c .if3 .taken)
 
 mul-if4 : tie.Need-mul-if4
 mul-if4 c = search needs
@@ -36,28 +39,36 @@ returns-4 c = let a =
     let after-if3 = c .before .before in let after-check-shapes = after-if3 .before in let after-if2 = after-check-shapes .before in
     let after-if1 = after-if2 .before .before in let after-check-sizes = after-if1 .before in
     let start = after-check-sizes .before .before .before .before in
-    start .args in sampled-unpaired (a .z .size) (a .z .s) (a .z .c) (a .z .t) (now (a .tiles)) (now (a .colours)) (now (a .counts)) (a .room) _ (after-check-sizes .check-sizes .ensures) (after-if1 .if1 .left) _ (after-check-shapes .check-shapes .ensures) (after-if3 .if3 .left) (a .z .n) (a .samples) (after-if2 .if2 .left) (c .if4 .taken)
+    start .args in sampled-unpaired (a .z .size) (a .z .s) (a .z .c) (a .z .t) (now (a .tiles)) (now (a .colours)) (now (a .counts)) (a .room) _
+    (after-check-sizes .check-sizes .ensures) (after-if1 .if1 .left) _ (after-check-shapes .check-shapes .ensures) (after-if3 .if3 .left) (a .z .n) (a .samples)
+    (after-if2 .if2 .left) (c .if4 .taken)
 
 returns-5 : tie.Need-returns-5
 returns-5 c = let a =
     let after-if4 = c .before in let after-if3 = after-if4 .before .before in let after-check-shapes = after-if3 .before in
     let after-if2 = after-check-shapes .before in let after-if1 = after-if2 .before .before in let after-check-sizes = after-if1 .before in
     let start = after-check-sizes .before .before .before .before in
-    start .args in sampled-room (a .z .size) (a .z .s) (a .z .c) (a .z .t) (now (a .tiles)) (now (a .colours)) (now (a .counts)) (a .room) _ (after-check-sizes .check-sizes .ensures) (after-if1 .if1 .left) _ (after-check-shapes .check-shapes .ensures) (after-if3 .if3 .left) (a .z .n) (a .samples) (after-if2 .if2 .left) (after-if4 .if4 .left) (c .if5 .taken)
+    start .args in sampled-room (a .z .size) (a .z .s) (a .z .c) (a .z .t) (now (a .tiles)) (now (a .colours)) (now (a .counts)) (a .room) _
+    (after-check-sizes .check-sizes .ensures) (after-if1 .if1 .left) _ (after-check-shapes .check-shapes .ensures) (after-if3 .if3 .left) (a .z .n) (a .samples)
+    (after-if2 .if2 .left) (after-if4 .if4 .left) (c .if5 .taken)
 
 returns-6 : tie.Need-returns-6
 returns-6 c = let a =
     let after-if5 = c .before .before in let after-if4 = after-if5 .before in let after-if3 = after-if4 .before .before in
     let after-check-shapes = after-if3 .before in let after-if2 = after-check-shapes .before in let after-if1 = after-if2 .before .before in
     let after-check-sizes = after-if1 .before in let start = after-check-sizes .before .before .before .before in
-    start .args in sampled-none (a .z .size) (a .z .s) (a .z .c) (a .z .t) (now (a .tiles)) (now (a .colours)) (now (a .counts)) (a .room) _ (after-check-sizes .check-sizes .ensures) (after-if1 .if1 .left) _ (after-check-shapes .check-shapes .ensures) (after-if3 .if3 .left) (a .z .n) (a .samples) (after-if2 .if2 .left) (after-if4 .if4 .left) (after-if5 .if5 .left) (c .if6 .taken)
+    start .args in sampled-none (a .z .size) (a .z .s) (a .z .c) (a .z .t) (now (a .tiles)) (now (a .colours)) (now (a .counts)) (a .room) _
+    (after-check-sizes .check-sizes .ensures) (after-if1 .if1 .left) _ (after-check-shapes .check-shapes .ensures) (after-if3 .if3 .left) (a .z .n) (a .samples)
+    (after-if2 .if2 .left) (after-if4 .if4 .left) (after-if5 .if5 .left) (c .if6 .taken)
 
 returns-7 : tie.Need-returns-7
 returns-7 c = let a =
     let after-if5 = c .before .before in let after-if4 = after-if5 .before in let after-if3 = after-if4 .before .before in
     let after-check-shapes = after-if3 .before in let after-if2 = after-check-shapes .before in let after-if1 = after-if2 .before .before in
     let after-check-sizes = after-if1 .before in let start = after-check-sizes .before .before .before .before in
-    start .args in sampled-passes (a .z .size) (a .z .s) (a .z .c) (a .z .t) (now (a .tiles)) (now (a .colours)) (now (a .counts)) (a .room) _ (after-check-sizes .check-sizes .ensures) (after-if1 .if1 .left) _ (after-check-shapes .check-shapes .ensures) (after-if3 .if3 .left) (a .z .n) (a .samples) (after-if2 .if2 .left) (after-if4 .if4 .left) (after-if5 .if5 .left) (c .if6 .left)
+    start .args in sampled-passes (a .z .size) (a .z .s) (a .z .c) (a .z .t) (now (a .tiles)) (now (a .colours)) (now (a .counts)) (a .room) _
+    (after-check-sizes .check-sizes .ensures) (after-if1 .if1 .left) _ (after-check-shapes .check-shapes .ensures) (after-if3 .if3 .left) (a .z .n) (a .samples)
+    (after-if2 .if2 .left) (after-if4 .if4 .left) (after-if5 .if5 .left) (c .if6 .left)
 
 pub check-sampled-form-spec : {M : Type 1} → statement M
 check-sampled-form-spec =

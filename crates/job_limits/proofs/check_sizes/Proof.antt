@@ -33,14 +33,18 @@ returns-4 c =
     let after-is-among3 = c .before in let after-if3 = after-is-among3 .before in let after-is-among2 = after-if3 .before in
     let after-if2 = after-is-among2 .before in let after-is-among = after-if2 .before in let after-if1 = after-is-among .before in
     let after-is-tile-size = after-if1 .before in
-    passes _ _ _ _ _ (after-is-tile-size .is-tile-size .ensures) (after-if1 .if1 .left) (passes _ _ _ _ _ (after-is-among .is-among .ensures) (after-if2 .if2 .left) (passes _ _ _ _ _ (after-is-among2 .is-among2 .ensures) (after-if3 .if3 .left) (refuses _ _ _ _ (after-is-among3 .is-among3 .ensures) (c .if4 .taken))))
+    passes _ _ _ _ _ (after-is-tile-size .is-tile-size .ensures) (after-if1 .if1 .left)
+    (passes _ _ _ _ _ (after-is-among .is-among .ensures) (after-if2 .if2 .left)
+    (passes _ _ _ _ _ (after-is-among2 .is-among2 .ensures) (after-if3 .if3 .left) (refuses _ _ _ _ (after-is-among3 .is-among3 .ensures) (c .if4 .taken))))
 
 returns-5 : tie.Need-returns-5
 returns-5 c =
     let after-is-among3 = c .before in let after-if3 = after-is-among3 .before in let after-is-among2 = after-if3 .before in
     let after-if2 = after-is-among2 .before in let after-is-among = after-if2 .before in let after-if1 = after-is-among .before in
     let after-is-tile-size = after-if1 .before in
-    passes _ _ _ _ _ (after-is-tile-size .is-tile-size .ensures) (after-if1 .if1 .left) (passes _ _ _ _ _ (after-is-among .is-among .ensures) (after-if2 .if2 .left) (passes _ _ _ _ _ (after-is-among2 .is-among2 .ensures) (after-if3 .if3 .left) (passes _ _ _ _ _ (after-is-among3 .is-among3 .ensures) (c .if4 .left) none)))
+    passes _ _ _ _ _ (after-is-tile-size .is-tile-size .ensures) (after-if1 .if1 .left)
+    (passes _ _ _ _ _ (after-is-among .is-among .ensures) (after-if2 .if2 .left)
+    (passes _ _ _ _ _ (after-is-among2 .is-among2 .ensures) (after-if3 .if3 .left) (passes _ _ _ _ _ (after-is-among3 .is-among3 .ensures) (c .if4 .left) none)))
 
 pub check-sizes-spec : {M : Type 1} → statement M
 check-sizes-spec =

@@ -33,13 +33,17 @@ returns-4 : tie.Need-returns-4
 returns-4 c =
     let after-counts-fit = c .before in let after-if3 = after-counts-fit .before in let after-tiles-fit = after-if3 .before in
     let after-if2 = after-tiles-fit .before in let after-if1 = after-if2 .before in let after-weight-fits = after-if1 .before in
-    passes _ _ _ _ _ (after-weight-fits .weight-fits .ensures) (after-if1 .if1 .left) (skips _ _ _ _ (le-leb _ _ (after-if2 .if2 .left)) (passes _ _ _ _ _ (after-tiles-fit .tiles-fit .ensures) (after-if3 .if3 .left) (refuses _ _ _ _ (after-counts-fit .counts-fit .ensures) (c .if4 .taken))))
+    passes _ _ _ _ _ (after-weight-fits .weight-fits .ensures) (after-if1 .if1 .left)
+    (skips _ _ _ _ (le-leb _ _ (after-if2 .if2 .left))
+    (passes _ _ _ _ _ (after-tiles-fit .tiles-fit .ensures) (after-if3 .if3 .left) (refuses _ _ _ _ (after-counts-fit .counts-fit .ensures) (c .if4 .taken))))
 
 returns-5 : tie.Need-returns-5
 returns-5 c =
     let after-counts-fit = c .before in let after-if3 = after-counts-fit .before in let after-tiles-fit = after-if3 .before in
     let after-if2 = after-tiles-fit .before in let after-if1 = after-if2 .before in let after-weight-fits = after-if1 .before in
-    passes _ _ _ _ _ (after-weight-fits .weight-fits .ensures) (after-if1 .if1 .left) (skips _ _ _ _ (le-leb _ _ (after-if2 .if2 .left)) (passes _ _ _ _ _ (after-tiles-fit .tiles-fit .ensures) (after-if3 .if3 .left) (passes _ _ _ _ _ (after-counts-fit .counts-fit .ensures) (c .if4 .left) none)))
+    passes _ _ _ _ _ (after-weight-fits .weight-fits .ensures) (after-if1 .if1 .left)
+    (skips _ _ _ _ (le-leb _ _ (after-if2 .if2 .left))
+    (passes _ _ _ _ _ (after-tiles-fit .tiles-fit .ensures) (after-if3 .if3 .left) (passes _ _ _ _ _ (after-counts-fit .counts-fit .ensures) (c .if4 .left) none)))
 
 pub check-tables-spec : {M : Type 1} → statement M
 check-tables-spec =

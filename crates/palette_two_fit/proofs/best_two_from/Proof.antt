@@ -60,8 +60,11 @@ loop-less-2 c = omega arith
 loop-again-2 : tie.Need-loop-again-2 Inv-loop μ-loop
 loop-again-2 c =
     let z = c .before .before .before .before .before .before .before .before .before .before .before .before in
-    let o = c .before .before .before .before .before .before in
-    (omega arith, turn-over _ _ _ (z .pre .0) _ (z .pre .1) (omega (arith, z .fits .n)) (o .loop .i) _ (o .loop .inv .1) (omega arith) _ (c .before .before .before .part2 .ensures) (sym (c .enum-told .given .1) ∙ c .before .before .distance-within .ensures))
+    let o = c .before .before .before .before .before .before in (
+      omega arith,
+      turn-over _ _ _ (z .pre .0) _ (z .pre .1) (omega (arith, z .fits .n)) (o .loop .i) _ (o .loop .inv .1) (omega arith) _
+          (c .before .before .before .part2 .ensures) (sym (c .enum-told .given .1) ∙ c .before .before .distance-within .ensures),
+    )
 
 weigh-requires : tie.Need-weigh-requires Inv-loop μ-loop
 weigh-requires c κs = search needs
@@ -77,8 +80,12 @@ loop-again-3 c =
     let after-d = c .before .before in let after-distance-within = after-d .before .before in let after-part2 = after-distance-within .before in
     let after-if1 = after-part2 .before in let after-loop-test = after-if1 .before in
     let z = c .before .before .before .before .before .before .before .before .before .before .before .before .before .before in
-    let o = c .before .before .before .before .before .before .before .before in
-    (omega (arith, after-loop-test .loop-test), turn-weighs _ _ _ (z .pre .0) _ (z .pre .1) (omega (arith, z .fits .n)) (o .loop .i) _ (o .loop .inv .1) (omega (arith, after-loop-test .loop-test)) _ (after-part2 .part2 .ensures) (after-if1 .if1 .left) _ _ (sym (after-d .d .given .1) ∙ after-distance-within .distance-within .ensures) (c .weigh .ensures))
+    let o = c .before .before .before .before .before .before .before .before in (
+      omega (arith, after-loop-test .loop-test),
+      turn-weighs _ _ _ (z .pre .0) _ (z .pre .1) (omega (arith, z .fits .n)) (o .loop .i) _ (o .loop .inv .1)
+          (omega (arith, after-loop-test .loop-test)) _ (after-part2 .part2 .ensures) (after-if1 .if1 .left) _ _
+          (sym (after-d .d .given .1) ∙ after-distance-within .distance-within .ensures) (c .weigh .ensures),
+    )
 
 returns : tie.Need-returns Inv-loop μ-loop
 returns c = let z = c .before .before .before .before .before .before .before in turn-end _ _ _ (z .pre .0) _ (z .pre .1) (omega (arith, z .fits .n)) (c .before .loop .i) _ (omega arith) (omega arith) (c .before .loop .inv .1)
