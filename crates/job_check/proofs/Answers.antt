@@ -12,52 +12,57 @@ use Rattle.job.specs.Checks.{sizeRules, shapeRules, formRules, boundRules, tabl
 use Rattle.job.proofs.Passing.{stops, goes, skips, fails, refuses, passes, none, all-pass}
 use Rattle.job.proofs.Forms.{past-sizes, past-shapes}
 
--- ---- the form of a call: sizes, shapes, and what is its own
-module _ (size s c t : ℕ) (tiles : List ℕ) (colours : List Float) (counts : List ℕ) (room : Bool) where
-  pub form-sizes : (palette a : ℕ) → a ≡ answer (sizeRules size s c t) → (a ≡ 0 → ⊥) → a ≡ answer (formRules size s c t tiles colours counts palette room)
+module _ (J : Job) (room : Bool) where
+  -- ---- the form of a call: sizes, shapes, and what is its own
+  abbrev sizes : List Rule
+  sizes = sizeRules (J .size) (J .S) (J .C) (J .T)
+
+  abbrev shapes : List Rule
+  shapes = shapeRules (J .T) (J .tiles) (J .colours) (J .counts)
+
+  abbrev form : ℕ → List Rule
+  form palette = formRules (J .size) (J .S) (J .C) (J .T) (J .tiles) (J .colours) (J .counts) palette room
+
+  pub form-sizes : (palette a : ℕ) → a ≡ answer sizes → (a ≡ 0 → ⊥) → a ≡ answer (form palette)
   unfolding numbered
-  form-sizes palette a e h = stops (sizeRules size s c t) _ a refl e h
+  form-sizes palette a e h = stops sizes _ a refl e h
 
-  module _ (a : ℕ) (e : a ≡ answer (sizeRules size s c t)) (z : a ≡ 0) where
-    pub form-shapes : (palette b : ℕ) → b ≡ answer (shapeRules t tiles colours counts) → (b ≡ 0 → ⊥) → b ≡ answer (formRules size s c t tiles colours counts palette room)
+  module _ (a : ℕ) (e : a ≡ answer sizes) (z : a ≡ 0) where
+    pub form-shapes : (palette b : ℕ) → b ≡ answer shapes → (b ≡ 0 → ⊥) → b ≡ answer (form palette)
     unfolding numbered
-    form-shapes palette b f h = past-sizes size s c t a e z b _ (stops (shapeRules t tiles colours counts) _ b refl f h)
+    form-shapes palette b f h = past-sizes (J .size) (J .S) (J .C) (J .T) a e z b _ (stops shapes _ b refl f h)
 
-    module _ (b : ℕ) (f : b ≡ answer (shapeRules t tiles colours counts)) (y : b ≡ 0) where
-      past-both : (k : ℕ) (rs : List Rule) → k ≡ answer rs → k ≡ answer (sizeRules size s c t ++ (shapeRules t tiles colours counts ++ rs))
-      past-both k rs h = past-sizes size s c t a e z k _ (past-shapes t tiles colours counts b f y k rs h)
+    module _ (b : ℕ) (f : b ≡ answer shapes) (y : b ≡ 0) where
+      past-both : (k : ℕ) (rs : List Rule) → k ≡ answer rs → k ≡ answer (sizes ++ (shapes ++ rs))
+      past-both k rs h = past-sizes (J .size) (J .S) (J .C) (J .T) a e z k _ (past-shapes (J .T) (J .tiles) (J .colours) (J .counts) b f y k rs h)
 
       module _ (palette : ℕ) where
-        pub form-palette : (palette ≡ 3 * (s * c) → ⊥) → 3 ≡ answer (formRules size s c t tiles colours counts palette room)
+        pub form-palette : (palette ≡ 3 * (J .S * J .C) → ⊥) → 3 ≡ answer (form palette)
         form-palette h = past-both 3 _ (fails _ _ _ (ne-eqb _ _ h))
 
-        module _ (l : palette ≡ 3 * (s * c)) where
-          pub form-room : not room ≡ true → 3 ≡ answer (formRules size s c t tiles colours counts palette room)
+        module _ (l : palette ≡ 3 * (J .S * J .C)) where
+          pub form-room : not room ≡ true → 3 ≡ answer (form palette)
           form-room h = past-both 3 _ (skips _ _ _ _ (eq-eqb _ _ l) (refuses _ _ room _ refl h))
 
-          pub form-passes : not room ≡ false → 0 ≡ answer (formRules size s c t tiles colours counts palette room)
+          pub form-passes : not room ≡ false → 0 ≡ answer (form palette)
           form-passes h = past-both 0 _ (skips _ _ _ _ (eq-eqb _ _ l) (passes _ _ _ _ _ refl h none))
 
   -- what a form that passed says of the slices
-  pub form-table : (a : ℕ) → a ≡ 0 → (palette : ℕ) → a ≡ answer (formRules size s c t tiles colours counts palette room) → length tiles ≡ 2 * t
+  pub form-table : (a : ℕ) → a ≡ 0 → (palette : ℕ) → a ≡ answer (form palette) → length (J .tiles) ≡ 2 * J .T
   unfolding numbered
-  form-table a z palette e = eqb-true (length tiles) (2 * t) (all-pass (formRules size s c t tiles colours counts palette room) refl (sym e ∙ z) .1 .1 .1 .1 .0)
+  form-table a z palette e = eqb-true (length (J .tiles)) (2 * J .T) (all-pass (form palette) refl (sym e ∙ z) .1 .1 .1 .1 .0)
 
--- ---- a call: its form, its tables, its numbers
-module _ (J : Job) (palette : List Float) (room : Bool) where
-  abbrev form : List Rule
-  form = formRules (J .size) (J .S) (J .C) (J .T) (J .tiles) (J .colours) (J .counts) (length palette) room
-
-  module _ (a : ℕ) (e : a ≡ answer form) where
+  -- ---- a call: its form, its tables, its numbers
+  module _ (palette : List Float) (a : ℕ) (e : a ≡ answer (form (length palette))) where
     pub plain-form : (a ≡ 0 → ⊥) → a ≡ plainAnswer J palette room
     unfolding plainAnswer numbered
-    plain-form h = stops form _ a refl e h
+    plain-form h = stops (form (length palette)) _ a refl e h
 
     module _ (z : a ≡ 0) (b : ℕ) (f : b ≡ answer (tables J)) where
       pub plain-tables : (b ≡ 0 → ⊥) → b ≡ plainAnswer J palette room
       unfolding plainAnswer numbered
-      plain-tables h = goes form _ a b refl e z (stops (tables J) _ b refl f h)
+      plain-tables h = goes (form (length palette)) _ a b refl e z (stops (tables J) _ b refl f h)
 
       pub plain-bounds : b ≡ 0 → (d : ℕ) → d ≡ answer (boundRules palette (J .colours)) → d ≡ plainAnswer J palette room
       unfolding plainAnswer numbered
-      plain-bounds y d g = goes form _ a d refl e z (goes (tables J) _ b d refl f y g)
+      plain-bounds y d g = goes (form (length palette)) _ a d refl e z (goes (tables J) _ b d refl f y g)

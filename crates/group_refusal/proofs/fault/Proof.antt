@@ -33,10 +33,10 @@ returns-2 c =
     (else _ _ _ _ (told inGamut (after-colour .colour .ensures) (after-in-gamut .in-gamut .ensures) (not-true _ (c .if2 .taken))) refl)
 
 clashes-requires : tie.Need-clashes-requires
-clashes-requires c κs = let p =
+clashes-requires c κs =
     let after-in-gamut = c .before in let after-colour = after-in-gamut .before in let after-if1 = after-colour .before in
     let after-is-kept = after-if1 .before in let after-rgba-at = after-is-kept .before in let start = after-rgba-at .before .before .before in
-    start .pre in (
+    let p = start .pre in (
       p .1,
       record {
         there = p .0;

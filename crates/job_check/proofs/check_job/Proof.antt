@@ -1,5 +1,6 @@
 -- `job_check::check_job` meets its contract, return by return: each is a law of proofs/Answers.antt. Assumes nothing.
 use denote.Ref.{now}
+use Rattle.job.specs.Job.{jobOf}
 use lib.ListN.{length}
 use Rattle.job_check.proofs.Answers.{form-table, plain-form, plain-tables, plain-bounds}
 use borrow.Author.Needs.{needs}
@@ -13,9 +14,10 @@ returns : tie.Need-returns
 returns c = plain-form _ _ _ _ (c .before .check-form .ensures) (c .if1 .taken)
 
 check-tables-requires : tie.Need-check-tables-requires
-check-tables-requires c κs = let a =
+check-tables-requires c κs =
     let after-check-form = c .before in let start = after-check-form .before .before .before .before .before in
-    start .args in form-table (a .z .size) (a .z .s) (a .z .c) (a .z .t) (now (a .tiles)) (now (a .colours)) (now (a .counts)) (a .room) _ (c .if1 .left) (length (now (a .palette))) (after-check-form .check-form .ensures)
+    let a = start .args in let J = jobOf (a .z) (now (a .tiles)) (now (a .colours)) (now (a .counts)) in
+    form-table J (a .room) _ (c .if1 .left) (length (now (a .palette))) (after-check-form .check-form .ensures)
 
 returns-2 : tie.Need-returns-2
 returns-2 c = plain-tables _ _ _ _ (c .before .before .before .check-form .ensures) (c .before .before .if1 .left) _ (c .before .check-tables .ensures) (c .if2 .taken)

@@ -1,5 +1,6 @@
--- `job_check::check_sampled` meets its contract, return by return: each is a law of proofs/Answers.antt. Assumes nothing.
+-- `job_check::check_sampled` meets its contract, return by return: each is a law of proofs/SampledAnswers.antt. Assumes nothing.
 use denote.Ref.{now}
+use Rattle.job.specs.Job.{jobOf}
 use lib.ListN.{length}
 use Rattle.job_check.proofs.SampledAnswers.{sampled-table, sampled-pairs, sampled-form, sampled-tables, sampled-places}
 use borrow.Author.Needs.{needs}
@@ -13,23 +14,23 @@ returns : tie.Need-returns
 returns c = sampled-form _ _ _ _ _ (c .before .check-sampled-form .ensures) (c .if1 .taken)
 
 check-tables-requires : tie.Need-check-tables-requires
-check-tables-requires c κs = let a =
+check-tables-requires c κs =
     let after-check-sampled-form = c .before in let start = after-check-sampled-form .before .before .before .before .before in
-    start .args in sampled-table (a .z .size) (a .z .s) (a .z .c) (a .z .t) (now (a .tiles)) (now (a .colours)) (now (a .counts)) (a .room) _ (c .if1 .left) (a .z .n)
+    let a = start .args in let J = jobOf (a .z) (now (a .tiles)) (now (a .colours)) (now (a .counts)) in
+    sampled-table J (a .z .n) (a .room) _ (c .if1 .left)
     (length (now (a .samples))) (after-check-sampled-form .check-sampled-form .ensures)
 
 returns-2 : tie.Need-returns-2
 returns-2 c = sampled-tables _ _ _ _ _ (c .before .before .before .check-sampled-form .ensures) (c .before .before .if1 .left) _ (c .before .check-tables .ensures) (c .if2 .taken)
 
 check-places-requires : tie.Need-check-places-requires
-check-places-requires c κs = let a =
+check-places-requires c κs =
     let after-if1 = c .before .before in let after-check-sampled-form = after-if1 .before in
     let start = after-check-sampled-form .before .before .before .before .before in
-    start .args in (
-      sampled-table (a .z .size) (a .z .s) (a .z .c) (a .z .t) (now (a .tiles)) (now (a .colours)) (now (a .counts)) (a .room) _ (after-if1 .if1 .left)
-          (a .z .n) (length (now (a .samples))) (after-check-sampled-form .check-sampled-form .ensures),
-      sampled-pairs (a .z .size) (a .z .s) (a .z .c) (a .z .t)
-          (now (a .tiles)) (now (a .colours)) (now (a .counts)) (a .room) _ (after-if1 .if1 .left) (a .z .n) (length (now (a .samples)))
+    let a = start .args in let J = jobOf (a .z) (now (a .tiles)) (now (a .colours)) (now (a .counts)) in (
+      sampled-table J (a .z .n) (a .room) _ (after-if1 .if1 .left)
+          (length (now (a .samples))) (after-check-sampled-form .check-sampled-form .ensures),
+      sampled-pairs J (a .z .n) (a .room) _ (after-if1 .if1 .left) (length (now (a .samples)))
           (after-check-sampled-form .check-sampled-form .ensures),
     )
 

@@ -1,5 +1,6 @@
--- `job_check::check_sampled_form` meets its contract, return by return: each is a law of proofs/Answers.antt. Assumes nothing.
+-- `job_check::check_sampled_form` meets its contract, return by return: each is a law of proofs/SampledAnswers.antt. Assumes nothing.
 use denote.Ref.{now}
+use Rattle.job.specs.Job.{jobOf}
 use Rattle.job.proofs.Ready.{sizes-of}
 use Rattle.job_check.proofs.SampledAnswers.{sampled-sizes, sampled-many, sampled-shapes, sampled-unpaired, sampled-room, sampled-none, sampled-passes}
 use borrow.Author.Needs.{needs}
@@ -10,65 +11,62 @@ check-sizes-requires : tie.Need-check-sizes-requires
 check-sizes-requires c κs = search needs
 
 returns : tie.Need-returns
-returns c = let a =
-    let after-check-sizes = c .before in let start = after-check-sizes .before .before .before .before in
-    start .args in sampled-sizes (a .z .size) (a .z .s) (a .z .c) (a .z .t) (now (a .tiles)) (now (a .colours)) (now (a .counts)) (a .room) (a .z .n) (a .samples) _ (after-check-sizes .check-sizes .ensures) (c .if1 .taken)
+returns c =
+    let sized = c .before in
+    let a = sized .before .before .before .before .args in
+    sampled-sizes (jobOf (a .z) (now (a .tiles)) (now (a .colours)) (now (a .counts))) (a .z .n) (a .room) (a .samples) _ (sized .check-sizes .ensures) (c .if1 .taken)
 
 returns-2 : tie.Need-returns-2
-returns-2 c = let a =
-    let after-if1 = c .before .before in let after-check-sizes = after-if1 .before in let start = after-check-sizes .before .before .before .before in
-    start .args in sampled-many (a .z .size) (a .z .s) (a .z .c) (a .z .t) (now (a .tiles)) (now (a .colours)) (now (a .counts)) (a .room) _
-    (after-check-sizes .check-sizes .ensures) (after-if1 .if1 .left) (a .z .n) (a .samples) (c .if2 .taken)
+returns-2 c =
+    let after-if1 = c .before .before in let sized = after-if1 .before in
+    let a = sized .before .before .before .before .args in
+    sampled-many (jobOf (a .z) (now (a .tiles)) (now (a .colours)) (now (a .counts))) (a .z .n) (a .room) (a .samples) _ (sized .check-sizes .ensures)
+    (after-if1 .if1 .left) (c .if2 .taken)
 
 check-shapes-requires : tie.Need-check-shapes-requires
 check-shapes-requires c κs = sizes-of _ _ _ _ _ (c .before .before .before .check-sizes .ensures) (c .before .before .if1 .left) .tiles
 
 returns-3 : tie.Need-returns-3
-returns-3 c = let a =
-    let after-check-shapes = c .before in let after-if2 = after-check-shapes .before in let after-if1 = after-if2 .before .before in
-    let after-check-sizes = after-if1 .before in let start = after-check-sizes .before .before .before .before in
-    start .args in sampled-shapes (a .z .size) (a .z .s) (a .z .c) (a .z .t) (now (a .tiles)) (now (a .colours)) (now (a .counts)) (a .room) _
-    (after-check-sizes .check-sizes .ensures) (after-if1 .if1 .left) (a .z .n) (a .samples) (after-if2 .if2 .left) _ (after-check-shapes .check-shapes .ensures)
-    (c .if3 .taken)
+returns-3 c =
+    let shaped = c .before in let after-if2 = shaped .before in let after-if1 = after-if2 .before .before in let sized = after-if1 .before in
+    let a = sized .before .before .before .before .args in
+    sampled-shapes (jobOf (a .z) (now (a .tiles)) (now (a .colours)) (now (a .counts))) (a .z .n) (a .room) (a .samples) _ (sized .check-sizes .ensures)
+    (after-if1 .if1 .left) (after-if2 .if2 .left) _ (shaped .check-shapes .ensures) (c .if3 .taken)
 
 mul-if4 : tie.Need-mul-if4
 mul-if4 c = search needs
 
 returns-4 : tie.Need-returns-4
-returns-4 c = let a =
-    let after-if3 = c .before .before in let after-check-shapes = after-if3 .before in let after-if2 = after-check-shapes .before in
-    let after-if1 = after-if2 .before .before in let after-check-sizes = after-if1 .before in
-    let start = after-check-sizes .before .before .before .before in
-    start .args in sampled-unpaired (a .z .size) (a .z .s) (a .z .c) (a .z .t) (now (a .tiles)) (now (a .colours)) (now (a .counts)) (a .room) _
-    (after-check-sizes .check-sizes .ensures) (after-if1 .if1 .left) _ (after-check-shapes .check-shapes .ensures) (after-if3 .if3 .left) (a .z .n) (a .samples)
-    (after-if2 .if2 .left) (c .if4 .taken)
+returns-4 c =
+    let after-if3 = c .before .before in
+    let shaped = after-if3 .before in let after-if2 = shaped .before in let after-if1 = after-if2 .before .before in let sized = after-if1 .before in
+    let a = sized .before .before .before .before .args in
+    sampled-unpaired (jobOf (a .z) (now (a .tiles)) (now (a .colours)) (now (a .counts))) (a .z .n) (a .room) (a .samples) _ (sized .check-sizes .ensures)
+    (after-if1 .if1 .left) (after-if2 .if2 .left) _ (shaped .check-shapes .ensures) (after-if3 .if3 .left) (c .if4 .taken)
 
 returns-5 : tie.Need-returns-5
-returns-5 c = let a =
-    let after-if4 = c .before in let after-if3 = after-if4 .before .before in let after-check-shapes = after-if3 .before in
-    let after-if2 = after-check-shapes .before in let after-if1 = after-if2 .before .before in let after-check-sizes = after-if1 .before in
-    let start = after-check-sizes .before .before .before .before in
-    start .args in sampled-room (a .z .size) (a .z .s) (a .z .c) (a .z .t) (now (a .tiles)) (now (a .colours)) (now (a .counts)) (a .room) _
-    (after-check-sizes .check-sizes .ensures) (after-if1 .if1 .left) _ (after-check-shapes .check-shapes .ensures) (after-if3 .if3 .left) (a .z .n) (a .samples)
-    (after-if2 .if2 .left) (after-if4 .if4 .left) (c .if5 .taken)
+returns-5 c =
+    let after-if4 = c .before in let after-if3 = after-if4 .before .before in
+    let shaped = after-if3 .before in let after-if2 = shaped .before in let after-if1 = after-if2 .before .before in let sized = after-if1 .before in
+    let a = sized .before .before .before .before .args in
+    sampled-room (jobOf (a .z) (now (a .tiles)) (now (a .colours)) (now (a .counts))) (a .z .n) (a .room) (a .samples) _ (sized .check-sizes .ensures)
+    (after-if1 .if1 .left) (after-if2 .if2 .left) _ (shaped .check-shapes .ensures) (after-if3 .if3 .left) (after-if4 .if4 .left) (c .if5 .taken)
 
 returns-6 : tie.Need-returns-6
-returns-6 c = let a =
+returns-6 c =
     let after-if5 = c .before .before in let after-if4 = after-if5 .before in let after-if3 = after-if4 .before .before in
-    let after-check-shapes = after-if3 .before in let after-if2 = after-check-shapes .before in let after-if1 = after-if2 .before .before in
-    let after-check-sizes = after-if1 .before in let start = after-check-sizes .before .before .before .before in
-    start .args in sampled-none (a .z .size) (a .z .s) (a .z .c) (a .z .t) (now (a .tiles)) (now (a .colours)) (now (a .counts)) (a .room) _
-    (after-check-sizes .check-sizes .ensures) (after-if1 .if1 .left) _ (after-check-shapes .check-shapes .ensures) (after-if3 .if3 .left) (a .z .n) (a .samples)
-    (after-if2 .if2 .left) (after-if4 .if4 .left) (after-if5 .if5 .left) (c .if6 .taken)
+    let shaped = after-if3 .before in let after-if2 = shaped .before in let after-if1 = after-if2 .before .before in let sized = after-if1 .before in
+    let a = sized .before .before .before .before .args in
+    sampled-none (jobOf (a .z) (now (a .tiles)) (now (a .colours)) (now (a .counts))) (a .z .n) (a .room) (a .samples) _ (sized .check-sizes .ensures)
+    (after-if1 .if1 .left) (after-if2 .if2 .left) _ (shaped .check-shapes .ensures) (after-if3 .if3 .left) (after-if4 .if4 .left) (after-if5 .if5 .left) (c .if6 .taken)
 
 returns-7 : tie.Need-returns-7
-returns-7 c = let a =
+returns-7 c =
     let after-if5 = c .before .before in let after-if4 = after-if5 .before in let after-if3 = after-if4 .before .before in
-    let after-check-shapes = after-if3 .before in let after-if2 = after-check-shapes .before in let after-if1 = after-if2 .before .before in
-    let after-check-sizes = after-if1 .before in let start = after-check-sizes .before .before .before .before in
-    start .args in sampled-passes (a .z .size) (a .z .s) (a .z .c) (a .z .t) (now (a .tiles)) (now (a .colours)) (now (a .counts)) (a .room) _
-    (after-check-sizes .check-sizes .ensures) (after-if1 .if1 .left) _ (after-check-shapes .check-shapes .ensures) (after-if3 .if3 .left) (a .z .n) (a .samples)
-    (after-if2 .if2 .left) (after-if4 .if4 .left) (after-if5 .if5 .left) (c .if6 .left)
+    let shaped = after-if3 .before in let after-if2 = shaped .before in let after-if1 = after-if2 .before .before in let sized = after-if1 .before in
+    let a = sized .before .before .before .before .args in
+    sampled-passes (jobOf (a .z) (now (a .tiles)) (now (a .colours)) (now (a .counts))) (a .z .n) (a .room) (a .samples) _ (sized .check-sizes .ensures)
+    (after-if1 .if1 .left) (after-if2 .if2 .left) _ (shaped .check-shapes .ensures) (after-if3 .if3 .left) (after-if4 .if4 .left) (after-if5 .if5 .left) (c .if6 .left)
 
 pub check-sampled-form-spec : {M : Type 1} → statement M
 check-sampled-form-spec =
