@@ -10,7 +10,7 @@ use lib.Dec.{ltb}
 use lib.Ieee.{Float, Format, lt, eq}
 use borrow.Author.Tests.{lt-ltb, le-ltb, eq-eqb, ne-eqb, ltb-true, ltb-false, eqb-true, eqb-false}
 use Rattle.lists.proofs.Tests.{and-l, and-r, and-i, and-no-l, and-case, or-l, or-r, or-case, or-none, or-no}
-use Rattle.ieee.specs.Terms.{key, Good, key32, rankOf, rank, over}
+use Rattle.ieee.specs.Terms.{key, Good, rankOf, over}
 use Rattle.ieee.proofs.Keys.{lt-key, eq-key}
 
 -- ---- the answers of tests, as facts of keys

@@ -1,6 +1,6 @@
 // A job's sizes by value, its tiles as parts of what is lent, and the test of its components. Assumes nothing.
 ghost use mathlib.Core.Path.{_≡_};
-ghost use Prim.Native.Nat.{ℕ, _+_, _*_, _<_};
+ghost use Prim.Native.Nat.{_+_, _*_, _<_};
 ghost use lib.Dec.{eqb};
 ghost use lib.ListN.{length};
 ghost use Rattle.job.specs.Job.{sizesOf, firstOf, sizeOf, coloursPart, countsPart, Placed};

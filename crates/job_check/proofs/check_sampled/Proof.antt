@@ -1,8 +1,8 @@
--- `job_check::check_sampled` meets its contract, return by return: each is a law of proofs/SampledAnswers.antt. Assumes nothing.
+-- `job_check::check_sampled` meets its contract, return by return: each is a law of proofs/Answers.antt. Assumes nothing.
 use denote.Ref.{now}
 use Rattle.job.specs.Job.{jobOf}
 use lib.ListN.{length}
-use Rattle.job_check.proofs.SampledAnswers.{sampled-table, sampled-pairs, sampled-form, sampled-tables, sampled-places}
+use Rattle.job_check.proofs.Answers.{sampled-table, sampled-pairs, sampled-form, sampled-tables, sampled-places}
 use borrow.Author.Needs.{needs}
 use Rattle.job_check.proofs.check_sampled.Statement.{statement}
 use Rattle.job_check.proofs.check_sampled.Tie as tie
@@ -17,7 +17,7 @@ check-tables-requires : tie.Need-check-tables-requires
 check-tables-requires c κs =
     let after-check-sampled-form = c .before in let start = after-check-sampled-form .before .before .before .before .before in
     let a = start .args in let J = jobOf (a .z) (now (a .tiles)) (now (a .colours)) (now (a .counts)) in
-    sampled-table J (a .z .n) (a .room) _ (c .if1 .left)
+    sampled-table J (a .room) (a .z .n) _ (c .if1 .left)
     (length (now (a .samples))) (after-check-sampled-form .check-sampled-form .ensures)
 
 returns-2 : tie.Need-returns-2
@@ -28,9 +28,9 @@ check-places-requires c κs =
     let after-if1 = c .before .before in let after-check-sampled-form = after-if1 .before in
     let start = after-check-sampled-form .before .before .before .before .before in
     let a = start .args in let J = jobOf (a .z) (now (a .tiles)) (now (a .colours)) (now (a .counts)) in (
-      sampled-table J (a .z .n) (a .room) _ (after-if1 .if1 .left)
+      sampled-table J (a .room) (a .z .n) _ (after-if1 .if1 .left)
           (length (now (a .samples))) (after-check-sampled-form .check-sampled-form .ensures),
-      sampled-pairs J (a .z .n) (a .room) _ (after-if1 .if1 .left) (length (now (a .samples)))
+      sampled-pairs J (a .room) (a .z .n) _ (after-if1 .if1 .left) (length (now (a .samples)))
           (after-check-sampled-form .check-sampled-form .ensures),
     )
 
