@@ -26,9 +26,7 @@ shared-slice-read-total-key : tie.Need-shared-slice-read-total-key Inv-loop μ-l
 shared-slice-read-total-key c = omega arith
 
 total-key-requires : tie.Need-total-key-requires Inv-loop μ-loop
-total-key-requires c κs =
-    let after-loop = c .before .before in let start = after-loop .before .before in
-    start .pre (after-loop .loop .i) (omega arith)
+total-key-requires c κs = c .before .before .before .before .pre (c .before .before .loop .i) (omega arith)
 
 mul-total-key-2 : tie.Need-mul-total-key-2 Inv-loop μ-loop
 mul-total-key-2 c = omega arith
@@ -37,9 +35,7 @@ shared-slice-read-total-key-2 : tie.Need-shared-slice-read-total-key-2 Inv-loop 
 shared-slice-read-total-key-2 c = omega arith
 
 total-key-requires-2 : tie.Need-total-key-requires-2 Inv-loop μ-loop
-total-key-requires-2 c κs =
-    let after-loop = c .before .before .before .before in let start = after-loop .before .before in
-    start .pre (after-loop .loop .best) (omega arith)
+total-key-requires-2 c κs = c .before .before .before .before .before .before .pre (c .before .before .before .before .loop .best) (omega arith)
 
 add-i : tie.Need-add-i Inv-loop μ-loop
 add-i c = omega arith

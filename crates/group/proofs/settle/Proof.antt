@@ -52,10 +52,8 @@ same-length-3 : tie.Need-same-length-3
 same-length-3 c = search needs
 
 returns-2 : tie.Need-returns-2
-returns-2 c =
-    let after-if2 = c .before in let after-position = after-if2 .before in let after-if1 = after-position .before .before in
-    let after-is-kept = after-if1 .before in let after-rgba-at = after-is-kept .before in
-    turn-joins _ _ _ _ _ _ (after-rgba-at .rgba-at .ensures) (after-is-kept .is-kept .ensures) (not-false _ (after-if1 .if1 .left)) _ (after-position .position .ensures) (after-if2 .if2 .taken)
+returns-2 c = turn-joins _ _ _ _ _ _ (c .before .before .before .before .before .before .rgba-at .ensures) (c .before .before .before .before .before .is-kept .ensures)
+    (not-false _ (c .before .before .before .before .if1 .left)) _ (c .before .before .position .ensures) (c .before .if2 .taken)
 
 put-rgba-requires : tie.Need-put-rgba-requires
 put-rgba-requires c κs = search needs

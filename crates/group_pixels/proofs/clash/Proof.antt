@@ -31,21 +31,18 @@ colour-requires-2 c κs = search needs
 
 same-bits-requires : tie.Need-same-bits-requires
 same-bits-requires c κs =
-    let after-colour = c .before in let after-if1 = after-colour .before in let after-same-bytes = after-if1 .before in
-    let after-rgba-at2 = after-same-bytes .before in let after-rgba-at = after-rgba-at2 .before in
     let s = c .before .before .before .before .before .before .before .before in
     let k = s .pre .2 in
-    let same = same-told (after-rgba-at .rgba-at .ensures) (after-rgba-at2 .rgba-at2 .ensures) (after-same-bytes .same-bytes .ensures) (not-false _ (after-if1 .if1 .left)) in
-    (ap inGamut (after-colour .colour .ensures) ∙ s .pre .1 (same-kept _ _ _ same ∙ k .is-kept), ap inGamut (c .colour2 .ensures) ∙ k .is-real)
+    let same = same-told (c .before .before .before .before .before .rgba-at .ensures) (c .before .before .before .before .rgba-at2 .ensures) (c .before .before .before .same-bytes .ensures) (not-false _ (c .before .before .if1 .left)) in
+    (ap inGamut (c .before .colour .ensures) ∙ s .pre .1 (same-kept _ _ _ same ∙ k .is-kept), ap inGamut (c .colour2 .ensures) ∙ k .is-real)
 
 returns-2 : tie.Need-returns-2
 unfolding clash
 returns-2 c =
-    let after-colour2 = c .before in let after-colour = after-colour2 .before in let after-if1 = after-colour .before in
-    let after-same-bytes = after-if1 .before in let after-rgba-at2 = after-same-bytes .before in let after-rgba-at = after-rgba-at2 .before in
     sym
-    (on (same-told (after-rgba-at .rgba-at .ensures) (after-rgba-at2 .rgba-at2 .ensures) (after-same-bytes .same-bytes .ensures) (not-false _ (after-if1 .if1 .left)))
-    (bits-told (after-colour .colour .ensures) (after-colour2 .colour2 .ensures) (c .same-bits .ensures)))
+    (on (same-told (c .before .before .before .before .before .before .rgba-at .ensures) (c .before .before .before .before .before .rgba-at2 .ensures)
+    (c .before .before .before .before .same-bytes .ensures) (not-false _ (c .before .before .before .if1 .left)))
+    (bits-told (c .before .before .colour .ensures) (c .before .colour2 .ensures) (c .same-bits .ensures)))
 
 pub clash-spec : {M : Type 1} → statement M
 clash-spec =

@@ -27,10 +27,9 @@ is-within-requires-3 c κs = search needs
 
 returns-3 : tie.Need-returns-3
 unfolding inGamut
-returns-3 c =
-    let after-if2 = c .before in let after-is-within2 = after-if2 .before in let after-if1 = after-is-within2 .before in
-    let after-is-within = after-if1 .before in
-    sym (on (sym (after-is-within .is-within .ensures) ∙ not-false _ (after-if1 .if1 .left)) (on (sym (after-is-within2 .is-within2 .ensures) ∙ not-false _ (after-if2 .if2 .left)) (sym (c .is-within3 .ensures))))
+returns-3 c = sym
+    (on (sym (c .before .before .before .before .is-within .ensures) ∙ not-false _ (c .before .before .before .if1 .left))
+    (on (sym (c .before .before .is-within2 .ensures) ∙ not-false _ (c .before .if2 .left)) (sym (c .is-within3 .ensures))))
 
 pub in-gamut-spec : {M : Type 1} → statement M
 in-gamut-spec =

@@ -19,23 +19,17 @@ unfolding sameBits
 returns c = sym (and-no-l _ _ (ne-eqb _ _ (c .if1 .taken)))
 
 float-to-bits-if2 : tie.Need-float-to-bits-if2
-float-to-bits-if2 c =
-    let start = c .before .before .before .before in
-    a-real _ (start .pre .0)
+float-to-bits-if2 c = a-real _ (c .before .before .before .before .pre .0)
 
 float-to-bits-if2-2 : tie.Need-float-to-bits-if2-2
-float-to-bits-if2-2 c =
-    let start = c .before .before .before .before .before in
-    a-real _ (start .pre .1)
+float-to-bits-if2-2 c = a-real _ (c .before .before .before .before .before .pre .1)
 
 returns-2 : tie.Need-returns-2
 unfolding sameBits
 returns-2 c = sym (on (eq-eqb _ _ (c .before .before .before .if1 .left)) (and-no-l _ _ (ne-eqb _ _ (c .if2 .taken))))
 
 float-to-bits-result : tie.Need-float-to-bits-result
-float-to-bits-result c =
-    let start = c .before .before .before .before .before .before .before in
-    b-real _ (start .pre .0)
+float-to-bits-result c = b-real _ (c .before .before .before .before .before .before .before .pre .0)
 
 float-to-bits-result-2 : tie.Need-float-to-bits-result-2
 float-to-bits-result-2 c =
@@ -44,9 +38,7 @@ float-to-bits-result-2 c =
 
 returns-3 : tie.Need-returns-3
 unfolding sameBits
-returns-3 c =
-    let after-if2 = c .before .before in let after-if1 = after-if2 .before .before .before in
-    sym (on (eq-eqb _ _ (after-if1 .if1 .left)) (on (eq-eqb _ _ (after-if2 .if2 .left)) refl))
+returns-3 c = sym (on (eq-eqb _ _ (c .before .before .before .before .before .if1 .left)) (on (eq-eqb _ _ (c .before .before .if2 .left)) refl))
 
 pub same-bits-spec : {M : Type 1} → statement M
 same-bits-spec =

@@ -17,9 +17,7 @@ returns-2 c = sym (on (eq-eqb _ _ (c .before .before .before .if1 .left)) (and-n
 
 returns-3 : tie.Need-returns-3
 unfolding sameBytes
-returns-3 c =
-    let after-if2 = c .before .before .before in let after-if1 = after-if2 .before .before .before in
-    sym (on (eq-eqb _ _ (after-if1 .if1 .left)) (on (eq-eqb _ _ (after-if2 .if2 .left)) (and-no-l _ _ (ne-eqb _ _ (c .if3 .taken)))))
+returns-3 c = sym (on (eq-eqb _ _ (c .before .before .before .before .before .before .if1 .left)) (on (eq-eqb _ _ (c .before .before .before .if2 .left)) (and-no-l _ _ (ne-eqb _ _ (c .if3 .taken)))))
 
 returns-4 : tie.Need-returns-4
 unfolding sameBytes

@@ -26,11 +26,10 @@ in-gamut-requires c κs = search needs
 
 returns-2 : tie.Need-returns-2
 unfolding fault
-returns-2 c =
-    let after-in-gamut = c .before in let after-colour = after-in-gamut .before in let after-if1 = after-colour .before in
-    let after-is-kept = after-if1 .before in let after-rgba-at = after-is-kept .before in
-    then _ _ _ _ (told (kept _) (after-rgba-at .rgba-at .ensures) (after-is-kept .is-kept .ensures) (not-false _ (after-if1 .if1 .left)))
-    (else _ _ _ _ (told inGamut (after-colour .colour .ensures) (after-in-gamut .in-gamut .ensures) (not-true _ (c .if2 .taken))) refl)
+returns-2 c = then _ _ _ _
+    (told (kept _) (c .before .before .before .before .before .rgba-at .ensures) (c .before .before .before .before .is-kept .ensures)
+    (not-false _ (c .before .before .before .if1 .left)))
+    (else _ _ _ _ (told inGamut (c .before .before .colour .ensures) (c .before .in-gamut .ensures) (not-true _ (c .if2 .taken))) refl)
 
 clashes-requires : tie.Need-clashes-requires
 clashes-requires c κs =
@@ -48,23 +47,21 @@ clashes-requires c κs =
 
 returns-3 : tie.Need-returns-3
 unfolding fault
-returns-3 c =
-    let after-clashes = c .before in let after-if2 = after-clashes .before in let after-in-gamut = after-if2 .before in
-    let after-colour = after-in-gamut .before in let after-if1 = after-colour .before in let after-is-kept = after-if1 .before in
-    let after-rgba-at = after-is-kept .before in
-    then _ _ _ _ (told (kept _) (after-rgba-at .rgba-at .ensures) (after-is-kept .is-kept .ensures) (not-false _ (after-if1 .if1 .left)))
-    (then _ _ _ _ (told inGamut (after-colour .colour .ensures) (after-in-gamut .in-gamut .ensures) (not-false _ (after-if2 .if2 .left)))
-    (then _ _ _ _ (sym (after-clashes .clashes .ensures) ∙ c .if3 .taken) refl))
+returns-3 c = then _ _ _ _
+    (told (kept _) (c .before .before .before .before .before .before .before .rgba-at .ensures) (c .before .before .before .before .before .before .is-kept .ensures)
+    (not-false _ (c .before .before .before .before .before .if1 .left)))
+    (then _ _ _ _
+    (told inGamut (c .before .before .before .before .colour .ensures) (c .before .before .before .in-gamut .ensures) (not-false _ (c .before .before .if2 .left)))
+    (then _ _ _ _ (sym (c .before .clashes .ensures) ∙ c .if3 .taken) refl))
 
 returns-4 : tie.Need-returns-4
 unfolding fault
-returns-4 c =
-    let after-clashes = c .before in let after-if2 = after-clashes .before in let after-in-gamut = after-if2 .before in
-    let after-colour = after-in-gamut .before in let after-if1 = after-colour .before in let after-is-kept = after-if1 .before in
-    let after-rgba-at = after-is-kept .before in
-    then _ _ _ _ (told (kept _) (after-rgba-at .rgba-at .ensures) (after-is-kept .is-kept .ensures) (not-false _ (after-if1 .if1 .left)))
-    (then _ _ _ _ (told inGamut (after-colour .colour .ensures) (after-in-gamut .in-gamut .ensures) (not-false _ (after-if2 .if2 .left)))
-    (else _ _ _ _ (sym (after-clashes .clashes .ensures) ∙ c .if3 .left) refl))
+returns-4 c = then _ _ _ _
+    (told (kept _) (c .before .before .before .before .before .before .before .rgba-at .ensures) (c .before .before .before .before .before .before .is-kept .ensures)
+    (not-false _ (c .before .before .before .before .before .if1 .left)))
+    (then _ _ _ _
+    (told inGamut (c .before .before .before .before .colour .ensures) (c .before .before .before .in-gamut .ensures) (not-false _ (c .before .before .if2 .left)))
+    (else _ _ _ _ (sym (c .before .clashes .ensures) ∙ c .if3 .left) refl))
 
 pub fault-spec : {M : Type 1} → statement M
 fault-spec =

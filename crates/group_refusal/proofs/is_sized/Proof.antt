@@ -38,15 +38,17 @@ returns-4 c = sym (on (eq-eqb _ _ (c .before .before .before .if1 .left)) (on (e
 
 returns-5 : tie.Need-returns-5
 unfolding lengthsFit
-returns-5 c =
-    let after-if4 = c .before in let after-if3 = after-if4 .before in let after-if2 = after-if3 .before in let after-if1 = after-if2 .before in
-    sym (on (eq-eqb _ _ (after-if1 .if1 .left)) (on (eq-eqb _ _ (after-if2 .if2 .left)) (on (eq-eqb _ _ (after-if3 .if3 .left)) (on (eq-eqb _ _ (after-if4 .if4 .left)) (and-no-l _ _ (ne-eqb _ _ (c .if5 .taken)))))))
+returns-5 c = sym
+    (on (eq-eqb _ _ (c .before .before .before .before .if1 .left))
+    (on (eq-eqb _ _ (c .before .before .before .if2 .left))
+    (on (eq-eqb _ _ (c .before .before .if3 .left)) (on (eq-eqb _ _ (c .before .if4 .left)) (and-no-l _ _ (ne-eqb _ _ (c .if5 .taken)))))))
 
 returns-6 : tie.Need-returns-6
 unfolding lengthsFit
-returns-6 c =
-    let after-if4 = c .before in let after-if3 = after-if4 .before in let after-if2 = after-if3 .before in let after-if1 = after-if2 .before in
-    sym (on (eq-eqb _ _ (after-if1 .if1 .left)) (on (eq-eqb _ _ (after-if2 .if2 .left)) (on (eq-eqb _ _ (after-if3 .if3 .left)) (on (eq-eqb _ _ (after-if4 .if4 .left)) (on (eq-eqb _ _ (c .if5 .left)) refl)))))
+returns-6 c = sym
+    (on (eq-eqb _ _ (c .before .before .before .before .if1 .left))
+    (on (eq-eqb _ _ (c .before .before .before .if2 .left))
+    (on (eq-eqb _ _ (c .before .before .if3 .left)) (on (eq-eqb _ _ (c .before .if4 .left)) (on (eq-eqb _ _ (c .if5 .left)) refl)))))
 
 pub is-sized-spec : {M : Type 1} → statement M
 is-sized-spec =

@@ -20,31 +20,24 @@ is-among-requires-2 : tie.Need-is-among-requires-2
 is-among-requires-2 c κs = search needs
 
 returns-3 : tie.Need-returns-3
-returns-3 c =
-    let after-is-among2 = c .before in let after-if2 = after-is-among2 .before in let after-is-among = after-if2 .before in
-    let after-if1 = after-is-among .before in let after-is-tile-size = after-if1 .before in
-    passes _ _ _ _ _ (after-is-tile-size .is-tile-size .ensures) (after-if1 .if1 .left) (passes _ _ _ _ _ (after-is-among .is-among .ensures) (after-if2 .if2 .left) (refuses _ _ _ _ (after-is-among2 .is-among2 .ensures) (c .if3 .taken)))
+returns-3 c = passes _ _ _ _ _ (c .before .before .before .before .before .is-tile-size .ensures) (c .before .before .before .before .if1 .left)
+    (passes _ _ _ _ _ (c .before .before .before .is-among .ensures) (c .before .before .if2 .left) (refuses _ _ _ _ (c .before .is-among2 .ensures) (c .if3 .taken)))
 
 is-among-requires-3 : tie.Need-is-among-requires-3
 is-among-requires-3 c κs = search needs
 
 returns-4 : tie.Need-returns-4
-returns-4 c =
-    let after-is-among3 = c .before in let after-if3 = after-is-among3 .before in let after-is-among2 = after-if3 .before in
-    let after-if2 = after-is-among2 .before in let after-is-among = after-if2 .before in let after-if1 = after-is-among .before in
-    let after-is-tile-size = after-if1 .before in
-    passes _ _ _ _ _ (after-is-tile-size .is-tile-size .ensures) (after-if1 .if1 .left)
-    (passes _ _ _ _ _ (after-is-among .is-among .ensures) (after-if2 .if2 .left)
-    (passes _ _ _ _ _ (after-is-among2 .is-among2 .ensures) (after-if3 .if3 .left) (refuses _ _ _ _ (after-is-among3 .is-among3 .ensures) (c .if4 .taken))))
+returns-4 c = passes _ _ _ _ _ (c .before .before .before .before .before .before .before .is-tile-size .ensures)
+    (c .before .before .before .before .before .before .if1 .left)
+    (passes _ _ _ _ _ (c .before .before .before .before .before .is-among .ensures) (c .before .before .before .before .if2 .left)
+    (passes _ _ _ _ _ (c .before .before .before .is-among2 .ensures) (c .before .before .if3 .left) (refuses _ _ _ _ (c .before .is-among3 .ensures) (c .if4 .taken))))
 
 returns-5 : tie.Need-returns-5
-returns-5 c =
-    let after-is-among3 = c .before in let after-if3 = after-is-among3 .before in let after-is-among2 = after-if3 .before in
-    let after-if2 = after-is-among2 .before in let after-is-among = after-if2 .before in let after-if1 = after-is-among .before in
-    let after-is-tile-size = after-if1 .before in
-    passes _ _ _ _ _ (after-is-tile-size .is-tile-size .ensures) (after-if1 .if1 .left)
-    (passes _ _ _ _ _ (after-is-among .is-among .ensures) (after-if2 .if2 .left)
-    (passes _ _ _ _ _ (after-is-among2 .is-among2 .ensures) (after-if3 .if3 .left) (passes _ _ _ _ _ (after-is-among3 .is-among3 .ensures) (c .if4 .left) none)))
+returns-5 c = passes _ _ _ _ _ (c .before .before .before .before .before .before .before .is-tile-size .ensures)
+    (c .before .before .before .before .before .before .if1 .left)
+    (passes _ _ _ _ _ (c .before .before .before .before .before .is-among .ensures) (c .before .before .before .before .if2 .left)
+    (passes _ _ _ _ _ (c .before .before .before .is-among2 .ensures) (c .before .before .if3 .left)
+    (passes _ _ _ _ _ (c .before .is-among3 .ensures) (c .if4 .left) none)))
 
 pub check-sizes-spec : {M : Type 1} → statement M
 check-sizes-spec =

@@ -19,31 +19,22 @@ tiles-fit-requires : tie.Need-tiles-fit-requires
 tiles-fit-requires c κs = search needs
 
 returns-3 : tie.Need-returns-3
-returns-3 c =
-    let after-tiles-fit = c .before in let after-if2 = after-tiles-fit .before in let after-if1 = after-if2 .before in
-    let after-weight-fits = after-if1 .before in
-    passes _ _ _ _ _ (after-weight-fits .weight-fits .ensures) (after-if1 .if1 .left) (skips _ _ _ _ (le-leb _ _ (after-if2 .if2 .left)) (refuses _ _ _ _ (after-tiles-fit .tiles-fit .ensures) (c .if3 .taken)))
+returns-3 c = passes _ _ _ _ _ (c .before .before .before .before .weight-fits .ensures) (c .before .before .before .if1 .left)
+    (skips _ _ _ _ (le-leb _ _ (c .before .before .if2 .left)) (refuses _ _ _ _ (c .before .tiles-fit .ensures) (c .if3 .taken)))
 
 counts-fit-requires : tie.Need-counts-fit-requires
-counts-fit-requires c κs =
-    let after-tiles-fit = c .before in let start = after-tiles-fit .before .before .before .before .before .before in
-    (start .pre, sym (after-tiles-fit .tiles-fit .ensures) ∙ not-false _ (c .if3 .left))
+counts-fit-requires c κs = (c .before .before .before .before .before .before .before .pre, sym (c .before .tiles-fit .ensures) ∙ not-false _ (c .if3 .left))
 
 returns-4 : tie.Need-returns-4
-returns-4 c =
-    let after-counts-fit = c .before in let after-if3 = after-counts-fit .before in let after-tiles-fit = after-if3 .before in
-    let after-if2 = after-tiles-fit .before in let after-if1 = after-if2 .before in let after-weight-fits = after-if1 .before in
-    passes _ _ _ _ _ (after-weight-fits .weight-fits .ensures) (after-if1 .if1 .left)
-    (skips _ _ _ _ (le-leb _ _ (after-if2 .if2 .left))
-    (passes _ _ _ _ _ (after-tiles-fit .tiles-fit .ensures) (after-if3 .if3 .left) (refuses _ _ _ _ (after-counts-fit .counts-fit .ensures) (c .if4 .taken))))
+returns-4 c = passes _ _ _ _ _ (c .before .before .before .before .before .before .weight-fits .ensures) (c .before .before .before .before .before .if1 .left)
+    (skips _ _ _ _ (le-leb _ _ (c .before .before .before .before .if2 .left))
+    (passes _ _ _ _ _ (c .before .before .before .tiles-fit .ensures) (c .before .before .if3 .left) (refuses _ _ _ _ (c .before .counts-fit .ensures) (c .if4 .taken))))
 
 returns-5 : tie.Need-returns-5
-returns-5 c =
-    let after-counts-fit = c .before in let after-if3 = after-counts-fit .before in let after-tiles-fit = after-if3 .before in
-    let after-if2 = after-tiles-fit .before in let after-if1 = after-if2 .before in let after-weight-fits = after-if1 .before in
-    passes _ _ _ _ _ (after-weight-fits .weight-fits .ensures) (after-if1 .if1 .left)
-    (skips _ _ _ _ (le-leb _ _ (after-if2 .if2 .left))
-    (passes _ _ _ _ _ (after-tiles-fit .tiles-fit .ensures) (after-if3 .if3 .left) (passes _ _ _ _ _ (after-counts-fit .counts-fit .ensures) (c .if4 .left) none)))
+returns-5 c = passes _ _ _ _ _ (c .before .before .before .before .before .before .weight-fits .ensures) (c .before .before .before .before .before .if1 .left)
+    (skips _ _ _ _ (le-leb _ _ (c .before .before .before .before .if2 .left))
+    (passes _ _ _ _ _ (c .before .before .before .tiles-fit .ensures) (c .before .before .if3 .left)
+    (passes _ _ _ _ _ (c .before .counts-fit .ensures) (c .if4 .left) none)))
 
 pub check-tables-spec : {M : Type 1} → statement M
 check-tables-spec =

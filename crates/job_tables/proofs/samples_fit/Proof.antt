@@ -51,10 +51,8 @@ sample-fits-requires : tie.Need-sample-fits-requires Inv-loop μ-loop
 sample-fits-requires c κs = search needs
 
 returns : tie.Need-returns Inv-loop μ-loop
-returns c =
-    let after-sample-fits = c .before in let after-wide2 = after-sample-fits .before in let after-wide = after-wide2 .before .before in
-    let after-loop-test = after-wide .before .before in
-    sampled-fails _ _ _ _ _ _ _ _ (after-sample-fits .sample-fits .ensures) (after-wide .wide .ensures) (after-wide2 .wide2 .ensures) (c .if1 .taken) (after-loop-test .loop-test .taken)
+returns c = sampled-fails _ _ _ _ _ _ _ _ (c .before .sample-fits .ensures) (c .before .before .before .before .wide .ensures) (c .before .before .wide2 .ensures)
+    (c .if1 .taken) (c .before .before .before .before .before .before .loop-test .taken)
 
 add-i : tie.Need-add-i Inv-loop μ-loop
 add-i c = search needs
@@ -63,10 +61,11 @@ loop-less : tie.Need-loop-less Inv-loop μ-loop
 loop-less c = search needs
 
 loop-again : tie.Need-loop-again Inv-loop μ-loop
-loop-again c =
-    let after-sample-fits = c .before in let after-wide2 = after-sample-fits .before in let after-wide = after-wide2 .before .before in
-    let after-loop = after-wide .before .before .before in
-    (search needs, sampled-more _ _ _ _ _ _ _ (after-sample-fits .sample-fits .ensures) (after-wide .wide .ensures) (after-wide2 .wide2 .ensures) (after-loop .loop .inv .1) (c .if1 .left))
+loop-again c = (
+  search needs,
+  sampled-more _ _ _ _ _ _ _ (c .before .sample-fits .ensures) (c .before .before .before .before .wide .ensures)
+      (c .before .before .wide2 .ensures) (c .before .before .before .before .before .before .before .loop .inv .1) (c .if1 .left),
+)
 
 returns-2 : tie.Need-returns-2 Inv-loop μ-loop
 unfolding samplesFit

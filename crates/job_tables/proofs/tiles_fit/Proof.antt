@@ -25,16 +25,15 @@ tile-fits-requires : tie.Need-tile-fits-requires Inv-loop μ-loop
 tile-fits-requires c κs = search needs
 
 returns : tie.Need-returns Inv-loop μ-loop
-returns c =
-    let after-tile-fits = c .before in let after-first-of = after-tile-fits .before in let after-size-of = after-first-of .before in
-    let after-loop-test = after-size-of .before in let after-loop = after-loop-test .before in
-    tiled-fails _ _ _ _ _ (after-loop .loop .inv .1) _ _ _ (after-first-of .first-of .ensures) (after-size-of .size-of .ensures) (after-tile-fits .tile-fits .ensures) _ (c .if1 .taken) (after-loop-test .loop-test .taken)
+returns c = tiled-fails _ _ _ _ _ (c .before .before .before .before .before .loop .inv .1) _ _ _ (c .before .before .first-of .ensures)
+    (c .before .before .before .size-of .ensures) (c .before .tile-fits .ensures) _ (c .if1 .taken) (c .before .before .before .before .loop-test .taken)
 
 add-at : tie.Need-add-at Inv-loop μ-loop
-add-at c =
-    let after-tile-fits = c .before in let after-first-of = after-tile-fits .before in let after-size-of = after-first-of .before in
-    let after-loop = after-size-of .before .before in
-    omega (arith, tiled-room _ _ _ _ _ (after-loop .loop .inv .1) _ _ _ (after-first-of .first-of .ensures) (after-size-of .size-of .ensures) (after-tile-fits .tile-fits .ensures) (c .if1 .left))
+add-at c = omega (
+  arith,
+  tiled-room _ _ _ _ _ (c .before .before .before .before .before .loop .inv .1) _ _ _ (c .before .before .first-of .ensures)
+      (c .before .before .before .size-of .ensures) (c .before .tile-fits .ensures) (c .if1 .left),
+)
 
 add-i : tie.Need-add-i Inv-loop μ-loop
 add-i c = search needs
@@ -43,10 +42,11 @@ loop-less : tie.Need-loop-less Inv-loop μ-loop
 loop-less c = search needs
 
 loop-again : tie.Need-loop-again Inv-loop μ-loop
-loop-again c =
-    let after-tile-fits = c .before in let after-first-of = after-tile-fits .before in let after-size-of = after-first-of .before in
-    let after-loop = after-size-of .before .before in
-    (search needs, tiled-more _ _ _ _ _ (after-loop .loop .inv .1) _ _ _ (after-first-of .first-of .ensures) (after-size-of .size-of .ensures) (after-tile-fits .tile-fits .ensures) (c .if1 .left))
+loop-again c = (
+  search needs,
+  tiled-more _ _ _ _ _ (c .before .before .before .before .before .loop .inv .1) _ _ _ (c .before .before .first-of .ensures)
+      (c .before .before .before .size-of .ensures) (c .before .tile-fits .ensures) (c .if1 .left),
+)
 
 returns-2 : tie.Need-returns-2 Inv-loop μ-loop
 returns-2 c = tiled-end _ _ _ _ _ _ (c .before .loop .inv .1) (c .before .loop .inv .0) (c .loop-test .left)

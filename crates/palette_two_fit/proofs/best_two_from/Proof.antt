@@ -77,14 +77,13 @@ loop-less-3 c = omega arith
 
 loop-again-3 : tie.Need-loop-again-3 Inv-loop μ-loop
 loop-again-3 c =
-    let after-d = c .before .before in let after-distance-within = after-d .before .before in let after-part2 = after-distance-within .before in
-    let after-if1 = after-part2 .before in let after-loop-test = after-if1 .before in
     let z = c .before .before .before .before .before .before .before .before .before .before .before .before .before .before in
     let o = c .before .before .before .before .before .before .before .before in (
-      omega (arith, after-loop-test .loop-test),
-      turn-weighs _ _ _ (z .pre .0) _ (z .pre .1) (omega (arith, z .fits .n)) (o .loop .i) _ (o .loop .inv .1)
-          (omega (arith, after-loop-test .loop-test)) _ (after-part2 .part2 .ensures) (after-if1 .if1 .left) _ _
-          (sym (after-d .d .given .1) ∙ after-distance-within .distance-within .ensures) (c .weigh .ensures),
+      omega (arith, c .before .before .before .before .before .before .before .loop-test),
+      turn-weighs _ _ _ (z .pre .0) _ (z .pre .1) (omega (arith, z .fits .n))
+          (o .loop .i) _ (o .loop .inv .1) (omega (arith, c .before .before .before .before .before .before .before .loop-test)) _
+          (c .before .before .before .before .before .part2 .ensures) (c .before .before .before .before .before .before .if1 .left) _ _
+          (sym (c .before .before .d .given .1) ∙ c .before .before .before .before .distance-within .ensures) (c .weigh .ensures),
     )
 
 returns : tie.Need-returns Inv-loop μ-loop
