@@ -8,13 +8,13 @@ use Rattle.demands.proofs.Hints.{whatever-hints}
 pub second-demand : Second
 second-demand =
     record {
-      single-fit = single-fits ;
-      best-two = both-fit ;
-      assign = assigns ;
-      tiles = tiles-chosen ;
-      draw = draw-moves ;
-      advance = advance-moves ;
-      advance-many = advance-many ;
-      one-draw = one-moves ;
-      whatever-hints = whatever-hints ;
+      single-fit = single-fits;
+      best-two = both-fit;
+      assign = assigns;
+      tiles = tiles-chosen;
+      draw = draw-moves;
+      advance = advance-moves;
+      advance-many = advance-many;
+      one-draw = one-moves;
+      whatever-hints = whatever-hints;
     }
