@@ -14,7 +14,7 @@ use Rattle.stages.specs.State.{State, stateWith, placed}
 use Rattle.stages.specs.Stages.{finishRound}
 use Rattle.calls.proofs.Cases.{stage0, stage1, stage2, stage4}
 use Rattle.run_turns.specs.Asked.{Going}
-use Rattle.run_turns.specs.Rounds.{goOn}
+use Rattle.run_turns.specs.Rounds.{openTurn}
 use Rattle.run_turns.proofs.Turns.{seeded-on, grown-on, replaced-on}
 use Rattle.run_round.specs.Seeds.{Seeking, Sought}
 use Rattle.run_round.specs.Settles.{Ripe, seeds, grows, replaces, finishes, Closing, turnAfter}
@@ -67,7 +67,7 @@ module _ (K : Course) (h : List ℕ) (p l : List Float) (r : Record) (A : Closin
       ∙ ap (stateWith [] h p l) e
       ∙ sym (stage4 (r .stage) _ _ _ _ _ z)
 
-  pub gone : r .stage ≢ 4 → (k : ℕ) → k ≡ turnAfter (K .job .S) (K .job .C) r → (x : State) → x ≡ goOn K k from (stateWith [] h2 p l r) → x ≡ finishRound K (stateWith [] h p l r)
+  pub gone : r .stage ≢ 4 → (k : ℕ) → k ≡ turnAfter (K .job .S) (K .job .C) r → (x : State) → x ≡ openTurn K k from (stateWith [] h2 p l r) → x ≡ finishRound K (stateWith [] h p l r)
   unfolding finishRound
   gone n4 k turn x e = by (A .ripe)
     where
@@ -77,17 +77,17 @@ module _ (K : Course) (h : List ℕ) (p l : List Float) (r : Record) (A : Closin
       some : 1 ≤ K .job .C
       some = A .lent .whole .shown .ready .sizes .some
 
-      at-turn : (next : ℕ) → turnAfter (K .job .S) (K .job .C) r ≡ next → x ≡ goOn K next from (stateWith [] h2 p l r)
-      at-turn next f = e ∙ ap (λ (i : ℕ). goOn K i from (stateWith [] h2 p l r)) (turn ∙ f)
+      at-turn : (next : ℕ) → turnAfter (K .job .S) (K .job .C) r ≡ next → x ≡ openTurn K next from (stateWith [] h2 p l r)
+      at-turn next f = e ∙ ap (λ (i : ℕ). openTurn K i from (stateWith [] h2 p l r)) (turn ∙ f)
 
       -- the turn, where nothing was sought
-      on : (next : ℕ) → turnAfter (K .job .S) (K .job .C) r ≡ next → r .stage ≢ 0 → x ≡ goOn K next from (stateWith [] h p l r)
-      on next f n = at-turn next f ∙ ap (λ (z : List ℕ). goOn K next from (stateWith [] z p l r)) (B .idle n)
+      on : (next : ℕ) → turnAfter (K .job .S) (K .job .C) r ≡ next → r .stage ≢ 0 → x ≡ openTurn K next from (stateWith [] h p l r)
+      on next f n = at-turn next f ∙ ap (λ (z : List ℕ). openTurn K next from (stateWith [] z p l r)) (B .idle n)
 
       by : Ripe (K .job) r → x ≡ finishRound K (stateWith [] h p l r)
       by (seeds z m) =
           at-turn (r .rounds + 1) (turn-seeding (K .job .S) (K .job .C) r z)
-          ∙ ap (λ (i : ℕ). goOn K (r .rounds + 1) i (stateWith [] h2 p l r)) (B .found z)
+          ∙ ap (λ (i : ℕ). openTurn K (r .rounds + 1) i (stateWith [] h2 p l r)) (B .found z)
           ∙ seeded-on K (stateWith [] h p l r) (stateWith [] h2 p l r) (hinted K h p l r h2 (B .hinted z)) m some
           ∙ sym (stage0 (r .stage) _ _ _ _ _ z)
       by (grows z m) =

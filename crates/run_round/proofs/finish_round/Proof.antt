@@ -22,8 +22,8 @@ returns c = ended _ _ _ _ (c .before .before .before .before .before .before .be
 turn-after-requires : tie.Need-turn-after-requires
 turn-after-requires c κs = search needs
 
-go-on-requires : tie.Need-go-on-requires
-go-on-requires c κs = can-go _ _ _ _ (c .before .before .before .before .before .before .before .before .before .before .before .before .before .before .before .before .before .args .r) (c .before .before .before .before .before .before .before .before .before .before .before .before .before .before .before .before .before .pre) _ _ (c .before .before .before .before .before .before .before .before .seek .ensures) (c .before .before .before .before .if1 .left) _ (c .turn-after .ensures)
+open-turn-requires : tie.Need-open-turn-requires
+open-turn-requires c κs = can-go _ _ _ _ (c .before .before .before .before .before .before .before .before .before .before .before .before .before .before .before .before .before .args .r) (c .before .before .before .before .before .before .before .before .before .before .before .before .before .before .before .before .before .pre) _ _ (c .before .before .before .before .before .before .before .before .seek .ensures) (c .before .before .before .before .if1 .left) _ (c .turn-after .ensures)
 
 same-length-3 : tie.Need-same-length-3
 same-length-3 c = search needs
@@ -35,7 +35,7 @@ same-length-5 : tie.Need-same-length-5
 same-length-5 c = search needs
 
 returns-2 : tie.Need-returns-2
-returns-2 c = gone _ _ _ _ (c .before .before .before .before .before .before .before .before .before .before .before .before .before .before .before .before .before .before .before .before .before .before .before .before .args .r) (c .before .before .before .before .before .before .before .before .before .before .before .before .before .before .before .before .before .before .before .before .before .before .before .before .pre) _ _ (c .before .before .before .before .before .before .before .before .before .before .before .before .before .before .before .seek .ensures) (c .before .before .before .before .before .before .before .before .before .before .before .if1 .left) _ (c .before .before .before .before .before .before .before .turn-after .ensures) _ (c .before .before .before .before .before .before .go-on .ensures)
+returns-2 c = gone _ _ _ _ (c .before .before .before .before .before .before .before .before .before .before .before .before .before .before .before .before .before .before .before .before .before .before .before .before .args .r) (c .before .before .before .before .before .before .before .before .before .before .before .before .before .before .before .before .before .before .before .before .before .before .before .before .pre) _ _ (c .before .before .before .before .before .before .before .before .before .before .before .before .before .before .before .seek .ensures) (c .before .before .before .before .before .before .before .before .before .before .before .if1 .left) _ (c .before .before .before .before .before .before .before .turn-after .ensures) _ (c .before .before .before .before .before .before .open-turn .ensures)
 
 pub finish-round-spec : {M : Type 1} → statement M
 finish-round-spec =
@@ -47,7 +47,7 @@ finish-round-spec =
     same-length-2
     returns
     turn-after-requires
-    go-on-requires
+    open-turn-requires
     same-length-3
     same-length-4
     same-length-5

@@ -5,11 +5,11 @@ use borrow.Author.Needs.{needs}
 use Rattle.run_round.proofs.first.set_out.Statement.{statement}
 use Rattle.run_round.proofs.first.set_out.Tie as tie
 
-go-on-requires : tie.Need-go-on-requires
-go-on-requires c κs = can-open _ _ (c .before .before .before .before .before .before .before .before .before .before .before .pre)
+open-turn-requires : tie.Need-open-turn-requires
+open-turn-requires c κs = can-open _ _ (c .before .before .before .before .before .before .before .before .before .before .before .pre)
 
 settle-requires : tie.Need-settle-requires
-settle-requires c κs = can-settle _ _ (c .before .before .before .before .before .before .before .before .before .before .before .before .before .before .before .before .before .before .before .before .before .pre) _ refl (c .before .before .before .before .before .before .before .before .before .go-on .ensures)
+settle-requires c κs = can-settle _ _ (c .before .before .before .before .before .before .before .before .before .before .before .before .before .before .before .before .before .before .before .before .before .pre) _ refl (c .before .before .before .before .before .before .before .before .before .open-turn .ensures)
 
 same-length : tie.Need-same-length
 same-length c = search needs
@@ -21,9 +21,9 @@ same-length-3 : tie.Need-same-length-3
 same-length-3 c = search needs
 
 returns : tie.Need-returns
-returns c = settled _ _ (c .before .before .before .before .before .before .before .before .before .before .before .before .before .before .before .before .before .before .before .before .before .before .before .before .before .before .before .before .pre) _ refl (c .before .before .before .before .before .before .before .before .before .before .before .before .before .before .before .before .go-on .ensures) _ (c .before .before .before .before .before .before .settle .ensures)
+returns c = settled _ _ (c .before .before .before .before .before .before .before .before .before .before .before .before .before .before .before .before .before .before .before .before .before .before .before .before .before .before .before .before .pre) _ refl (c .before .before .before .before .before .before .before .before .before .before .before .before .before .before .before .before .open-turn .ensures) _ (c .before .before .before .before .before .before .settle .ensures)
 
 pub set-out-spec : {M : Type 1} → statement M
 set-out-spec =
     tie.close
-    (tie.spec go-on-requires settle-requires same-length same-length-2 same-length-3 returns)
+    (tie.spec open-turn-requires settle-requires same-length same-length-2 same-length-3 returns)

@@ -1,8 +1,8 @@
--- `run_hand_in::go_on` meets its contract, stop by stop. Assumes nothing.
+-- `run_hand_in::after_stop` meets its contract, stop by stop. Assumes nothing.
 use Rattle.run_hand_in.proofs.Laws.{final, refined-on, last-on}
 use borrow.Author.Needs.{needs}
-use Rattle.run_hand_in.proofs.go_on.Statement.{statement}
-use Rattle.run_hand_in.proofs.go_on.Tie as tie
+use Rattle.run_hand_in.proofs.after_stop.Statement.{statement}
+use Rattle.run_hand_in.proofs.after_stop.Tie as tie
 
 final-draws-requires : tie.Need-final-draws-requires
 final-draws-requires c κs = search needs
@@ -25,8 +25,8 @@ returns-2 c = refined-on _ _ _ _ _ (c .before .before .before .before .before .b
 returns-3 : tie.Need-returns-3
 returns-3 c = last-on _ _ _ _ _ (c .before .before .before .before .before .before .before .before .before .before .before .before .args .r) (c .before .before .before .before .before .before .before .before .before .before .before .before .pre) (c .before .before .if1 .left) (c .if2 .left)
 
-pub go-on-spec : {M : Type 1} → statement M
-go-on-spec =
+pub after-stop-spec : {M : Type 1} → statement M
+after-stop-spec =
     tie.close
     (tie.spec
     final-draws-requires

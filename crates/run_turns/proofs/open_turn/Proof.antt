@@ -1,10 +1,10 @@
--- `run_turns::go_on` meets its contract, stage by stage. Assumes nothing.
+-- `run_turns::open_turn` meets its contract, stage by stage. Assumes nothing.
 use mathlib.Core.Path.{refl}
 use Rattle.run_turns.proofs.SeedingRounds.{can-double, seeded-by}
 use Rattle.run_turns.proofs.GrowingRounds.{can-open, can-replace, grown-by, grown-past}
 use borrow.Author.Needs.{needs}
-use Rattle.run_turns.proofs.go_on.Statement.{statement}
-use Rattle.run_turns.proofs.go_on.Tie as tie
+use Rattle.run_turns.proofs.open_turn.Statement.{statement}
+use Rattle.run_turns.proofs.open_turn.Tie as tie
 
 sub-seeded : tie.Need-sub-seeded
 sub-seeded c = search needs
@@ -48,8 +48,8 @@ same-length-6 c = search needs
 returns-3 : tie.Need-returns-3
 returns-3 c = grown-past _ _ _ _ _ (c .before .before .before .before .before .before .replace-on .ensures) (c .before .before .before .before .before .before .before .before .before .before .before .if1 .left) (c .before .before .before .before .before .before .before .before .before .before .if2 .left)
 
-pub go-on-spec : {M : Type 1} → statement M
-go-on-spec =
+pub open-turn-spec : {M : Type 1} → statement M
+open-turn-spec =
     tie.close
     (tie.spec
     sub-seeded
