@@ -35,13 +35,13 @@ module _ (J : Job) (pal : List Float) (hints : List ℕ) (t : ℕ) (A : Gather) 
   Stepped B after = (B ≡ gatherStep J pal best t A) × (after ≡ hintStep J pal (J .S) (J .C) t hints)
 
   pub turn-colours : Placed 3 (J .tiles) t (length (J .colours))
-  turn-colours = colours-placed (shown .size) J (shown .ready) t (K .paired .tile)
+  turn-colours = colours-placed J (shown .ready) t (K .paired .tile)
 
   pub turn-counts : Placed 1 (J .tiles) t (length (J .counts))
-  turn-counts = counts-placed (shown .size) J (shown .ready) t (K .paired .tile)
+  turn-counts = counts-placed J (shown .ready) t (K .paired .tile)
 
   size : length (countsOf J t) ≡ sizeOf (J .tiles) t
-  size = counts-length (shown .size) J (shown .ready) t (K .paired .tile)
+  size = counts-length J (shown .ready) t (K .paired .tile)
 
   -- r is what the code's test of an empty tile answers
   module _ (r : Bool) (R : r ≡ isEmpty J t) where

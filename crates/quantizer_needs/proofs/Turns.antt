@@ -30,17 +30,17 @@ module _ (J : Job) (pal : List Float) (have : ℕ) (hints : List ℕ) (t : ℕ) 
   shown = K .paired .shown
 
   pub turn-colours : Placed 3 (J .tiles) t (length (J .colours))
-  turn-colours = colours-placed (shown .size) J (shown .ready) t (K .paired .tile)
+  turn-colours = colours-placed J (shown .ready) t (K .paired .tile)
 
   pub turn-counts : Placed 1 (J .tiles) t (length (J .counts))
-  turn-counts = counts-placed (shown .size) J (shown .ready) t (K .paired .tile)
+  turn-counts = counts-placed J (shown .ready) t (K .paired .tile)
 
   module _ (empty : Bool) (R : empty ≡ eqb (sizeOf (J .tiles) t) 0) where
     -- an empty one adds nothing
     pub turn-none : empty ≡ true → (total ≡ needStep J pal have (winner J pal (J .S) have t) t total) × (hints ≡ hintStep J pal (J .S) have t hints)
     unfolding needStep tileNeeds
     turn-none p = (
-      sym (ap (tileNeeds (subOf pal (J .C) have (winner J pal (J .S) have t)) (tileAt J t) (J .weight) (winner J pal (J .S) have t * J .C) total) (counts-length (shown .size) J (shown .ready) t (K .paired .tile) ∙ none)),
+      sym (ap (tileNeeds (subOf pal (J .C) have (winner J pal (J .S) have t)) (tileAt J t) (J .weight) (winner J pal (J .S) have t * J .C) total) (counts-length J (shown .ready) t (K .paired .tile) ∙ none)),
       hint-kept J pal (J .S) have t hints none,
     )
       where

@@ -12,7 +12,7 @@ abbrev Inv-loop : tie.InvT-loop
 Inv-loop z tiles colours counts palette hints₀ out₀ i₀ hints out i = (i ≤ t) × Filled (jobOf z tiles colours counts) palette (held hints₀ out₀) (held hints out) i
 
 abbrev μ-loop : tie.MeasureT-loop
-μ-loop s c t weight tiles colours counts palette hints₀ out₀ i₀ hints out i = t - i
+μ-loop z tiles colours counts palette hints₀ out₀ i₀ hints out i = z .t - i
 
 loop-holds : tie.Need-loop-holds Inv-loop μ-loop
 loop-holds c = (search needs, filled-none _ _ _ (c .before .before .before .before .before .before .pre))

@@ -12,7 +12,7 @@ abbrev Inv-loop : tie.InvT-loop
 Inv-loop z tiles colours counts pal hints₀ sums₀ cnts₀ i₀ hints sums cnts i = Going (jobOf z tiles colours counts) pal hints₀ hints (gather sums cnts) i
 
 abbrev μ-loop : tie.MeasureT-loop
-μ-loop s c t weight tiles colours counts pal hints₀ sums₀ cnts₀ i₀ hints sums cnts i = t - i
+μ-loop z tiles colours counts pal hints₀ sums₀ cnts₀ i₀ hints sums cnts i = z .t - i
 
 loop-holds : tie.Need-loop-holds Inv-loop μ-loop
 loop-holds c =

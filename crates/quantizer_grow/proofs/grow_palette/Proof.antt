@@ -11,7 +11,7 @@ abbrev Inv-loop : tie.InvT-loop
 Inv-loop z tiles colours counts pal₀ have hints total-color-distances i₀ pal i = Splitting (jobOf z tiles colours counts) pal₀ have pal i
 
 abbrev μ-loop : tie.MeasureT-loop
-μ-loop s c t weight tiles colours counts pal₀ have hints total-color-distances i₀ pal i = s - i
+μ-loop z tiles colours counts pal₀ have hints total-color-distances i₀ pal i = z .s - i
 
 slice-aggregate-color-distances : tie.Need-slice-aggregate-color-distances Inv-loop μ-loop
 slice-aggregate-color-distances c = search needs

@@ -24,10 +24,10 @@ counts-part-requires : tie.Need-counts-part-requires
 counts-part-requires c κs = turn-counts _ _ _ _ _ _ (c .before .before .before .before .before .before .before .before .before .before .before .before .before .before .pre)
 
 mul-for-each-match : tie.Need-mul-for-each-match
-mul-for-each-match c = omega (arith, turn-row _ _ _ _ _ _ (c .before .before .before .before .before .before .before .before .before .before .before .before .before .before .before .pre) _ (c .before .before .before .before .before .before .before .before .is-empty .ensures) (c .before .before .before .before .before .before .before .if1 .left) _ (c .before .before .before .before .before .tile-fit .ensures .0))
+mul-for-each-match c = omega (arith, turn-row _ _ _ _ _ _ (c .before .before .before .before .before .before .before .before .before .before .before .before .before .before .before .before .pre) _ (c .before .before .before .before .before .before .before .before .before .is-empty .ensures) (c .before .before .before .before .before .before .before .before .if1 .left) _ (c .before .before .before .before .before .before .tile-fit .ensures .0))
 
 for-each-match-requires : tie.Need-for-each-match-requires
-for-each-match-requires c κs = turn-matched _ _ _ _ _ _ (c .before .before .before .before .before .before .before .before .before .before .before .before .before .before .before .before .pre) _ (c .before .before .before .before .before .before .before .before .before .is-empty .ensures) (c .before .before .before .before .before .before .before .before .if1 .left) _ (c .before .before .before .before .before .before .tile-fit .ensures .0) _ _ _ (c .before .before .before .part .ensures) (c .before .before .tile-part .ensures) (c .before .counts-part .ensures)
+for-each-match-requires c κs = turn-matched _ _ _ _ _ _ (c .before .before .before .before .before .before .before .before .before .before .before .before .before .before .before .before .before .pre) _ (c .before .before .before .before .before .before .before .before .before .before .is-empty .ensures) (c .before .before .before .before .before .before .before .before .before .if1 .left) _ (c .before .before .before .before .before .before .before .tile-fit .ensures .0) _ _ _ (c .before .before .before .before .part .ensures) (c .before .before .before .tile-part .ensures) (c .before .before .counts-part .ensures)
 
 same-length : tie.Need-same-length
 same-length c = search needs
@@ -36,7 +36,7 @@ same-length-2 : tie.Need-same-length-2
 same-length-2 c = search needs
 
 returns-2 : tie.Need-returns-2
-returns-2 c = turn-done _ _ _ _ _ _ (c .before .before .before .before .before .before .before .before .before .before .before .before .before .before .before .before .before .before .before .pre) _ (c .before .before .before .before .before .before .before .before .before .before .before .before .is-empty .ensures) (c .before .before .before .before .before .before .before .before .before .before .before .if1 .left) _ (c .before .before .before .before .before .before .before .before .before .tile-fit .ensures .0) _ _ _ (c .before .before .before .before .before .before .part .ensures) (c .before .before .before .before .before .tile-part .ensures) (c .before .before .before .before .counts-part .ensures) _ (c .before .before .for-each-match .ensures) _ (c .before .before .before .before .before .before .before .before .before .tile-fit .ensures .1)
+returns-2 c = turn-done _ _ _ _ _ _ (c .before .before .before .before .before .before .before .before .before .before .before .before .before .before .before .before .before .before .before .before .pre) _ (c .before .before .before .before .before .before .before .before .before .before .before .before .before .is-empty .ensures) (c .before .before .before .before .before .before .before .before .before .before .before .before .if1 .left) _ (c .before .before .before .before .before .before .before .before .before .before .tile-fit .ensures .0) _ _ _ (c .before .before .before .before .before .before .before .part .ensures) (c .before .before .before .before .before .before .tile-part .ensures) (c .before .before .before .before .before .counts-part .ensures) _ (c .before .before .for-each-match .ensures) _ (c .before .before .before .before .before .before .before .before .before .before .tile-fit .ensures .1)
 
 pub tile-step-spec : {M : Type 1} → statement M
 tile-step-spec =

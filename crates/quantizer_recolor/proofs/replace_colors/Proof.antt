@@ -12,7 +12,7 @@ abbrev Inv-loop : tie.InvT-loop
 Inv-loop z tiles colours counts pal₀ hints total-color-mse second-color-mse i₀ pal i = Recolouring (jobOf z tiles colours counts) pal₀ pal (shares total-color-mse second-color-mse) i
 
 abbrev μ-loop : tie.MeasureT-loop
-μ-loop s c t weight tiles colours counts pal₀ hints total-color-mse second-color-mse i₀ pal i = s - i
+μ-loop z tiles colours counts pal₀ hints total-color-mse second-color-mse i₀ pal i = z .s - i
 
 returns : tie.Need-returns Inv-loop μ-loop
 returns c = one-colour _ _ _ (c .before .before .before .before .before .before .pre) (c .if1 .taken)
