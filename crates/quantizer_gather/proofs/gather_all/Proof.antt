@@ -22,9 +22,9 @@ loop-holds c =
 gather-step-requires : tie.Need-gather-step-requires Inv-loop μ-loop
 gather-step-requires c κs =
     let i = c .before .before .before in
-    let v = i .before in
+    let v = i .before .before in
     let z = v .before .before .before .before .before .before .before .before in
-    going-turn _ _ (z .pre .0) _ (z .pre .1 .0) _ _ _ (v .loop .inv) (i .loop-test .taken)
+    going-turn _ _ (z .pre .0) _ (z .pre .1 .0) _ _ _ (v .loop .inv) (i .if1 .taken)
 
 add-i : tie.Need-add-i Inv-loop μ-loop
 add-i c = omega arith
@@ -36,33 +36,33 @@ loop-again : tie.Need-loop-again Inv-loop μ-loop
 loop-again c =
     let g = c .before .before .before .before .before .before in
     let i = g .before .before .before .before in
-    let v = i .before in
+    let v = i .before .before in
     let z = v .before .before .before .before .before .before .before .before in
-    going-more _ _ (z .pre .0) _ (z .pre .1 .0) _ _ _ (v .loop .inv) (i .loop-test .taken) _ _ (g .gather-step .ensures .0) (g .gather-step .ensures .1)
+    going-more _ _ (z .pre .0) _ (z .pre .1 .0) _ _ _ (v .loop .inv) (i .if1 .taken) _ _ (g .gather-step .ensures .0) (g .gather-step .ensures .1)
 
 same-length : tie.Need-same-length Inv-loop μ-loop
 same-length c =
-    let v = c .before in
+    let v = c .before .before in
     let z = v .before .before .before .before .before .before .before .before in
     going-length _ _ (z .pre .0) _ (z .pre .1 .0) _ _ _ (v .loop .inv)
 
 same-length-2 : tie.Need-same-length-2 Inv-loop μ-loop
 same-length-2 c =
-    let v = c .before in
+    let v = c .before .before in
     let z = v .before .before .before .before .before .before .before .before in
     going-whole _ _ (z .pre .0) _ (z .pre .1 .0) _ _ _ (v .loop .inv) _ (z .pre .1 .1) .0
 
 same-length-3 : tie.Need-same-length-3 Inv-loop μ-loop
 same-length-3 c =
-    let v = c .before in
+    let v = c .before .before in
     let z = v .before .before .before .before .before .before .before .before in
     going-whole _ _ (z .pre .0) _ (z .pre .1 .0) _ _ _ (v .loop .inv) _ (z .pre .1 .1) .1
 
 returns : tie.Need-returns Inv-loop μ-loop
 returns c =
-    let v = c .before in
+    let v = c .before .before in
     let z = v .before .before .before .before .before .before .before .before in
-    going-end _ _ (z .pre .0) _ (z .pre .1 .0) _ _ _ (v .loop .inv) (c .loop-test .left)
+    going-end _ _ (z .pre .0) _ (z .pre .1 .0) _ _ _ (v .loop .inv) (c .if1 .left)
 
 pub gather-all-spec : {M : Type 1} → statement M
 gather-all-spec =

@@ -41,13 +41,13 @@ counts-part-requires c κs =
 
 mul-gather-tile : tie.Need-mul-gather-tile
 mul-gather-tile c =
-    let f = c .before .before .before .before .before in
+    let f = c .before .before .before .before .before .before in
     let z = f .before .before .before .before .before .before .before .before .before .before .before in
     omega (arith, turn-base _ _ _ _ _ (z .pre) _ (f .tile-fit .ensures .0))
 
 gather-tile-requires : tie.Need-gather-tile-requires
 gather-tile-requires c κs =
-    let n = c .before .before in
+    let n = c .before .before .before in
     let x = n .before in
     let u = x .before in
     let f = u .before .before .before in
@@ -66,7 +66,7 @@ same-length-3 c = search needs
 returns-2 : tie.Need-returns-2
 returns-2 c =
     let g = c .before .before .before .before in
-    let n = g .before .before .before in
+    let n = g .before .before .before .before in
     let x = n .before in
     let u = x .before in
     let f = u .before .before .before in
