@@ -51,13 +51,13 @@ module _ (K : Course) (o h : List ℕ) (p l : List Float) (r : Record) (A : Hand
     final x e = rw (eq-eqb (r .stage) 3 k) (ap (stateWith o h p l) e ∙ settled (decide (eqb (10 * b K) 0)))
 
   pub refined-on : r .stage ≢ 3 → r .stage ≡ 5 → (h2 : List ℕ) (p2 : List Float) → (p2 ≡ refinedTimes (K .job) 4 p) × (h2 ≡ hintsTimes (K .job) 4 p h)
-      → stateWith o h2 p2 l (placed r 6 0 0) ≡ handIn K p (stateWith o h p l r)
+      → (x : Record) → x ≡ placed r 6 0 0 → stateWith o h2 p2 l x ≡ handIn K p (stateWith o h p l r)
   unfolding handIn refinedOnce refinedTimes hintsTimes
-  refined-on a k h2 p2 e = rw (ne-eqb (r .stage) 3 a, eq-eqb (r .stage) 5 k, e .0, e .1)
+  refined-on a k h2 p2 e x er = rw (ne-eqb (r .stage) 3 a, eq-eqb (r .stage) 5 k, e .0, e .1, er)
 
-  pub last-on : r .stage ≢ 3 → r .stage ≢ 5 → stateWith o h p l (placed r 7 0 0) ≡ handIn K p (stateWith o h p l r)
+  pub last-on : r .stage ≢ 3 → r .stage ≢ 5 → (x : Record) → x ≡ placed r 7 0 0 → stateWith o h p l x ≡ handIn K p (stateWith o h p l r)
   unfolding handIn
-  last-on a k = rw (ne-eqb (r .stage) 3 a, ne-eqb (r .stage) 5 k)
+  last-on a k x er = rw (ne-eqb (r .stage) 3 a, ne-eqb (r .stage) 5 k, er)
 
 -- ---- the call
 module _ (K : Course) (m : Memory) (reduced : List Float) (a : ℕ) (e : a ≡ handInAnswer K m reduced) where
