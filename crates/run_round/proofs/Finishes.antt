@@ -13,7 +13,7 @@ use Rattle.stages.specs.declared.Record.{Record}
 use Rattle.stages.specs.State.{State, stateWith, placed}
 use Rattle.stages.specs.Stages.{finishRound}
 use Rattle.calls.proofs.Cases.{stage0, stage1, stage2, stage4}
-use Rattle.run_turns.specs.Asked.{Going}
+use Rattle.run_turns.specs.Asked.{Turning}
 use Rattle.run_turns.specs.Rounds.{openTurn}
 use Rattle.run_turns.proofs.Turns.{seeded-on, grown-on, replaced-on}
 use Rattle.run_round.specs.Seeds.{Seeking, Sought}
@@ -44,8 +44,8 @@ can-seek J h p l r A = record { whole = A .lent .whole; more = more (A .ripe) }
     more (finishes k) z = absurd (omega arith)
 
 module _ (J : Job) (h : List ℕ) (p l : List Float) (r : Record) (A : Closing J h p l r) (from : ℕ) (h2 : List ℕ) (B : Sought J h p r from h2) where
-  pub can-go : r .stage ≢ 4 → (k : ℕ) → k ≡ turnAfter (J .S) (J .C) r → Going J h2 p l k from r
-  can-go n4 k turn = record { lent = record { whole = record { shown = A .lent .whole .shown; each = each (A .ripe) }; room = A .lent .room }; source = B .source; error = low (A .ripe) }
+  pub can-turn : r .stage ≢ 4 → (k : ℕ) → k ≡ turnAfter (J .S) (J .C) r → Turning J h2 p l k from r
+  can-turn n4 k turn = record { lent = record { whole = record { shown = A .lent .whole .shown; each = each (A .ripe) }; room = A .lent .room }; source = B .source; error = low (A .ripe) }
     where
       each : Ripe J r → length h2 ≡ J .T
       each (seeds z m) = still-each J h p r (A .lent .whole) m h2 (B .hinted z)
@@ -67,9 +67,9 @@ module _ (K : Course) (h : List ℕ) (p l : List Float) (r : Record) (A : Closin
       ∙ ap (stateWith [] h p l) e
       ∙ sym (stage4 (r .stage) _ _ _ _ _ z)
 
-  pub gone : r .stage ≢ 4 → (k : ℕ) → k ≡ turnAfter (K .job .S) (K .job .C) r → (x : State) → x ≡ openTurn K k from (stateWith [] h2 p l r) → x ≡ finishRound K (stateWith [] h p l r)
+  pub turned : r .stage ≢ 4 → (k : ℕ) → k ≡ turnAfter (K .job .S) (K .job .C) r → (x : State) → x ≡ openTurn K k from (stateWith [] h2 p l r) → x ≡ finishRound K (stateWith [] h p l r)
   unfolding finishRound
-  gone n4 k turn x e = by (A .ripe)
+  turned n4 k turn x e = by (A .ripe)
     where
       subs : 1 ≤ K .job .S
       subs = A .lent .whole .shown .ready .sizes .subs

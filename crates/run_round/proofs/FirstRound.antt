@@ -7,7 +7,7 @@ use Rattle.quantizer.specs.Course.{Course, course}
 use Rattle.stages.specs.State.{State}
 use Rattle.stages.specs.Stages.{settle}
 use Rattle.calls.proofs.Sound.{all-shown}
-use Rattle.run_turns.specs.Asked.{Going}
+use Rattle.run_turns.specs.Asked.{Turning}
 use Rattle.run_turns.specs.Rounds.{openTurn}
 use Rattle.run_turns.proofs.Turns.{first-turn}
 use Rattle.run_round.specs.Settles.{Standing}
@@ -16,7 +16,7 @@ use Rattle.run_round.specs.First.{firstRound, Beginning}
 use Rattle.run_round.proofs.Begins.{sound, standing}
 
 module _ (K : Course) (s : State) (B : Beginning K s) where
-  pub can-open : Going (K .job) (s .hints) (s .palette) (s .least) 0 0 (s .rec)
+  pub can-open : Turning (K .job) (s .hints) (s .palette) (s .least) 0 0 (s .rec)
   can-open =
       let A = sound K s B in
       record {

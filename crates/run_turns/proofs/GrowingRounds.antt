@@ -15,7 +15,7 @@ use Rattle.stages.specs.declared.Record.{Record}
 use Rattle.stages.specs.State.{State, stateWith, placed}
 use Rattle.stages.specs.Stages.{openGrowing}
 use Rattle.run_keeping.specs.Closing.{Lent, Judging}
-use Rattle.run_turns.specs.Asked.{Opening, Going}
+use Rattle.run_turns.specs.Asked.{Opening, Turning}
 use Rattle.run_turns.specs.Rounds.{replaceOn, growOn, openTurn}
 
 pub can-open : (J : Job) (hints : List ℕ) (pal least : List Float) → Lent J hints pal least → (round : ℕ) → round < J .C - 1 → Opening J pal round hints
@@ -51,7 +51,7 @@ pub grown-past : (K : Course) (s t : State) (turn from : ℕ) → t ≡ replaceO
 unfolding openTurn growOn
 grown-past K s t turn from e a z = rw (le-ltb turn (K .job .S - 1) a, le-ltb (turn - (K .job .S - 1)) (K .job .C - 1) z) e
 
-pub can-replace : (J : Job) (hints : List ℕ) (pal least : List Float) (turn from : ℕ) (r : Record) → Going J hints pal least turn from r → Judging J hints pal least (turn - (J .S - 1) - (J .C - 1)) r
+pub can-replace : (J : Job) (hints : List ℕ) (pal least : List Float) (turn from : ℕ) (r : Record) → Turning J hints pal least turn from r → Judging J hints pal least (turn - (J .S - 1) - (J .C - 1)) r
 can-replace J hints pal least turn from r A = record { lent = A .lent; error = λ (n : turn - (J .S - 1) - (J .C - 1) ≢ 0). A .error (past n (lt-or-ge ((J .S - 1) + (J .C - 1)) turn)) }
   where
     past : turn - (J .S - 1) - (J .C - 1) ≢ 0 → ((J .S - 1) + (J .C - 1) < turn) ⊎ (turn ≤ (J .S - 1) + (J .C - 1)) → (J .S - 1) + (J .C - 1) < turn

@@ -15,7 +15,7 @@ use Rattle.stages.specs.declared.Record.{Record}
 use Rattle.stages.specs.State.{State, stateWith, placed}
 use Rattle.stages.specs.Stages.{openSeeding}
 use Rattle.run_record.specs.Sized.{sized}
-use Rattle.run_turns.specs.Asked.{Doubling, Going}
+use Rattle.run_turns.specs.Asked.{Doubling, Turning}
 use Rattle.run_turns.specs.Rounds.{openTurn}
 
 -- the two rows lie within the palette
@@ -27,7 +27,7 @@ pub opened-by : (K : Course) (p : List Float) (r : Record) (round from : ℕ) (p
 unfolding openSeeding duplicated
 opened-by K p r round from p2 ep r2 er = rw (ep, er)
 
-pub can-double : (J : Job) (h : List ℕ) (p l : List Float) (turn from : ℕ) (r : Record) → Going J h p l turn from r → turn < J .S - 1 → Doubling (J .S) (J .C) p turn from
+pub can-double : (J : Job) (h : List ℕ) (p l : List Float) (turn from : ℕ) (r : Record) → Turning J h p l turn from r → turn < J .S - 1 → Doubling (J .S) (J .C) p turn from
 can-double J h p l turn from r A t =
     let Z = A .lent .whole .shown .ready .sizes in
     record { size = A .lent .whole .shown .room; some = Z .some; few = Z .few; more = omega arith; source = A .source }

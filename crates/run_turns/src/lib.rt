@@ -13,7 +13,7 @@ ghost use Rattle.quantizer.specs.Course.{courseOf};
 ghost use Rattle.stages.specs.State.{stateWith};
 ghost use Rattle.stages.specs.Stages.{openSeeding, openGrowing};
 ghost use Rattle.run_record.specs.Sized.{sized};
-ghost use Rattle.run_turns.specs.Asked.{Doubling, Opening, Going};
+ghost use Rattle.run_turns.specs.Asked.{Doubling, Opening, Turning};
 ghost use Rattle.run_turns.specs.Rounds.{openTurn};
 
 // A subpalette more, a copy of subpalette `from`, and a round of draws begins.
@@ -68,7 +68,7 @@ pub fn open_turn(
     from: usize,
     r: Record,
 ) -> Record
-    requires { ⌜ Going (jobOf z (now tiles) (now colours) (now counts)) (now hints) (now palette) (now least) turn from r ⌝ }
+    requires { ⌜ Turning (jobOf z (now tiles) (now colours) (now counts)) (now hints) (now palette) (now least) turn from r ⌝ }
     ensures { λ x. ⌜ stateWith [] (now (hints .exit)) (now (palette .exit)) (now (least .exit)) x
         ≡ openTurn (courseOf z (now (tiles .entry)) (now (colours .entry)) (now (counts .entry)) []) turn from
         (stateWith [] (now (hints .entry)) (now (palette .entry)) (now (least .entry)) r) ⌝ }
