@@ -27,8 +27,10 @@ pub fn advance(
     words: &mut [u64],
     allotment: u64,
 ) -> Advanced
-    requires { ⌜ z .size ≤ 256 ⌝ }
-    ensures { λ x. ⌜ outcome (x .number) (x .draws) (memory (now (order .exit)) (now (hints .exit)) (now (palette .exit)) (now (least .exit)) (now (words .exit))) ≡ advanceCall (z .size) (courseOf z (now (tiles .entry)) (now (colours .entry)) (now (counts .entry)) (now (samples .entry))) (memory (now (order .entry)) (now (hints .entry)) (now (palette .entry)) (now (least .entry)) (now (words .entry))) allotment ⌝ }
+    ensures { λ x. ⌜ outcome (x .number) (x .draws)
+        (memory (now (order .exit)) (now (hints .exit)) (now (palette .exit)) (now (least .exit)) (now (words .exit)))
+        ≡ advanceCall (courseOf z (now (tiles .entry)) (now (colours .entry)) (now (counts .entry)) (now (samples .entry)))
+        (memory (now (order .entry)) (now (hints .entry)) (now (palette .entry)) (now (least .entry)) (now (words .entry))) allotment ⌝ }
 {
     let number = run_check::refuses_advance(
         z,

@@ -46,7 +46,7 @@ module _ {K : Course} {a : ℕ} {first : State} {m : ℕ} {s : State} (A : Advan
         let d = ongoing h .going in
         record {
           from = A .from;
-          running = record { size = R .size; small = R .small; room = R .room; passed = R .passed; fit = subst (Fit K) (sym q) (step-fit (R .size) (R .small) K (R .room) (R .passed) s (R .fit) d) };
+          running = record { room = R .room; passed = R .passed; fit = subst (Fit K) (sym q) (step-fit K (R .room) (R .passed) s (R .fit) d) };
           far = subst (Far going (step K) a first (m + 1)) (sym q) (far-step going (step K) (A .far) (allotted h) d);
         }
 
