@@ -18,7 +18,7 @@ use Rattle.extremes.proofs.Examples.{argmax-of-1-3-3, argmin-of-2-1-1}
 use Rattle.stats.specs.declared.Near.{Near}
 use Rattle.job.specs.Job.{job}
 use Rattle.job.specs.Rules.{answer}
-use Rattle.job.specs.Checks.{among, within, weightFits, tileTest, tileFits, tilesFit, countTest, countFits, partFits, tileCountsFit, countsFit, firstNot, componentFits, firstBad, sampleTest, sampleFits, samplesFit, plainAnswer}
+use Rattle.job.specs.Checks.{tileSized, among, within, weightFits, tileTest, tileFits, tilesFit, countTest, countFits, partFits, tileCountsFit, countsFit, firstNot, componentFits, firstBad, sampleTest, sampleFits, samplesFit, plainAnswer}
 use Rattle.palette.proofs.Example.{middle-first}
 use Rattle.blend.proofs.Example.{half-way}
 use Rattle.palette_tile.specs.Tiles.{fitAt}
@@ -60,22 +60,19 @@ module _ (K : Course) (seed : ℕ) {m : Memory} {ds : List ℕ} (r : Run K seed 
 
 -- one of each, from any seed
 module _ (seed : ℕ) where
-  ten-accepted : startAnswer (oneColour 1 1 10) (blank 1 1 10) ≡ 0
-  unfolding startAnswer memoryRoom coloursRoom answer among weightFits tilesFit tileFits tileTest countsFit tileCountsFit partFits countFits countTest firstBad firstNot componentFits within samplesFit sampleFits sampleTest every sum ofBits neg le lt eq
-  ten-accepted = refl
-
-  twenty-five-accepted : startAnswer (oneColour 2 2 25) (blank 2 2 25) ≡ 0
-  unfolding startAnswer memoryRoom coloursRoom answer among weightFits tilesFit tileFits tileTest countsFit tileCountsFit partFits countFits countTest firstBad firstNot componentFits within samplesFit sampleFits sampleTest every sum ofBits neg le lt eq
-  twenty-five-accepted = refl
+  accepted-starts : (startAnswer (oneColour 1 1 10) (blank 1 1 10) ≡ 0) × (startAnswer (oneColour 2 2 25) (blank 2 2 25) ≡ 0)
+  unfolding startAnswer memoryRoom coloursRoom answer tileSized among weightFits tilesFit tileFits tileTest countsFit tileCountsFit partFits countFits countTest
+      firstBad firstNot componentFits within samplesFit sampleFits sampleTest every sum ofBits neg le lt eq
+  accepted-starts = (refl, refl)
 
   past : (s c n : ℕ) (x : Finished (oneColour s c n) seed) → Past s c n (oneColour s c n) (x .last)
   past s c n x = record { subs = refl; colours = refl; samples = refl; stage = omega (arith, x .stage) }
 
   there-is-20 : (x : Finished (oneColour 1 1 10) seed) × Each-twice (x .samples)
-  there-is-20 = let x = run-ends (oneColour 1 1 10) .finished (blank 1 1 10) seed ten-accepted in (x, run-of-20 (oneColour 1 1 10) seed (x .run) (past 1 1 10 x))
+  there-is-20 = let x = run-ends (oneColour 1 1 10) .finished (blank 1 1 10) seed (accepted-starts .0) in (x, run-of-20 (oneColour 1 1 10) seed (x .run) (past 1 1 10 x))
 
   there-is-44 : (x : Finished (oneColour 2 2 25) seed) × Most-twice (x .samples)
-  there-is-44 = let x = run-ends (oneColour 2 2 25) .finished (blank 2 2 25) seed twenty-five-accepted in (x, run-of-44 (oneColour 2 2 25) seed (x .run) (past 2 2 25 x))
+  there-is-44 = let x = run-ends (oneColour 2 2 25) .finished (blank 2 2 25) seed (accepted-starts .1) in (x, run-of-44 (oneColour 2 2 25) seed (x .run) (past 2 2 25 x))
 
 -- ---- the sheet
 middle : fitAt sheetJob sheetPalette 2 1 2 ≡ record { index = 0; dist = half }
@@ -87,7 +84,8 @@ module _ (a c hint d w x y z : ℕ) where
   lent = held (a ∷ c ∷ hint ∷ d ∷ []) (w ∷ x ∷ y ∷ z ∷ [])
 
   accepted : assignAnswer sheetJob sheetPalette lent ≡ 0
-  unfolding assignAnswer plainAnswer answer roomFor among weightFits tilesFit tileFits tileTest countsFit tileCountsFit partFits countFits countTest firstBad firstNot componentFits within every sum ofBits neg le lt eq
+  unfolding assignAnswer plainAnswer answer roomFor tileSized among weightFits tilesFit tileFits tileTest countsFit tileCountsFit partFits countFits countTest
+      firstBad firstNot componentFits within every sum ofBits neg le lt eq
   accepted = refl
 
   from-any : getD (assignDef sheetJob sheetPalette lent .after .out) 2 0 ≡ 0
