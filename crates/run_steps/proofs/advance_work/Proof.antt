@@ -4,7 +4,7 @@ use Prim.Native.Nat.{_-_}
 use mir.Facts.{fits-le}
 use Rattle.quantizer.specs.Course.{courseOf}
 use Rattle.stages.specs.State.{stateWith}
-use Rattle.run_steps.proofs.Advances.{Advancing, begun, ongoing, allotted, stepped, order-kept, hints-kept, palette-kept, least-kept, worked}
+use Rattle.run_steps.proofs.Advances.{Advancing, begun, ongoing, allotted, drawn-more, order-kept, hints-kept, palette-kept, least-kept, worked}
 use borrow.Author.Needs.{needs}
 use Rattle.run_steps.proofs.advance_work.Statement.{statement}
 use Rattle.run_steps.proofs.advance_work.Tie as tie
@@ -48,7 +48,7 @@ loop-again c =
     let after-step = c .before .before .before .before .before .before .before .before in
     let after-if1 = after-step .before .before .before .before .before in let after-goes-on = after-if1 .before in
     let after-loop = after-goes-on .before in
-    stepped (after-loop .loop .inv) _ (after-goes-on .goes-on .ensures) (after-if1 .if1 .taken) _ (after-step .step .ensures)
+    drawn-more (after-loop .loop .inv) _ (after-goes-on .goes-on .ensures) (after-if1 .if1 .taken) _ (after-step .step .ensures)
 
 write-record-requires : tie.Need-write-record-requires Inv-loop μ-loop
 write-record-requires c κs =
