@@ -51,7 +51,7 @@ module _ (size : ℕ) (K : Course) (m : Memory) where
 -- ---- the sheet's reader: 3 for room, then 13 for size, then the first fault in field order (Sheets: 0, 3, 12 and 13 exactly when)
 abbrev pub numberOfReading : Reading → ℕ
 numberOfReading (reading.Refused k) = k
-numberOfReading (reading.Sheet s c t weight) = 0
+numberOfReading (reading.Sheet z) = 0
 
 abbrev pub faultOf : Answer Sheet → ℕ
 faultOf (faulty k) = k
