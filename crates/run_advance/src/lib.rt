@@ -1,10 +1,7 @@
 // The public call that makes a run's draws: at most an allotment, none past a stop.
 use job::Sizes;
 ghost use mathlib.Core.Path.{_≡_};
-ghost use Prim.Native.Nat.{_≤_};
 ghost use Rattle.quantizer.specs.Course.{courseOf};
-ghost use Rattle.stages.specs.State.{draws};
-ghost use Rattle.stages.specs.Stages.{advance};
 ghost use Rattle.stages.specs.Calls.{memory, outcome, advanceCall};
 
 // The number, 0 or that of the first rule that is broken, and the draws made.

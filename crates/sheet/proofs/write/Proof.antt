@@ -68,12 +68,12 @@ returns-3 c =
     let after-size-of = after-bytes-for .before in
     let past-if1 = after-size-of .before in
     let after-check-job = past-if1 .before in
-    let after-slice-known = after-check-job .before in
-    let start = after-slice-known .before .before .before .before .before in
+    let lent = after-check-job .before in
+    let start = lent .before .before .before .before .before in
     let k = placed (after-bytes-for .bytes-for .result) _ (after-place-for .place-for .result) (after-place-for .place-for .ensures) (past-if2 .if2 .left) in
     file-written _ _ (start .args .dst .now) _ (after-check-job .check-job .ensures) (past-if1 .if1 .left) (after-size-of .size-of .result)
     (after-bytes-for .bytes-for .result) (after-size-of .size-of .ensures) (after-bytes-for .bytes-for .ensures) _ (k .0) (k .1)
-    (λ i. omega (arith, after-slice-known .slice-known .given i)) (λ i. omega (arith, c .slice-known2 .given i))
+    (λ i. omega (arith, lent .slice-known .given i)) (λ i. omega (arith, c .slice-known2 .given i))
     (after-pack-sheet .pack-sheet .kept .1 .1 .1 .1 .1 .0) (after-pack-sheet .pack-sheet .ensures)
 
 pub write-spec : {M : Type 1} → statement M
