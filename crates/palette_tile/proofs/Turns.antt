@@ -25,8 +25,8 @@ module _ (J : Job) (t : ℕ) (r : Bool) (R : r ≡ isEmpty J t) where
 
 module _ (J : Job) (pal : List Float) (n have : ℕ) (hints : List ℕ) (t : ℕ) (K : Paired J pal n have hints t) (r : Bool) (R : r ≡ isEmpty J t) where
   -- an empty one has no colours, and keeps its hint
-  pub turn-none : r ≡ true → length (tileAt J t .counts) ≡ 0
-  turn-none p = counts-length J (K .shown .ready) t (K .tile) ∙ eqb-true (sizeOf (J .tiles) t) 0 (sym R ∙ p)
+  pub no-colours : r ≡ true → length (tileAt J t .counts) ≡ 0
+  no-colours p = counts-length J (K .shown .ready) t (K .tile) ∙ eqb-true (sizeOf (J .tiles) t) 0 (sym R ∙ p)
 
   pub hint-kept : r ≡ true → hints ≡ hintStep J pal n have t hints
   unfolding hintStep
