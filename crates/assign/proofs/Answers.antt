@@ -15,26 +15,26 @@ use Rattle.assign_tiles.specs.Tiles.{Held, assigned, Ready}
 use Rattle.assign_check.specs.Answer.{roomFor, answerFor}
 use Rattle.assign.specs.Assign.{outcome, assignAnswer, assignDef}
 
-module _ (size : ℕ) (J : Job) (palette : List Float) (h : Held) where
-  module _ (r : ℕ) (e : r ≡ answerFor size J palette (length (h .hints)) (length (h .out))) where
+module _ (J : Job) (palette : List Float) (h : Held) where
+  module _ (r : ℕ) (e : r ≡ answerFor J palette (length (h .hints)) (length (h .out))) where
     -- a refusal writes nothing
-    pub stop : (r ≡ 0 → ⊥) → outcome r h ≡ assignDef size J palette h
+    pub stop : (r ≡ 0 → ⊥) → outcome r h ≡ assignDef J palette h
     unfolding assignDef assignAnswer
     stop n = rw (← e, ne-eqb r 0 n)
 
     module _ (z : r ≡ 0) where
-      passed : Plain size J palette (roomFor (J .T) (length (h .hints)) (length (h .out)))
-      passed = plain-ready size J palette (roomFor (J .T) (length (h .hints)) (length (h .out))) (sym e ∙ z)
+      passed : Plain J palette (roomFor (J .T) (length (h .hints)) (length (h .out)))
+      passed = plain-ready J palette (roomFor (J .T) (length (h .hints)) (length (h .out))) (sym e ∙ z)
 
-      pub go : size ≤ 256 → Ready J palette h
+      pub go : Ready J palette h
       unfolding roomFor
-      go s =
+      go =
           record {
-            shown = shown size J palette (roomFor (J .T) (length (h .hints)) (length (h .out))) s passed;
+            shown = shown J palette (roomFor (J .T) (length (h .hints)) (length (h .out))) passed;
             hints = eqb-true (length (h .hints)) (J .T) (and-l (eqb (length (h .hints)) (J .T)) (eqb (length (h .out)) (J .T)) (passed .roomy));
             out = eqb-true (length (h .out)) (J .T) (and-r (eqb (length (h .hints)) (J .T)) (eqb (length (h .out)) (J .T)) (passed .roomy));
           }
 
-      pub done : (after : Held) → after ≡ assigned J palette h (J .T) → outcome 0 after ≡ assignDef size J palette h
+      pub done : (after : Held) → after ≡ assigned J palette h (J .T) → outcome 0 after ≡ assignDef J palette h
       unfolding assignDef assignAnswer
       done after f = rw (← e, eq-eqb r 0 z, ← f)

@@ -7,8 +7,8 @@ use Rattle.job.specs.Job.{Job}
 use Rattle.assign_tiles.specs.Tiles.{Held, held}
 use Rattle.assign.specs.Assign.{Outcome, outcome, assignDef}
 
-pub only-one : (size : ℕ) (J : Job) (palette : List Float) (h : Held) (r s : ℕ) (a b c d : List ℕ)
-    → outcome r (held a c) ≡ assignDef size J palette h → outcome s (held b d) ≡ assignDef size J palette h → (r ≡ s) × (a ≡ b) × (c ≡ d)
-only-one size J palette h r s a b c d x y =
+pub only-one : (J : Job) (palette : List Float) (h : Held) (r s : ℕ) (a b c d : List ℕ)
+    → outcome r (held a c) ≡ assignDef J palette h → outcome s (held b d) ≡ assignDef J palette h → (r ≡ s) × (a ≡ b) × (c ≡ d)
+only-one J palette h r s a b c d x y =
     let same : outcome r (held a c) ≡ outcome s (held b d) = x ∙ sym y in
     (ap (λ (z : Outcome). z .number) same, ap (λ (z : Outcome). z .after .hints) same, ap (λ (z : Outcome). z .after .out) same)

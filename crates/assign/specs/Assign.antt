@@ -1,4 +1,4 @@
--- The call `assign` over a job's tiles, of at most `size` pixels each: the number that it gets, the subpalette of each tile, and the hints that it leaves.
+-- The call `assign` over a job's tiles: the number that it gets, the subpalette of each tile, and the hints that it leaves.
 -- Definitions only. Assumes nothing.
 use Prim.Native.Nat.{ℕ}
 use mathlib.Core.Bool.{cond}
@@ -21,10 +21,10 @@ abbrev pub outcome : ℕ → Held → Outcome
 outcome n h = record { number = n; after = h }
 
 -- ---- the call: a refusal writes nothing
-unfoldable pub assignAnswer : ℕ → Job → List Float → Held → ℕ
-assignAnswer size J palette h = answerFor size J palette (length (h .hints)) (length (h .out))
+unfoldable pub assignAnswer : Job → List Float → Held → ℕ
+assignAnswer J palette h = answerFor J palette (length (h .hints)) (length (h .out))
 
-unfoldable pub assignDef : ℕ → Job → List Float → Held → Outcome
-assignDef size J palette h =
-    let number = assignAnswer size J palette h in
+unfoldable pub assignDef : Job → List Float → Held → Outcome
+assignDef J palette h =
+    let number = assignAnswer J palette h in
     cond (eqb number 0) (outcome 0 (assigned J palette h (J .T))) (outcome number h)

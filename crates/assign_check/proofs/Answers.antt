@@ -8,5 +8,5 @@ use Rattle.job.specs.Job.{Job}
 use Rattle.job.specs.Checks.{plainAnswer}
 use Rattle.assign_check.specs.Answer.{roomFor, answerFor}
 
-pub checked : (size : ℕ) (J : Job) (palette : List Float) (hints out : ℕ) (room : Bool) (r : ℕ) → room ≡ roomFor (J .T) hints out → r ≡ plainAnswer size J palette room → r ≡ answerFor size J palette hints out
-checked size J palette hints out room r e f = f ∙ ap (plainAnswer size J palette) e
+pub checked : (J : Job) (palette : List Float) (hints out : ℕ) (room : Bool) (r : ℕ) → room ≡ roomFor (J .T) hints out → r ≡ plainAnswer J palette room → r ≡ answerFor J palette hints out
+checked J palette hints out room r e f = f ∙ ap (plainAnswer J palette) e

@@ -11,5 +11,5 @@ use Rattle.job.specs.Checks.{plainAnswer}
 unfoldable pub roomFor : ℕ → ℕ → ℕ → Bool
 roomFor t hints out = eqb hints t && eqb out t
 
-abbrev pub answerFor : ℕ → Job → List Float → ℕ → ℕ → ℕ
-answerFor size J palette hints out = plainAnswer size J palette (roomFor (J .T) hints out)
+abbrev pub answerFor : Job → List Float → ℕ → ℕ → ℕ
+answerFor J palette hints out = plainAnswer J palette (roomFor (J .T) hints out)

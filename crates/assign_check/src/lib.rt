@@ -1,7 +1,7 @@
 // Which number the call `assign` gets.
 use job::Sizes;
 ghost use mathlib.Core.Path.{_≡_};
-ghost use Rattle.job.specs.Job.{jobOf, tileSize};
+ghost use Rattle.job.specs.Job.{jobOf};
 ghost use Rattle.assign_check.specs.Answer.{roomFor, answerFor};
 
 // Whether both lent slices have a place for each tile.
@@ -24,7 +24,7 @@ pub fn check_assign(
     hints: usize,
     out: usize,
 ) -> u32
-    ensures { λ r. ⌜ r ≡ answerFor tileSize (jobOf z (now (tiles .entry)) (now (colours .entry)) (now (counts .entry))) (now (palette .entry)) hints out ⌝ }
+    ensures { λ r. ⌜ r ≡ answerFor (jobOf z (now (tiles .entry)) (now (colours .entry)) (now (counts .entry))) (now (palette .entry)) hints out ⌝ }
 {
     let room = has_room(z.t, hints, out);
     job_check::check_job(z, tiles, colours, counts, palette, room)

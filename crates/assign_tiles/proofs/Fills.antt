@@ -48,7 +48,7 @@ module _ (J : Job) (palette : List Float) (a b : List ℕ) (i : ℕ) (A : Turn J
           rw (← hint-written J palette (J .S) (J .C) i a after not-empty (g ∙ ap (set a i) same), ← R, e, same)
 
 pub turn-listed : (J : Job) (palette : List Float) (h : Held) (i : ℕ) → Turn J palette h i → 2 * i + 1 < length (J .tiles)
-turn-listed J palette h i A = tile-listed (A .ready .shown .size) J (A .ready .shown .ready) i (A .tile)
+turn-listed J palette h i A = tile-listed J (A .ready .shown .ready) i (A .tile)
 
 -- ---- the tiles: what is held after i of them
 pub record Filled (J : Job) (palette : List Float) (start now : Held) (i : ℕ) : Type 0 where

@@ -14,7 +14,7 @@ use Rattle.stages.specs.Calls.{Memory, startCall, advanceCall, handInCall, resu
 use Rattle.dunkafeto.specs.Told.{toldRun, toldColours, toldTiles}
 use Rattle.dunkafeto.proofs.Forwards.{run-told, colours-told, tiles-told}
 use Rattle.dunkafeto.proofs.Apart.{start-apart, advance-apart, hand-in-apart, result-apart, assign-apart}
-use Rattle.demands.specs.First.{First, startRules, advanceRules, handInRules, resultRules}
+use Rattle.demands.specs.First.{startRules, advanceRules, handInRules, resultRules}
 use Rattle.demands.proofs.First.{first-demand}
 use Rattle.contracts.specs.Start as start
 use Rattle.contracts.specs.Advance as advance
@@ -31,77 +31,85 @@ use Rattle.contracts.specs.Contracts.{First-kept, First-told}
 use Rattle.contracts.proofs.Keeps.{keeps, answers, tells}
 use Rattle.contracts.proofs.Contracts.{contracts, exports}
 
-first : First tileSize
-first = first-demand tileSize
-
 pub first-kept : First-kept
 first-kept =
     record {
       start =
           keeps start.compiled start.defined start.answers
-          (λ κs a. answers (first .start (start.course-given κs a) (start.memory-lent κs a) (start.seed-given κs a) .call)) (contracts .start);
+          (λ κs a. answers (first-demand .start (start.course-given κs a) (start.memory-lent κs a) (start.seed-given κs a) .call)) (contracts .start);
       advance =
           keeps advance.compiled advance.defined advance.answers
-          (λ κs a. answers (first .advance (advance.course-given κs a) (advance.memory-lent κs a) (advance.allotment-given κs a) .call)) (contracts .advance);
+          (λ κs a. answers (first-demand .advance (advance.course-given κs a) (advance.memory-lent κs a) (advance.allotment-given κs a) .call)) (contracts .advance);
       hand-in =
           keeps hand-in.compiled hand-in.defined hand-in.answers
-          (λ κs a. answers (first .hand-in (hand-in.course-given κs a) (hand-in.memory-lent κs a) (hand-in.reduced-given κs a) .call)) (contracts .hand-in);
+          (λ κs a. answers (first-demand .hand-in (hand-in.course-given κs a) (hand-in.memory-lent κs a) (hand-in.reduced-given κs a) .call)) (contracts .hand-in);
       result =
           keeps result.compiled result.defined result.answers
-          (λ κs a. answers (first .result (result.course-given κs a) (result.memory-lent κs a) (result.out-lent κs a) .call)) (contracts .result);
+          (λ κs a. answers (first-demand .result (result.course-given κs a) (result.memory-lent κs a) (result.out-lent κs a) .call)) (contracts .result);
       single-fit =
           keeps single-fit.compiled single-fit.defined single-fit.answers
-          (λ κs a. answers (first .single-fit (single-fit.job-given κs a) (single-fit.palette-given κs a) (single-fit.hints-lent κs a) .call)) (contracts .single-fit);
+          (λ κs a. answers (first-demand .single-fit (single-fit.job-given κs a) (single-fit.palette-given κs a) (single-fit.hints-lent κs a) .call)) (contracts .single-fit);
       best-two =
           keeps best-two.compiled best-two.defined best-two.answers
-          (λ κs a. answers (first .best-two (best-two.job-given κs a) (best-two.palette-given κs a) (best-two.hints-lent κs a) .call)) (contracts .best-two);
+          (λ κs a. answers (first-demand .best-two (best-two.job-given κs a) (best-two.palette-given κs a) (best-two.hints-lent κs a) .call)) (contracts .best-two);
       assign =
           keeps assign.compiled assign.defined assign.answers
-          (λ κs a. answers (first .assign (assign.job-given κs a) (assign.palette-given κs a) (assign.tiles-lent κs a) .call)) (contracts .assign);
+          (λ κs a. answers (first-demand .assign (assign.job-given κs a) (assign.palette-given κs a) (assign.tiles-lent κs a) .call)) (contracts .assign);
       grouping =
           keeps grouping.compiled grouping.defined grouping.answers
-          (λ κs a. answers (first .grouping (grouping.pixels-given κs a) (grouping.room-lent κs a))) (contracts .grouping);
+          (λ κs a. answers (first-demand .grouping tileSize (grouping.pixels-given κs a) (grouping.room-lent κs a))) (contracts .grouping);
       read =
           keeps read.compiled read.defined read.answers
-          (λ κs a. answers (first .read-sheet (read.bytes-given κs a) (read.room-lent κs a))) (contracts .read);
+          (λ κs a. answers (first-demand .read-sheet (read.bytes-given κs a) (read.room-lent κs a))) (contracts .read);
       write =
           keeps write.compiled write.defined write.answers
-          (λ κs a. answers (first .write-sheet (write.job-given κs a) (write.palette-given κs a) (write.bytes-lent κs a) .call)) (contracts .write);
+          (λ κs a. answers (first-demand .write-sheet (write.job-given κs a) (write.palette-given κs a) (write.bytes-lent κs a) .call)) (contracts .write);
     }
 
 -- what is told of each definition, over plain arguments
 module _ (K : Course) (m : Memory) where
-  start-tells : (seed : ℕ) → Tells Memory (answer (startRules tileSize K m)) m (toldRun (startCall K m seed))
-  start-tells seed = tells (first .start K m seed .call) toldRun m (start-apart tileSize K m seed .low) (run-told _ _ _ refl)
+  start-tells : (seed : ℕ) → Tells Memory (answer (startRules K m)) m (toldRun (startCall K m seed))
+  start-tells seed = tells (first-demand .start K m seed .call) toldRun m (start-apart K m seed .low) (run-told _ _ _ refl)
 
-  advance-tells : (a : ℕ) → Tells Memory (answer (advanceRules tileSize K m)) m (toldRun (advanceCall K m a))
-  advance-tells a = tells (first .advance K m a .call) toldRun m (advance-apart tileSize K m a .low) (run-told _ _ _ refl)
+  advance-tells : (a : ℕ) → Tells Memory (answer (advanceRules K m)) m (toldRun (advanceCall K m a))
+  advance-tells a = tells (first-demand .advance K m a .call) toldRun m (advance-apart K m a .low) (run-told _ _ _ refl)
 
-  hand-in-tells : (reduced : List Float) → Tells Memory (answer (handInRules tileSize K m reduced)) m (toldRun (handInCall K m reduced))
-  hand-in-tells reduced = tells (first .hand-in K m reduced .call) toldRun m (hand-in-apart tileSize K m reduced .low) (run-told _ _ _ refl)
+  hand-in-tells : (reduced : List Float) → Tells Memory (answer (handInRules K m reduced)) m (toldRun (handInCall K m reduced))
+  hand-in-tells reduced = tells (first-demand .hand-in K m reduced .call) toldRun m (hand-in-apart K m reduced .low) (run-told _ _ _ refl)
 
-  result-tells : (out : List Float) → Tells (List Float) (answer (resultRules tileSize K m out)) out (toldColours (resultCall K m out))
-  result-tells out = tells (first .result K m out .call) toldColours out (result-apart tileSize K m out .low) (colours-told _ _ _ refl)
+  result-tells : (out : List Float) → Tells (List Float) (answer (resultRules K m out)) out (toldColours (resultCall K m out))
+  result-tells out = tells (first-demand .result K m out .call) toldColours out (result-apart K m out .low) (colours-told _ _ _ refl)
 
-assign-tells : (J : Job) (palette : List Float) (h : Held) → let room = roomFor (J .T) (length (h .hints)) (length (h .out)) in Tells Held (answer (plainRules tileSize J palette room)) h (toldTiles (assignDef tileSize J palette h))
-assign-tells J palette h = tells (first .assign J palette h .call) toldTiles h (assign-apart tileSize J palette h .low) (tiles-told _ _ _ refl)
+assign-tells : (J : Job) (palette : List Float) (h : Held)
+    → Tells Held (answer (plainRules J palette (roomFor (J .T) (length (h .hints)) (length (h .out))))) h (toldTiles (assignDef J palette h))
+assign-tells J palette h = tells (first-demand .assign J palette h .call) toldTiles h (assign-apart J palette h .low) (tiles-told _ _ _ refl)
 
 pub first-told : First-told
 first-told =
     record {
       start =
           keeps start.exported start.export-defined start.export-answers
-          (λ κs a. start-tells (start.course-given κs a) (start.memory-lent κs a) (start.seed-given κs a)) (exports .start);
+          (λ κs a.
+          let b = start.forwarded κs a in
+          start-tells (start.course-given κs b) (start.memory-lent κs b) (start.seed-given κs b)) (exports .start);
       advance =
           keeps advance.exported advance.export-defined advance.export-answers
-          (λ κs a. advance-tells (advance.course-given κs a) (advance.memory-lent κs a) (advance.allotment-given κs a)) (exports .advance);
+          (λ κs a.
+          let b = advance.forwarded κs a in
+          advance-tells (advance.course-given κs b) (advance.memory-lent κs b) (advance.allotment-given κs b)) (exports .advance);
       hand-in =
           keeps hand-in.exported hand-in.export-defined hand-in.export-answers
-          (λ κs a. hand-in-tells (hand-in.course-given κs a) (hand-in.memory-lent κs a) (hand-in.reduced-given κs a)) (exports .hand-in);
+          (λ κs a.
+          let b = hand-in.forwarded κs a in
+          hand-in-tells (hand-in.course-given κs b) (hand-in.memory-lent κs b) (hand-in.reduced-given κs b)) (exports .hand-in);
       result =
           keeps result.exported result.export-defined result.export-answers
-          (λ κs a. result-tells (result.course-given κs a) (result.memory-lent κs a) (result.out-lent κs a)) (exports .result);
+          (λ κs a.
+          let b = result.forwarded κs a in
+          result-tells (result.course-given κs b) (result.memory-lent κs b) (result.out-lent κs b)) (exports .result);
       assign =
           keeps assign.exported assign.export-defined assign.export-answers
-          (λ κs a. assign-tells (assign.job-given κs a) (assign.palette-given κs a) (assign.tiles-lent κs a)) (exports .assign);
+          (λ κs a.
+          let b = assign.forwarded κs a in
+          assign-tells (assign.job-given κs b) (assign.palette-given κs b) (assign.tiles-lent κs b)) (exports .assign);
     }

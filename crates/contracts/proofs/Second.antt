@@ -4,7 +4,7 @@ use mathlib.Core.Path.{_≡_, sym, _∙_}
 use mathlib.Core.List.{List}
 use lib.ListN.{length}
 use lib.Ieee.{Float}
-use Rattle.job.specs.Job.{Job, tileSize}
+use Rattle.job.specs.Job.{Job}
 use Rattle.job.specs.Checks.{plainAnswer}
 use Rattle.fits_check.specs.One.{oneAnswer, singleAnswer}
 use Rattle.assign_tiles.specs.Tiles.{Held}
@@ -13,7 +13,6 @@ use Rattle.stages.specs.Calls.{Memory, advanceAnswer, advanceCall}
 use Rattle.fits_outcome.specs.Fits.{numberOfSingle, singleDef}
 use Rattle.fits_outcome.specs.Pairs.{numberOfPair, pairDef}
 use Rattle.assign.specs.Assign.{assignAnswer, assignDef}
-use Rattle.calls.proofs.Accepted.{few-pixels}
 use Rattle.demands.proofs.First.{first-demand}
 use Rattle.demands.proofs.Second.{second-demand}
 use Rattle.contracts.specs.Advance as advance
@@ -26,25 +25,24 @@ use Rattle.contracts.proofs.Contracts.{contracts}
 
 -- a number that is 0 is an answer that is 0
 module _ (J : Job) (palette : List Float) where
-  single-accepted : (hints : List ℕ) → numberOfSingle (singleDef tileSize J palette hints .answer) ≡ 0 → singleAnswer tileSize J palette (length hints) ≡ 0
+  single-accepted : (hints : List ℕ) → numberOfSingle (singleDef J palette hints .answer) ≡ 0 → singleAnswer J palette (length hints) ≡ 0
   unfolding singleAnswer
-  single-accepted hints h = sym (first-demand tileSize .single-fit J palette hints .call .numbers) ∙ h
+  single-accepted hints h = sym (first-demand .single-fit J palette hints .call .numbers) ∙ h
 
-  pair-accepted : (hints : List ℕ) → numberOfPair (pairDef tileSize J palette hints .answer) ≡ 0 → oneAnswer tileSize J palette (length hints) ≡ 0
+  pair-accepted : (hints : List ℕ) → numberOfPair (pairDef J palette hints .answer) ≡ 0 → oneAnswer J palette (length hints) ≡ 0
   unfolding oneAnswer
-  pair-accepted hints h = sym (first-demand tileSize .best-two J palette hints .call .numbers) ∙ h
+  pair-accepted hints h = sym (first-demand .best-two J palette hints .call .numbers) ∙ h
 
-  assign-accepted : (h : Held) → assignDef tileSize J palette h .number ≡ 0 → assignAnswer tileSize J palette h ≡ 0
+  assign-accepted : (h : Held) → assignDef J palette h .number ≡ 0 → assignAnswer J palette h ≡ 0
   unfolding assignAnswer plainAnswer
-  assign-accepted h e = sym (first-demand tileSize .assign J palette h .call .numbers) ∙ e
+  assign-accepted h e = sym (first-demand .assign J palette h .call .numbers) ∙ e
 
 advance-accepted : (K : Course) (m : Memory) (a : ℕ) → advanceCall K m a .number ≡ 0 → advanceAnswer K m ≡ 0
 unfolding advanceAnswer
-advance-accepted K m a h = sym (first-demand tileSize .advance K m a .call .numbers) ∙ h
+advance-accepted K m a h = sym (first-demand .advance K m a .call .numbers) ∙ h
 
 pub second-kept : Second-kept
 second-kept =
-    let S = second-demand tileSize few-pixels in
     record {
       single-fit =
           keeps single-fit.compiled single-fit.defined single-fit.chooses
@@ -52,26 +50,26 @@ second-kept =
           let J = single-fit.job-given κs a in
           let p = single-fit.palette-given κs a in
           let hints = single-fit.hints-lent κs a in
-          S .single-fit J p .chooses hints (single-accepted J p hints h)) (contracts .single-fit);
+          second-demand .single-fit J p .chooses hints (single-accepted J p hints h)) (contracts .single-fit);
       best-two =
           keeps best-two.compiled best-two.defined best-two.chooses
           (λ κs a h.
           let J = best-two.job-given κs a in
           let p = best-two.palette-given κs a in
           let hints = best-two.hints-lent κs a in
-          S .best-two J p .chooses hints (pair-accepted J p hints h)) (contracts .best-two);
+          second-demand .best-two J p .chooses hints (pair-accepted J p hints h)) (contracts .best-two);
       assign =
           keeps assign.compiled assign.defined assign.chooses
           (λ κs a h.
           let J = assign.job-given κs a in
           let p = assign.palette-given κs a in
           let tiles = assign.tiles-lent κs a in
-          S .assign J p .chooses tiles (assign-accepted J p tiles h)) (contracts .assign);
+          second-demand .assign J p .chooses tiles (assign-accepted J p tiles h)) (contracts .assign);
       advance =
           keeps advance.compiled advance.defined advance.draws
           (λ κs a h.
           let K = advance.course-given κs a in
           let m = advance.memory-lent κs a in
           let allotment = advance.allotment-given κs a in
-          S .advance K m allotment (advance-accepted K m allotment h)) (contracts .advance);
+          second-demand .advance K m allotment (advance-accepted K m allotment h)) (contracts .advance);
     }

@@ -9,7 +9,7 @@ use contract.Lifetimes.{Lfts}
 use denote.Ref.{now}
 use denote.Triple.Entry.{Args, Res}
 use denote.Triple.Clauses.{AtExit}
-use Rattle.job.specs.Job.{Job, job, tileSize, isEmpty}
+use Rattle.job.specs.Job.{Job, sizesOf, jobOf, isEmpty}
 use Rattle.job.specs.Rules.{Rule, answer}
 use Rattle.job.specs.Checks.{plainRules}
 use Rattle.palette_tile.specs.Tiles.{winner}
@@ -26,34 +26,33 @@ use Rattle.contracts.specs.Answers.{Answers, Tells}
 use Rattle.contracts.specs.Keeps.{Compiled}
 
 module _ (κs : Lfts (function.signature .lifetimes)) (a : Args function.signature κs) where
-  -- the sizes and the weight, then the job's slices and the palette, then the hints and the room for the subpalettes
+  -- the sizes, then the job's slices and the palette, then the hints and the room for the subpalettes
   abbrev pub job-given : Job
   job-given =
-      let j = a .1 .1 .1 .1 in
-      job (a .0) (a .1 .0) (a .1 .1 .0) (a .1 .1 .1 .0) (now (j .0)) (now (j .1 .0)) (now (j .1 .1 .0))
+      let j = a .1 in
+      jobOf (a .0) (now (j .0)) (now (j .1 .0)) (now (j .1 .1 .0))
 
   abbrev pub palette-given : List Float
-  palette-given = now (a .1 .1 .1 .1 .1 .1 .1 .0)
+  palette-given = now (a .1 .1 .1 .1 .0)
 
   abbrev pub tiles-lent : Held
   tiles-lent =
-      let h = a .1 .1 .1 .1 .1 .1 .1 .1 in
+      let h = a .1 .1 .1 .1 .1 in
       held (now (h .0)) (now (h .1 .0))
 
   abbrev pub tiles-left : AtExit function.ended κs → Held
   tiles-left e =
-      let h = e .1 .1 .1 .1 .1 .1 .1 .1 in
+      let h = e .1 .1 .1 .1 .1 in
       held (now (h .0)) (now (h .1 .0))
 
   abbrev rules : List Rule
-  rules = plainRules tileSize job-given palette-given (roomFor (job-given .T) (length (tiles-lent .hints)) (length (tiles-lent .out)))
+  rules = plainRules job-given palette-given (roomFor (job-given .T) (length (tiles-lent .hints)) (length (tiles-lent .out)))
 
-  -- ---- the function
   abbrev pub seen : Res function.signature κs → AtExit function.ended κs → Outcome
   seen r e = outcome r (tiles-left e)
 
   abbrev pub defined : Outcome
-  defined = assignDef tileSize job-given palette-given tiles-lent
+  defined = assignDef job-given palette-given tiles-lent
 
   abbrev pub answers : Outcome → Type 0
   answers = Answers Outcome (λ y. y .number) (answer rules) (λ k. outcome k tiles-lent)
@@ -68,15 +67,19 @@ module _ (κs : Lfts (function.signature .lifetimes)) (a : Args function.signatu
       × (getD (x .after .out) t 0 ≡ winner job-given palette-given s c t)
       × (getD (x .after .hints) t 0 ≡ winner job-given palette-given s c t)
 
-  -- ---- its export
+-- its export takes S, C, T and the weight by themselves, for tiles of 64 pixels
+module _ (κs : Lfts (export.signature .lifetimes)) (a : Args export.signature κs) where
+  abbrev pub forwarded : Args function.signature κs
+  forwarded = (sizesOf (a .0) (a .1 .0) (a .1 .1 .0) 0 (a .1 .1 .1 .0), a .1 .1 .1 .1)
+
   abbrev pub export-seen : Res export.signature κs → AtExit export.ended κs → Told Held
-  export-seen r e = told r (tiles-left e)
+  export-seen r e = told r (tiles-left κs forwarded (forwarded .0, e .1 .1 .1 .1))
 
   abbrev pub export-defined : Told Held
-  export-defined = toldTiles defined
+  export-defined = toldTiles (defined κs forwarded)
 
   abbrev pub export-answers : Told Held → Type 0
-  export-answers = Tells Held (answer rules) tiles-lent
+  export-answers = Tells Held (answer (rules κs forwarded)) (tiles-lent κs forwarded)
 
 abbrev pub compiled : Compiled Outcome
 compiled = record { ended = function.ended; seen = seen; code = symbol.routine }

@@ -8,7 +8,7 @@ use contract.Lifetimes.{Lfts}
 use denote.Ref.{now}
 use denote.Triple.Entry.{Args, Res}
 use denote.Triple.Clauses.{AtExit}
-use Rattle.job.specs.Job.{Job, job, tileSize}
+use Rattle.job.specs.Job.{Job, jobOf}
 use Rattle.job.specs.Rules.{answer}
 use Rattle.palette_tile.specs.Tiles.{winner, twoAt}
 use Rattle.fits_check.specs.One.{oneRules}
@@ -21,27 +21,27 @@ use Rattle.contracts.specs.Answers.{Answers}
 use Rattle.contracts.specs.Keeps.{Compiled}
 
 module _ (κs : Lfts (function.signature .lifetimes)) (a : Args function.signature κs) where
-  -- the sizes and the weight, then the job's slices and the palette, then the hints
+  -- the sizes, then the job's slices and the palette, then the hints
   abbrev pub job-given : Job
   job-given =
-      let j = a .1 .1 .1 .1 in
-      job (a .0) (a .1 .0) (a .1 .1 .0) (a .1 .1 .1 .0) (now (j .0)) (now (j .1 .0)) (now (j .1 .1 .0))
+      let j = a .1 in
+      jobOf (a .0) (now (j .0)) (now (j .1 .0)) (now (j .1 .1 .0))
 
   abbrev pub palette-given : List Float
-  palette-given = now (a .1 .1 .1 .1 .1 .1 .1 .0)
+  palette-given = now (a .1 .1 .1 .1 .0)
 
   abbrev pub hints-lent : List ℕ
-  hints-lent = now (a .1 .1 .1 .1 .1 .1 .1 .1 .0)
+  hints-lent = now (a .1 .1 .1 .1 .1 .0)
 
   abbrev pub seen : Res function.signature κs → AtExit function.ended κs → PairOutcome
-  seen r e = pairOutcome r (now (e .1 .1 .1 .1 .1 .1 .1 .1 .0))
+  seen r e = pairOutcome r (now (e .1 .1 .1 .1 .1 .0))
 
   abbrev pub defined : PairOutcome
-  defined = pairDef tileSize job-given palette-given hints-lent
+  defined = pairDef job-given palette-given hints-lent
 
   abbrev pub answers : PairOutcome → Type 0
   answers =
-      Answers PairOutcome (λ y. numberOfPair (y .answer)) (answer (oneRules tileSize job-given palette-given (length hints-lent))) (λ k. pairOutcome (pair.Refused k) hints-lent)
+      Answers PairOutcome (λ y. numberOfPair (y .answer)) (answer (oneRules job-given palette-given (length hints-lent))) (λ k. pairOutcome (pair.Refused k) hints-lent)
 
   -- the second demand: where it answers, it answers with the choice, which becomes the hint
   abbrev pub chooses : PairOutcome → Type 0

@@ -5,9 +5,9 @@ use contract.Lifetimes.{Lfts}
 use denote.Ref.{now}
 use denote.Triple.Entry.{Args, Res}
 use denote.Triple.Clauses.{AtExit}
-use Rattle.job.specs.Job.{job, tileSize}
+use Rattle.job.specs.Job.{sizesOf}
 use Rattle.job.specs.Rules.{answer}
-use Rattle.quantizer.specs.Course.{Course, course}
+use Rattle.quantizer.specs.Course.{Course, courseOf}
 use Rattle.stages.specs.Calls.{Memory, memory, Copied, copiedTo, resultCall}
 use Rattle.demands.specs.First.{resultRules}
 use Rattle.told.specs.Packed.{Told, told}
@@ -20,25 +20,23 @@ use Rattle.contracts.specs.Answers.{Answers, Tells}
 use Rattle.contracts.specs.Keeps.{Compiled}
 
 module _ (κs : Lfts (function.signature .lifetimes)) (a : Args function.signature κs) where
-  -- the sizes, n and the weight, then the job's slices, the samples, the memory, and the room for the colours
+  -- the sizes, then the job's slices, the samples, the memory, and the room for the colours
   abbrev pub course-given : Course
   course-given =
-      let b = a .1 .1 .1 in
-      let j = b .1 .1 in
-      course (job (a .0) (a .1 .0) (a .1 .1 .0) (b .1 .0) (now (j .0)) (now (j .1 .0)) (now (j .1 .1 .0))) (b .0) (now (j .1 .1 .1 .0))
+      let j = a .1 in
+      courseOf (a .0) (now (j .0)) (now (j .1 .0)) (now (j .1 .1 .0)) (now (j .1 .1 .1 .0))
 
   abbrev pub memory-lent : Memory
   memory-lent =
-      let m = a .1 .1 .1 .1 .1 .1 .1 .1 .1 in
+      let m = a .1 .1 .1 .1 .1 in
       memory (now (m .0)) (now (m .1 .0)) (now (m .1 .1 .0)) (now (m .1 .1 .1 .0)) (now (m .1 .1 .1 .1 .0))
 
   abbrev pub out-lent : List Float
-  out-lent = now (a .1 .1 .1 .1 .1 .1 .1 .1 .1 .1 .1 .1 .1 .1 .0)
+  out-lent = now (a .1 .1 .1 .1 .1 .1 .1 .1 .1 .1 .0)
 
   abbrev pub out-left : AtExit function.ended κs → List Float
-  out-left e = now (e .1 .1 .1 .1 .1 .1 .1 .1 .1 .1 .1 .1 .1 .1 .0)
+  out-left e = now (e .1 .1 .1 .1 .1 .1 .1 .1 .1 .1 .0)
 
-  -- ---- the function
   abbrev pub seen : Res function.signature κs → AtExit function.ended κs → Copied
   seen r e = copiedTo r (out-left e)
 
@@ -46,17 +44,21 @@ module _ (κs : Lfts (function.signature .lifetimes)) (a : Args function.signatu
   defined = resultCall course-given memory-lent out-lent
 
   abbrev pub answers : Copied → Type 0
-  answers = Answers Copied (λ y. y .number) (answer (resultRules tileSize course-given memory-lent out-lent)) (λ k. copiedTo k out-lent)
+  answers = Answers Copied (λ y. y .number) (answer (resultRules course-given memory-lent out-lent)) (λ k. copiedTo k out-lent)
 
-  -- ---- its export
+-- its export takes S, C, T, n and the weight by themselves, for tiles of 64 pixels
+module _ (κs : Lfts (export.signature .lifetimes)) (a : Args export.signature κs) where
+  abbrev pub forwarded : Args function.signature κs
+  forwarded = (sizesOf (a .0) (a .1 .0) (a .1 .1 .0) (a .1 .1 .1 .0) (a .1 .1 .1 .1 .0), a .1 .1 .1 .1 .1)
+
   abbrev pub export-seen : Res export.signature κs → AtExit export.ended κs → Told (List Float)
-  export-seen r e = told r (out-left e)
+  export-seen r e = told r (out-left κs forwarded (forwarded .0, e .1 .1 .1 .1 .1))
 
   abbrev pub export-defined : Told (List Float)
-  export-defined = toldColours defined
+  export-defined = toldColours (defined κs forwarded)
 
   abbrev pub export-answers : Told (List Float) → Type 0
-  export-answers = Tells (List Float) (answer (resultRules tileSize course-given memory-lent out-lent)) out-lent
+  export-answers = Tells (List Float) (answer (resultRules (course-given κs forwarded) (memory-lent κs forwarded) (out-lent κs forwarded))) (out-lent κs forwarded)
 
 abbrev pub compiled : Compiled Copied
 compiled = record { ended = function.ended; seen = seen; code = symbol.routine }

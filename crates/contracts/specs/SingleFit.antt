@@ -9,7 +9,7 @@ use contract.Lifetimes.{Lfts}
 use denote.Ref.{now}
 use denote.Triple.Entry.{Args, Res}
 use denote.Triple.Clauses.{AtExit}
-use Rattle.job.specs.Job.{Job, job, tileSize, isEmpty}
+use Rattle.job.specs.Job.{Job, jobOf, isEmpty}
 use Rattle.job.specs.Rules.{Rule, rule, answer}
 use Rattle.palette_tile.specs.Tiles.{fitAt, winner}
 use Rattle.fits_check.specs.One.{oneRules}
@@ -22,26 +22,26 @@ use Rattle.contracts.specs.Answers.{Answers}
 use Rattle.contracts.specs.Keeps.{Compiled}
 
 module _ (κs : Lfts (function.signature .lifetimes)) (a : Args function.signature κs) where
-  -- the sizes and the weight, then the job's slices and the palette, then the hints
+  -- the sizes, then the job's slices and the palette, then the hints
   abbrev pub job-given : Job
   job-given =
-      let j = a .1 .1 .1 .1 in
-      job (a .0) (a .1 .0) (a .1 .1 .0) (a .1 .1 .1 .0) (now (j .0)) (now (j .1 .0)) (now (j .1 .1 .0))
+      let j = a .1 in
+      jobOf (a .0) (now (j .0)) (now (j .1 .0)) (now (j .1 .1 .0))
 
   abbrev pub palette-given : List Float
-  palette-given = now (a .1 .1 .1 .1 .1 .1 .1 .0)
+  palette-given = now (a .1 .1 .1 .1 .0)
 
   abbrev pub hints-lent : List ℕ
-  hints-lent = now (a .1 .1 .1 .1 .1 .1 .1 .1 .0)
+  hints-lent = now (a .1 .1 .1 .1 .1 .0)
 
   abbrev pub seen : Res function.signature κs → AtExit function.ended κs → SingleOutcome
-  seen r e = singleOutcome r (now (e .1 .1 .1 .1 .1 .1 .1 .1 .0))
+  seen r e = singleOutcome r (now (e .1 .1 .1 .1 .1 .0))
 
   abbrev pub defined : SingleOutcome
-  defined = singleDef tileSize job-given palette-given hints-lent
+  defined = singleDef job-given palette-given hints-lent
 
   abbrev rules : List Rule
-  rules = oneRules tileSize job-given palette-given (length hints-lent) ++ (rule 15 (not (isEmpty job-given 0)) ∷ [])
+  rules = oneRules job-given palette-given (length hints-lent) ++ (rule 15 (not (isEmpty job-given 0)) ∷ [])
 
   abbrev pub answers : SingleOutcome → Type 0
   answers = Answers SingleOutcome (λ y. numberOfSingle (y .answer)) (answer rules) (λ k. singleOutcome (single.Refused k) hints-lent)

@@ -6,7 +6,7 @@ use contract.Lifetimes.{Lfts}
 use denote.Ref.{now}
 use denote.Triple.Entry.{Args, Res}
 use denote.Triple.Clauses.{AtExit}
-use Rattle.job.specs.Job.{Job, job, tileSize}
+use Rattle.job.specs.Job.{Job, jobOf}
 use Rattle.job.specs.Rules.{answer}
 use Rattle.sheet.specs.declared.Writing.the-variants as writing
 use Rattle.sheet.specs.Sheets.{WriteOutcome, writeOutcome, writeDef}
@@ -17,26 +17,26 @@ use Rattle.contracts.specs.Answers.{Answers}
 use Rattle.contracts.specs.Keeps.{Compiled}
 
 module _ (κs : Lfts (function.signature .lifetimes)) (a : Args function.signature κs) where
-  -- the sizes and the weight, then the job's slices and the palette, then the room for the bytes
+  -- the sizes, then the job's slices and the palette, then the room for the bytes
   abbrev pub job-given : Job
   job-given =
-      let j = a .1 .1 .1 .1 in
-      job (a .0) (a .1 .0) (a .1 .1 .0) (a .1 .1 .1 .0) (now (j .0)) (now (j .1 .0)) (now (j .1 .1 .0))
+      let j = a .1 in
+      jobOf (a .0) (now (j .0)) (now (j .1 .0)) (now (j .1 .1 .0))
 
   abbrev pub palette-given : List Float
-  palette-given = now (a .1 .1 .1 .1 .1 .1 .1 .0)
+  palette-given = now (a .1 .1 .1 .1 .0)
 
   abbrev pub bytes-lent : List ℕ
-  bytes-lent = now (a .1 .1 .1 .1 .1 .1 .1 .1 .0)
+  bytes-lent = now (a .1 .1 .1 .1 .1 .0)
 
   abbrev pub seen : Res function.signature κs → AtExit function.ended κs → WriteOutcome
-  seen r e = writeOutcome r (now (e .1 .1 .1 .1 .1 .1 .1 .1 .0))
+  seen r e = writeOutcome r (now (e .1 .1 .1 .1 .1 .0))
 
   abbrev pub defined : WriteOutcome
-  defined = writeDef tileSize job-given palette-given bytes-lent
+  defined = writeDef job-given palette-given bytes-lent
 
   abbrev pub answers : WriteOutcome → Type 0
-  answers = Answers WriteOutcome (λ y. numberOfWriting (y .answer)) (answer (writeRules tileSize job-given palette-given bytes-lent)) (λ k. writeOutcome (writing.Refused k) bytes-lent)
+  answers = Answers WriteOutcome (λ y. numberOfWriting (y .answer)) (answer (writeRules job-given palette-given bytes-lent)) (λ k. writeOutcome (writing.Refused k) bytes-lent)
 
 abbrev pub compiled : Compiled WriteOutcome
 compiled = record { ended = function.ended; seen = seen; code = symbol.routine }

@@ -31,48 +31,48 @@ six-words (a ∷ b ∷ c ∷ d ∷ e ∷ f ∷ g ∷ ws) h = absurd (omega arith
 abbrev Whole : Memory → Type 0
 Whole m = memoryOf (stateOf m) ≡ m
 
-module _ (size : ℕ) (K : Course) where
-  accepted-whole : (m : Memory) → Accepted size K m → Whole m
+module _ (K : Course) where
+  accepted-whole : (m : Memory) → Accepted K m → Whole m
   unfolding memoryOf stateOf
   accepted-whole m A = ap (λ (ws : List ℕ). memory (m .order) (m .hints) (m .palette) (m .least) ws) (six-words (m .words) (A .roomy .words))
 
   written : (m : Memory) (s : State) → m ≡ memoryOf s → Whole m
   written m s e = ap (λ (x : Memory). memoryOf (stateOf x)) e ∙ ap memoryOf (held-state s) ∙ sym e
 
-  advance-whole : (m : Memory) (a : ℕ) → advanceAnswer size K m ≡ 0 → Whole (advanceCall size K m a .after)
+  advance-whole : (m : Memory) (a : ℕ) → advanceAnswer K m ≡ 0 → Whole (advanceCall K m a .after)
   unfolding advanceCall
-  advance-whole m a h = written _ (advance K a (stateOf m)) (ap (λ (o : Outcome). o .after) (done (advanceAnswer size K m) m (drawsOf K a (stateOf m)) (advance K a (stateOf m)) h))
+  advance-whole m a h = written _ (advance K a (stateOf m)) (ap (λ (o : Outcome). o .after) (done (advanceAnswer K m) m (drawsOf K a (stateOf m)) (advance K a (stateOf m)) h))
 
-  handIn-whole : (m : Memory) (reduced : List Float) → handInAnswer size K m reduced ≡ 0 → Whole (handInCall size K m reduced .after)
+  handIn-whole : (m : Memory) (reduced : List Float) → handInAnswer K m reduced ≡ 0 → Whole (handInCall K m reduced .after)
   unfolding handInCall
-  handIn-whole m reduced h = written _ (handIn K reduced (stateOf m)) (ap (λ (o : Outcome). o .after) (done (handInAnswer size K m reduced) m 0 (handIn K reduced (stateOf m)) h))
+  handIn-whole m reduced h = written _ (handIn K reduced (stateOf m)) (ap (λ (o : Outcome). o .after) (done (handInAnswer K m reduced) m 0 (handIn K reduced (stateOf m)) h))
 
-  advance-drew : (m : Memory) (a : ℕ) → advanceAnswer size K m ≡ 0 → advanceCall size K m a .drew ≡ drawsOf K a (stateOf m)
+  advance-drew : (m : Memory) (a : ℕ) → advanceAnswer K m ≡ 0 → advanceCall K m a .drew ≡ drawsOf K a (stateOf m)
   unfolding advanceCall
-  advance-drew m a h = ap (λ (o : Outcome). o .drew) (done (advanceAnswer size K m) m (drawsOf K a (stateOf m)) (advance K a (stateOf m)) h)
+  advance-drew m a h = ap (λ (o : Outcome). o .drew) (done (advanceAnswer K m) m (drawsOf K a (stateOf m)) (advance K a (stateOf m)) h)
 
-  row-whole : {m x : Memory} {hs : List (List Float)} {d : ℕ} → Row size K m hs d x → Whole m → Whole x
+  row-whole : {m x : Memory} {hs : List (List Float)} {d : ℕ} → Row K m hs d x → Whole m → Whole x
   row-whole none w = w
   row-whole {m} (advanced a h r) w = row-whole r (advance-whole m a h)
   row-whole {m} (handedIn reduced h r) w = row-whole r (handIn-whole m reduced h)
 
-  row-trace : {m x : Memory} {hs : List (List Float)} {d : ℕ} → Row size K m hs d x → Trace K (stateOf m) hs d (stateOf x)
+  row-trace : {m x : Memory} {hs : List (List Float)} {d : ℕ} → Row K m hs d x → Trace K (stateOf m) hs d (stateOf x)
   row-trace none = traces.none
   row-trace {m} {x} {hs} (advanced {d = d} a h r) =
       subst⁻¹ (λ (n : ℕ). Trace K (stateOf m) hs (n + d) (stateOf x)) (advance-drew m a h)
-      (advance-trace K a (stateOf m) (subst (λ (s : State). Trace K s hs d (stateOf x)) (advanced-state size K m a h) (row-trace r)))
+      (advance-trace K a (stateOf m) (subst (λ (s : State). Trace K s hs d (stateOf x)) (advanced-state K m a h) (row-trace r)))
   row-trace {m} {x} (handedIn {hs = hs} {d = d} reduced h r) =
-      took reduced (handIn-opened size K m reduced h .1) (subst (λ (s : State). Trace K s hs d (stateOf x)) (handed-state size K m reduced h) (row-trace r))
+      took reduced (handIn-opened K m reduced h .1) (subst (λ (s : State). Trace K s hs d (stateOf x)) (handed-state K m reduced h) (row-trace r))
 
-  one-memory : {m x y : Memory} {hs ks : List (List Float)} {d e : ℕ} → Whole m → Row size K m hs d x → Row size K m ks e y → hs ≡ ks → d ≡ e → x ≡ y
+  one-memory : {m x y : Memory} {hs ks : List (List Float)} {d e : ℕ} → Whole m → Row K m hs d x → Row K m ks e y → hs ≡ ks → d ≡ e → x ≡ y
   one-memory w r q p n = sym (row-whole r w) ∙ ap memoryOf (one-end K (row-trace r) (row-trace q) p n) ∙ row-whole q w
 
-  one-left : {m x y : Memory} {hs ks : List (List Float)} {d e : ℕ} → Row size K m hs d x → Row size K m ks e y → hs ≡ ks → d ≡ e → x ≡ y
+  one-left : {m x y : Memory} {hs ks : List (List Float)} {d e : ℕ} → Row K m hs d x → Row K m ks e y → hs ≡ ks → d ≡ e → x ≡ y
   one-left none none p n = refl
-  one-left {m} none (advanced a h q) p n = one-memory (accepted-whole m (advance-opened size K m h .0)) none (advanced a h q) p n
-  one-left {m} none (handedIn reduced h q) p n = one-memory (accepted-whole m (handIn-opened size K m reduced h .0)) none (handedIn reduced h q) p n
-  one-left {m} (advanced a h r) q p n = one-memory (accepted-whole m (advance-opened size K m h .0)) (advanced a h r) q p n
-  one-left {m} (handedIn reduced h r) q p n = one-memory (accepted-whole m (handIn-opened size K m reduced h .0)) (handedIn reduced h r) q p n
+  one-left {m} none (advanced a h q) p n = one-memory (accepted-whole m (advance-opened K m h .0)) none (advanced a h q) p n
+  one-left {m} none (handedIn reduced h q) p n = one-memory (accepted-whole m (handIn-opened K m reduced h .0)) none (handedIn reduced h q) p n
+  one-left {m} (advanced a h r) q p n = one-memory (accepted-whole m (advance-opened K m h .0)) (advanced a h r) q p n
+  one-left {m} (handedIn reduced h r) q p n = one-memory (accepted-whole m (handIn-opened K m reduced h .0)) (handedIn reduced h r) q p n
 
-  pub any-division : Any-division size K
+  pub any-division : Any-division K
   any-division = record { same = λ r q. one-left r q refl refl }

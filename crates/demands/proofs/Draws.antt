@@ -57,7 +57,7 @@ least-by d e n b f L =
       first = λ j l. rw (sym (f j (omega (arith, L .within)))) (L .first j l);
     }
 
-module _ (size : ℕ) (small : size ≤ 256) (K : Course) (given : Bool) (D : Sampled size (K .job) (K .n) (K .samples) given) where
+module _ (K : Course) (given : Bool) (D : Sampled (K .job) (K .n) (K .samples) given) where
   module _ (s : State) (F : Fit K s) where
     abbrev i : ℕ
     i = sampleAt s
@@ -66,10 +66,10 @@ module _ (size : ℕ) (small : size ≤ 256) (K : Course) (given : Bool) (D : Sa
     t = sampleTile K i
 
     below : i < K .n
-    below = sample-in size small K given D s (F .sound .dealt)
+    below = sample-in K given D s (F .sound .dealt)
 
     shown : Shown (K .job) (s .palette) (subsOf (K .job .S) (s .rec)) (haveOf (K .job .C) (s .rec))
-    shown = draw-shown size small K (D .ready) s (F .rests .place) (F .sound .held .size) (F .sound .held .bound)
+    shown = draw-shown K (D .ready) s (F .rests .place) (F .sound .held .size) (F .sound .held .bound)
 
     abbrev sub : Near
     sub = fitAt (K .job) (s .palette) (subsOf (K .job .S) (s .rec)) (haveOf (K .job .C) (s .rec)) t
@@ -90,7 +90,7 @@ module _ (size : ℕ) (small : size ≤ 256) (K : Course) (given : Bool) (D : Sa
         (subst (λ (k : ℕ). Least (gap part (sampleColour K i) (K .job .weight)) k colour) many
         (least-has (gap part (sampleColour K i) (K .job .weight)) (length part / 3) (omega (arith, many, shown .some))
         (gap-good part (K .job .weight) (bounded-finite part 4 (part-bounded (K .job) (s .palette) (subsOf (K .job .S) (s .rec)) (haveOf (K .job .C) (s .rec)) shown (sub .index) sub-in)) (D .ready .weight)
-        (sampleColour K i) (sized-real (sampleColour K i) 2 (sample-sized size K given D i below)))))
+        (sampleColour K i) (sized-real (sampleColour K i) 2 (sample-sized K given D i below)))))
       where
         many : length part / 3 ≡ haveOf (K .job .C) (s .rec)
         many = part-colours (K .job) (s .palette) (subsOf (K .job .S) (s .rec)) (haveOf (K .job .C) (s .rec)) shown (sub .index) sub-in
@@ -128,7 +128,7 @@ module _ (size : ℕ) (small : size ≤ 256) (K : Course) (given : Bool) (D : Sa
     | inl d ↦
         subst⁻¹ (λ (b : Bool). Draws K s (cond b (sampleAt s ∷ sampled K a (step K s)) []) (advance K (suc a) s)) d
         (subst⁻¹ (λ (z : State). Draws K s (sampleAt s ∷ sampled K a (step K s)) z) (whilst-step going (step K) a s d)
-        (drawn (fit-moves s F) (fit-draws a (step K s) (step-fit size small K given D s F d))))
+        (drawn (fit-moves s F) (fit-draws a (step K s) (step-fit K given D s F d))))
     | inr d ↦
         subst⁻¹ (λ (b : Bool). Draws K s (cond b (sampleAt s ∷ sampled K a (step K s)) []) (advance K (suc a) s)) d
         (subst⁻¹ (λ (z : State). Draws K s [] z) (whilst-stop going (step K) (suc a) s d) none)
@@ -143,31 +143,31 @@ sampled-many K (suc a) s = elim (decide (going s)) [
   | inr d ↦ ap (λ (b : Bool). length (cond b (sampleAt s ∷ sampled K a (step K s)) [])) d ∙ sym (times-stop going (step K) (suc a) s d)
 ]
 
-module _ (size : ℕ) (small : size ≤ 256) (K : Course) (m : Memory) where
-  pub tiles-chosen : Accepted size K m → (t : ℕ) → t < K .job .T → Chosen (K .job) (stateOf m .palette) (subsOf (K .job .S) (stateOf m .rec)) (haveOf (K .job .C) (stateOf m .rec)) t
+module _ (K : Course) (m : Memory) where
+  pub tiles-chosen : Accepted K m → (t : ℕ) → t < K .job .T → Chosen (K .job) (stateOf m .palette) (subsOf (K .job .S) (stateOf m .rec)) (haveOf (K .job .C) (stateOf m .rec)) t
   tiles-chosen A t l =
       chosen (K .job) (stateOf m .palette) (subsOf (K .job .S) (stateOf m .rec)) (haveOf (K .job .C) (stateOf m .rec))
-      (draw-shown size small K (job-passed size K true (A .passed) .ready) (stateOf m) (A .fit .rests .place) (A .fit .sound .held .size) (A .fit .sound .held .bound)) t l
+      (draw-shown K (job-passed K true (A .passed) .ready) (stateOf m) (A .fit .rests .place) (A .fit .sound .held .size) (A .fit .sound .held .bound)) t l
 
   -- the next draw of an accepted memory
-  pub draw-moves : Accepted size K m → Moves K (sampleAt (stateOf m)) (stateOf m) (draw K (stateOf m))
-  draw-moves A = fit-moves size small K true (job-passed size K true (A .passed)) (stateOf m) (A .fit)
+  pub draw-moves : Accepted K m → Moves K (sampleAt (stateOf m)) (stateOf m) (draw K (stateOf m))
+  draw-moves A = fit-moves K true (job-passed K true (A .passed)) (stateOf m) (A .fit)
 
   -- an accepted advance is as many draws as it reports
-  pub advance-moves : (a : ℕ) → advanceAnswer size K m ≡ 0 → Draws K (stateOf m) (sampled K a (stateOf m)) (stateOf (advanceCall size K m a .after))
+  pub advance-moves : (a : ℕ) → advanceAnswer K m ≡ 0 → Draws K (stateOf m) (sampled K a (stateOf m)) (stateOf (advanceCall K m a .after))
   advance-moves a h =
-      let A = advance-opened size K m h .0 in
-      subst⁻¹ (Draws K (stateOf m) (sampled K a (stateOf m))) (advanced-state size K m a h) (fit-draws size small K true (job-passed size K true (A .passed)) a (stateOf m) (A .fit))
+      let A = advance-opened K m h .0 in
+      subst⁻¹ (Draws K (stateOf m) (sampled K a (stateOf m))) (advanced-state K m a h) (fit-draws K true (job-passed K true (A .passed)) a (stateOf m) (A .fit))
 
-  pub advance-many : (a : ℕ) → advanceAnswer size K m ≡ 0 → length (sampled K a (stateOf m)) ≡ advanceCall size K m a .drew
+  pub advance-many : (a : ℕ) → advanceAnswer K m ≡ 0 → length (sampled K a (stateOf m)) ≡ advanceCall K m a .drew
   unfolding advanceCall
-  advance-many a h = sampled-many K a (stateOf m) ∙ sym (ap (λ (x : Outcome). x .drew) (done (advanceAnswer size K m) m (drawsOf K a (stateOf m)) (advance K a (stateOf m)) h))
+  advance-many a h = sampled-many K a (stateOf m) ∙ sym (ap (λ (x : Outcome). x .drew) (done (advanceAnswer K m) m (drawsOf K a (stateOf m)) (advance K a (stateOf m)) h))
 
   -- by one draw inside a round nothing else is due: memory before and after
-  pub one-draw : advanceAnswer size K m ≡ 0 → 2 ≤ getD (m .words) 3 0 → stateOf (advanceCall size K m 1 .after) ≡ draw K (stateOf m)
+  pub one-draw : advanceAnswer K m ≡ 0 → 2 ≤ getD (m .words) 3 0 → stateOf (advanceCall K m 1 .after) ≡ draw K (stateOf m)
   one-draw h l =
-      let A = advance-opened size K m h in
-      advanced-state size K m 1 h ∙ whilst-step going (step K) 0 (stateOf m) (A .1) ∙ whilst-zero going (step K) (step K (stateOf m)) ∙ (unfold step in settle-idle K (draw K (stateOf m)) idle)
+      let A = advance-opened K m h in
+      advanced-state K m 1 h ∙ whilst-step going (step K) 0 (stateOf m) (A .1) ∙ whilst-zero going (step K) (step K (stateOf m)) ∙ (unfold step in settle-idle K (draw K (stateOf m)) idle)
     where
       idle : due (draw K (stateOf m)) ≡ false
       idle = unfold draw drawWith stateOf in more (draws (getD (m .words) 1 0)) (getD (m .words) 3 0) l
@@ -176,5 +176,5 @@ module _ (size : ℕ) (small : size ≤ 256) (K : Course) (m : Memory) where
           more true n h = ne-eqb (n - 1) 0 (λ (e : n - 1 ≡ 0). omega arith)
           more false n h = refl
 
-  pub one-moves : advanceAnswer size K m ≡ 0 → 2 ≤ getD (m .words) 3 0 → Moves K (sampleAt (stateOf m)) (stateOf m) (stateOf (advanceCall size K m 1 .after))
-  one-moves h l = subst⁻¹ (Moves K (sampleAt (stateOf m)) (stateOf m)) (one-draw h l) (draw-moves (advance-opened size K m h .0))
+  pub one-moves : advanceAnswer K m ≡ 0 → 2 ≤ getD (m .words) 3 0 → Moves K (sampleAt (stateOf m)) (stateOf m) (stateOf (advanceCall K m 1 .after))
+  one-moves h l = subst⁻¹ (Moves K (sampleAt (stateOf m)) (stateOf m)) (one-draw h l) (draw-moves (advance-opened K m h .0))

@@ -28,78 +28,78 @@ use Rattle.calls.proofs.Answers.{advance-opened, advance-closed, handIn-opened,
 use Rattle.calls.proofs.Next.{done, advanced-state, handed-state, advance-leaves, call-draws}
 use Rattle.demands.specs.Ends.{Calls, advanced, ahead, handedIn, none}
 
-module _ (size : ℕ) (small : size ≤ 256) (K : Course) where
+module _ (K : Course) where
   -- a run makes no more than (S + C + 18) · b draws
-  few-made : (m : Memory) → Accepted size K m → getD (m .words) 4 0 ≤ (K .job .S + K .job .C + 18) * b K
+  few-made : (m : Memory) → Accepted K m → getD (m .words) 4 0 ≤ (K .job .S + K .job .C + 18) * b K
   unfolding stateOf
   few-made m A = omega (arith, made-few K (stateOf m) (A .fit .rests .place))
 
   -- an advance brings the finish nearer by the draws that it reports, which are some where it has an allotment
-  pub advance-nearer : (m : Memory) (a : ℕ) → advanceAnswer size K m ≡ 0 → ahead K (advanceCall size K m a .after) + advanceCall size K m a .drew ≡ ahead K m
-  advance-nearer m a h = omega (arith, few-made (advanceCall size K m a .after) (advance-leaves size small K m a h), call-draws size small K m a, same)
+  pub advance-nearer : (m : Memory) (a : ℕ) → advanceAnswer K m ≡ 0 → ahead K (advanceCall K m a .after) + advanceCall K m a .drew ≡ ahead K m
+  advance-nearer m a h = omega (arith, few-made (advanceCall K m a .after) (advance-leaves K m a h), call-draws K m a, same)
     where
-      same : handIns (getD (advanceCall size K m a .after .words) 1 0) ≡ handIns (getD (m .words) 1 0)
-      same = unfold stateOf in ap (λ (s : State). handIns (s .rec .stage)) (advanced-state size K m a h) ∙ advance-hand-ins K a (stateOf m) (advance-opened size K m h .1)
+      same : handIns (getD (advanceCall K m a .after .words) 1 0) ≡ handIns (getD (m .words) 1 0)
+      same = unfold stateOf in ap (λ (s : State). handIns (s .rec .stage)) (advanced-state K m a h) ∙ advance-hand-ins K a (stateOf m) (advance-opened K m h .1)
 
-  pub advance-draws : (m : Memory) (a : ℕ) → advanceAnswer size K m ≡ 0 → 1 ≤ advanceCall size K m (suc a) .drew
+  pub advance-draws : (m : Memory) (a : ℕ) → advanceAnswer K m ≡ 0 → 1 ≤ advanceCall K m (suc a) .drew
   unfolding advanceCall
   advance-draws m a h =
-      omega (arith, ap (λ (x : Outcome). x .drew) (done (advanceAnswer size K m) m (drawsOf K (suc a) (stateOf m)) (advance K (suc a) (stateOf m)) h), times-step going (step K) a (stateOf m) (advance-opened size K m h .1))
+      omega (arith, ap (λ (x : Outcome). x .drew) (done (advanceAnswer K m) m (drawsOf K (suc a) (stateOf m)) (advance K (suc a) (stateOf m)) h), times-step going (step K) a (stateOf m) (advance-opened K m h .1))
 
   -- and where its allotment covers the draws that are missing it ends at a stop
-  pub advance-stops : (m : Memory) (a : ℕ) → advanceAnswer size K m ≡ 0 → (K .job .S + K .job .C + 18) * b K ≤ getD (m .words) 4 0 + a
-      → draws (getD (advanceCall size K m a .after .words) 1 0) ≡ false
-  advance-stops m a h l = elim (decide (draws (getD (advanceCall size K m a .after .words) 1 0))) [
+  pub advance-stops : (m : Memory) (a : ℕ) → advanceAnswer K m ≡ 0 → (K .job .S + K .job .C + 18) * b K ≤ getD (m .words) 4 0 + a
+      → draws (getD (advanceCall K m a .after .words) 1 0) ≡ false
+  advance-stops m a h l = elim (decide (draws (getD (advanceCall K m a .after .words) 1 0))) [
     | inl t ↦ absurd (omega (arith, l, spent t, made, left t))
     | inr t ↦ t
   ]
     where
-      A : Accepted size K (advanceCall size K m a .after)
-      A = advance-leaves size small K m a h
+      A : Accepted K (advanceCall K m a .after)
+      A = advance-leaves K m a h
 
-      made : getD (advanceCall size K m a .after .words) 4 0 ≡ getD (m .words) 4 0 + drawsOf K a (stateOf m)
-      made = unfold stateOf in ap (λ (s : State). s .rec .made) (advanced-state size K m a h) ∙ advance-made K a (stateOf m)
+      made : getD (advanceCall K m a .after .words) 4 0 ≡ getD (m .words) 4 0 + drawsOf K a (stateOf m)
+      made = unfold stateOf in ap (λ (s : State). s .rec .made) (advanced-state K m a h) ∙ advance-made K a (stateOf m)
 
-      spent : draws (getD (advanceCall size K m a .after .words) 1 0) ≡ true → drawsOf K a (stateOf m) ≡ a
-      spent t = unfold stateOf in all-spent K a (stateOf m) (sym (ap (λ (s : State). draws (s .rec .stage)) (advanced-state size K m a h)) ∙ t)
+      spent : draws (getD (advanceCall K m a .after .words) 1 0) ≡ true → drawsOf K a (stateOf m) ≡ a
+      spent t = unfold stateOf in all-spent K a (stateOf m) (sym (ap (λ (s : State). draws (s .rec .stage)) (advanced-state K m a h)) ∙ t)
 
-      left : draws (getD (advanceCall size K m a .after .words) 1 0) ≡ true → getD (advanceCall size K m a .after .words) 4 0 < (K .job .S + K .job .C + 18) * b K
+      left : draws (getD (advanceCall K m a .after .words) 1 0) ≡ true → getD (advanceCall K m a .after .words) 4 0 < (K .job .S + K .job .C + 18) * b K
       left t =
           unfold stateOf in
-          omega (arith, some-left K (stateOf (advanceCall size K m a .after)) (A .fit .rests) t, made-few K (stateOf (advanceCall size K m a .after)) (A .fit .rests .place))
+          omega (arith, some-left K (stateOf (advanceCall K m a .after)) (A .fit .rests) t, made-few K (stateOf (advanceCall K m a .after)) (A .fit .rests .place))
 
-  pub hand-in-nearer : (m : Memory) (reduced : List Float) → handInAnswer size K m reduced ≡ 0 → suc (ahead K (handInCall size K m reduced .after)) ≡ ahead K m
+  pub hand-in-nearer : (m : Memory) (reduced : List Float) → handInAnswer K m reduced ≡ 0 → suc (ahead K (handInCall K m reduced .after)) ≡ ahead K m
   hand-in-nearer m reduced h = omega (arith, same, one)
     where
-      same : getD (handInCall size K m reduced .after .words) 4 0 ≡ getD (m .words) 4 0
-      same = unfold stateOf in ap (λ (s : State). s .rec .made) (handed-state size K m reduced h) ∙ handIn-made K reduced (stateOf m)
+      same : getD (handInCall K m reduced .after .words) 4 0 ≡ getD (m .words) 4 0
+      same = unfold stateOf in ap (λ (s : State). s .rec .made) (handed-state K m reduced h) ∙ handIn-made K reduced (stateOf m)
 
-      one : suc (handIns (getD (handInCall size K m reduced .after .words) 1 0)) ≡ handIns (getD (m .words) 1 0)
-      one = unfold stateOf in ap (λ (s : State). suc (handIns (s .rec .stage))) (handed-state size K m reduced h) ∙ hand-in-one K reduced (stateOf m) (handIn-opened size K m reduced h .1)
+      one : suc (handIns (getD (handInCall K m reduced .after .words) 1 0)) ≡ handIns (getD (m .words) 1 0)
+      one = unfold stateOf in ap (λ (s : State). suc (handIns (s .rec .stage))) (handed-state K m reduced h) ∙ hand-in-one K reduced (stateOf m) (handIn-opened K m reduced h .1)
 
   -- so no row of calls is longer than what was ahead
-  pub ends : {m x : Memory} {k : ℕ} → Calls size K m k x → k + ahead K x ≤ ahead K m
+  pub ends : {m x : Memory} {k : ℕ} → Calls K m k x → k + ahead K x ≤ ahead K m
   ends none = omega arith
   ends (advanced {k} {x} c a h) = omega (arith, ends c, advance-nearer x (suc a) h, advance-draws x a h)
   ends (handedIn {k} {x} c reduced h) = omega (arith, ends c, hand-in-nearer x reduced h)
 
-  pub few-calls : {m x : Memory} {k : ℕ} → Calls size K m k x → k ≤ (K .job .S + K .job .C + 18) * b K + 3
+  pub few-calls : {m x : Memory} {k : ℕ} → Calls K m k x → k ≤ (K .job .S + K .job .C + 18) * b K + 3
   few-calls {m} c = omega (arith, ends c, few-hand-ins (getD (m .words) 1 0))
 
   -- short of the finish a call is accepted, and at the finish the result is
-  pub goes-on : (m : Memory) → Accepted size K m → getD (m .words) 1 0 ≢ 7
-      → (advanceAnswer size K m ≡ 0) ⊎ ((reduced : List Float) → coloursRoom size K reduced ≡ true → componentsFit two reduced ≡ true → handInAnswer size K m reduced ≡ 0)
+  pub goes-on : (m : Memory) → Accepted K m → getD (m .words) 1 0 ≢ 7
+      → (advanceAnswer K m ≡ 0) ⊎ ((reduced : List Float) → coloursRoom K reduced ≡ true → componentsFit two reduced ≡ true → handInAnswer K m reduced ≡ 0)
   unfolding stateOf
   goes-on m A n = go (A .fit .rests .place)
     where
-      drawn : {k : ℕ} → getD (m .words) 1 0 ≡ k → draws k ≡ true → advanceAnswer size K m ≡ 0
-      drawn k d = advance-closed size K m A (ap draws k ∙ d)
+      drawn : {k : ℕ} → getD (m .words) 1 0 ≡ k → draws k ≡ true → advanceAnswer K m ≡ 0
+      drawn k d = advance-closed K m A (ap draws k ∙ d)
 
-      stopped : {k : ℕ} → getD (m .words) 1 0 ≡ k → stops k ≡ true → (reduced : List Float) → coloursRoom size K reduced ≡ true → componentsFit two reduced ≡ true → handInAnswer size K m reduced ≡ 0
-      stopped k d reduced r f = handIn-closed size K m reduced A (ap stops k ∙ d) r f
+      stopped : {k : ℕ} → getD (m .words) 1 0 ≡ k → stops k ≡ true → (reduced : List Float) → coloursRoom K reduced ≡ true → componentsFit two reduced ≡ true → handInAnswer K m reduced ≡ 0
+      stopped k d reduced r f = handIn-closed K m reduced A (ap stops k ∙ d) r f
 
       go : Placed K (stateOf m)
-          → (advanceAnswer size K m ≡ 0) ⊎ ((reduced : List Float) → coloursRoom size K reduced ≡ true → componentsFit two reduced ≡ true → handInAnswer size K m reduced ≡ 0)
+          → (advanceAnswer K m ≡ 0) ⊎ ((reduced : List Float) → coloursRoom K reduced ≡ true → componentsFit two reduced ≡ true → handInAnswer K m reduced ≡ 0)
       go (seeding k r l e) = inl (drawn k refl)
       go (growing k r l e) = inl (drawn k refl)
       go (replacing k r l e) = inl (drawn k refl)
@@ -110,6 +110,6 @@ module _ (size : ℕ) (small : size ≤ 256) (K : Course) where
         | no q ↦ inr (stopped {k = 6} (omega (arith, q, n)) refl)
       ]
 
-  pub finished : (m : Memory) → Accepted size K m → getD (m .words) 1 0 ≡ 7 → (out : List Float) → coloursRoom size K out ≡ true → resultAnswer size K m out ≡ 0
+  pub finished : (m : Memory) → Accepted K m → getD (m .words) 1 0 ≡ 7 → (out : List Float) → coloursRoom K out ≡ true → resultAnswer K m out ≡ 0
   unfolding stateOf
-  finished m A e out r = result-closed size K m out A (eq-eqb (getD (m .words) 1 0) 7 e) r
+  finished m A e out r = result-closed K m out A (eq-eqb (getD (m .words) 1 0) 7 e) r

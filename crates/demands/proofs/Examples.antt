@@ -18,7 +18,7 @@ use Rattle.extremes.proofs.Examples.{argmax-of-1-3-3, argmin-of-2-1-1}
 use Rattle.stats.specs.declared.Near.{Near}
 use Rattle.job.specs.Job.{job}
 use Rattle.job.specs.Rules.{answer}
-use Rattle.job.specs.Checks.{among, within, weightFits, tileTest, tileFits, tilesFit, countTest, countFits, partFits, tileCountsFit, countsFit, firstNot, componentFits, firstBad, sampleTest, sampleFits, samplesFit, plainAnswer}
+use Rattle.job.specs.Checks.{tileSized, among, within, weightFits, tileTest, tileFits, tilesFit, countTest, countFits, partFits, tileCountsFit, countsFit, firstNot, componentFits, firstBad, sampleTest, sampleFits, samplesFit, plainAnswer}
 use Rattle.palette.proofs.Example.{middle-first}
 use Rattle.color.proofs.Example.{half-way}
 use Rattle.palette_tile.specs.Tiles.{fitAt}
@@ -35,23 +35,23 @@ use Rattle.demands.proofs.Finish.{run-ends}
 
 -- ---- the runs
 -- the draws of a run past its last, by the cycle
-all-draws : (size : ℕ) → size ≤ 256 → (K : Course) (seed s c n : ℕ) {m : Memory} {ds : List ℕ} → Run size K seed m ds → Past s c n K m → ds ≡ firsts (drawAt n seed) ((s + c + 18) * (n / 10))
-all-draws size small K seed s c n r P =
-    run-samples size K seed r
-    ∙ ap (firsts (drawAt (K .n) seed)) (run-end size small K seed r (P .stage))
+all-draws : (K : Course) (seed s c n : ℕ) {m : Memory} {ds : List ℕ} → Run K seed m ds → Past s c n K m → ds ≡ firsts (drawAt n seed) ((s + c + 18) * (n / 10))
+all-draws K seed s c n r P =
+    run-samples K seed r
+    ∙ ap (firsts (drawAt (K .n) seed)) (run-end K seed r (P .stage))
     ∙ ap (λ (k : ℕ). firsts (drawAt (K .n) seed) ((k + K .job .C + 18) * (K .n / 10))) (P .subs)
     ∙ ap (λ (k : ℕ). firsts (drawAt (K .n) seed) ((s + k + 18) * (K .n / 10))) (P .colours)
     ∙ ap (λ (k : ℕ). firsts (drawAt k seed) ((s + c + 18) * (k / 10))) (P .samples)
 
-module _ (size : ℕ) (small : size ≤ 256) (K : Course) (seed : ℕ) {m : Memory} {ds : List ℕ} (r : Run size K seed m ds) where
+module _ (K : Course) (seed : ℕ) {m : Memory} {ds : List ℕ} (r : Run K seed m ds) where
   run-of-20 : Past 1 1 10 K m → Each-twice ds
   run-of-20 P =
-      let e = all-draws size small K seed 1 1 10 r P in
+      let e = all-draws K seed 1 1 10 r P in
       (ap length e ∙ length-firsts (drawAt 10 seed) 20, λ i h. ap (count i) e ∙ twenty-of-ten seed i h)
 
   run-of-44 : Past 2 2 25 K m → Most-twice ds
   run-of-44 P =
-      let e = all-draws size small K seed 2 2 25 r P in
+      let e = all-draws K seed 2 2 25 r P in
       let x = forty-four-of-twenty-five seed in (
         ap length e ∙ length-firsts (drawAt 25 seed) 44,
         subst⁻¹ (λ (xs : List ℕ). hits (λ i. count i xs) 2 25 ≡ 19) e (x .0),
@@ -60,22 +60,19 @@ module _ (size : ℕ) (small : size ≤ 256) (K : Course) (seed : ℕ) {m : Memo
 
 -- one of each, from any seed
 module _ (seed : ℕ) where
-  ten-accepted : startAnswer 64 (oneColour 1 1 10) (blank 1 1 10) ≡ 0
-  unfolding startAnswer memoryRoom coloursRoom answer among weightFits tilesFit tileFits tileTest countsFit tileCountsFit partFits countFits countTest firstBad firstNot componentFits within samplesFit sampleFits sampleTest every sum ofBits neg le lt eq
-  ten-accepted = refl
+  accepted-starts : (startAnswer (oneColour 1 1 10) (blank 1 1 10) ≡ 0) × (startAnswer (oneColour 2 2 25) (blank 2 2 25) ≡ 0)
+  unfolding startAnswer memoryRoom coloursRoom answer tileSized among weightFits tilesFit tileFits tileTest countsFit tileCountsFit partFits countFits countTest
+      firstBad firstNot componentFits within samplesFit sampleFits sampleTest every sum ofBits neg le lt eq
+  accepted-starts = (refl, refl)
 
-  twenty-five-accepted : startAnswer 64 (oneColour 2 2 25) (blank 2 2 25) ≡ 0
-  unfolding startAnswer memoryRoom coloursRoom answer among weightFits tilesFit tileFits tileTest countsFit tileCountsFit partFits countFits countTest firstBad firstNot componentFits within samplesFit sampleFits sampleTest every sum ofBits neg le lt eq
-  twenty-five-accepted = refl
-
-  past : (s c n : ℕ) (x : Finished 64 (oneColour s c n) seed) → Past s c n (oneColour s c n) (x .last)
+  past : (s c n : ℕ) (x : Finished (oneColour s c n) seed) → Past s c n (oneColour s c n) (x .last)
   past s c n x = record { subs = refl; colours = refl; samples = refl; stage = omega (arith, x .stage) }
 
-  there-is-20 : (x : Finished 64 (oneColour 1 1 10) seed) × Each-twice (x .samples)
-  there-is-20 = let x = run-ends 64 (lit≤ tt) (oneColour 1 1 10) .finished (blank 1 1 10) seed ten-accepted in (x, run-of-20 64 (lit≤ tt) (oneColour 1 1 10) seed (x .run) (past 1 1 10 x))
+  there-is-20 : (x : Finished (oneColour 1 1 10) seed) × Each-twice (x .samples)
+  there-is-20 = let x = run-ends (oneColour 1 1 10) .finished (blank 1 1 10) seed (accepted-starts .0) in (x, run-of-20 (oneColour 1 1 10) seed (x .run) (past 1 1 10 x))
 
-  there-is-44 : (x : Finished 64 (oneColour 2 2 25) seed) × Most-twice (x .samples)
-  there-is-44 = let x = run-ends 64 (lit≤ tt) (oneColour 2 2 25) .finished (blank 2 2 25) seed twenty-five-accepted in (x, run-of-44 64 (lit≤ tt) (oneColour 2 2 25) seed (x .run) (past 2 2 25 x))
+  there-is-44 : (x : Finished (oneColour 2 2 25) seed) × Most-twice (x .samples)
+  there-is-44 = let x = run-ends (oneColour 2 2 25) .finished (blank 2 2 25) seed (accepted-starts .1) in (x, run-of-44 (oneColour 2 2 25) seed (x .run) (past 2 2 25 x))
 
 -- ---- the sheet
 middle : fitAt sheetJob sheetPalette 2 1 2 ≡ record { index = 0; dist = half }
@@ -86,12 +83,13 @@ module _ (a c hint d w x y z : ℕ) where
   abbrev lent : Held
   lent = held (a ∷ c ∷ hint ∷ d ∷ []) (w ∷ x ∷ y ∷ z ∷ [])
 
-  accepted : assignAnswer 64 sheetJob sheetPalette lent ≡ 0
-  unfolding assignAnswer plainAnswer answer roomFor among weightFits tilesFit tileFits tileTest countsFit tileCountsFit partFits countFits countTest firstBad firstNot componentFits within every sum ofBits neg le lt eq
+  accepted : assignAnswer sheetJob sheetPalette lent ≡ 0
+  unfolding assignAnswer plainAnswer answer roomFor tileSized among weightFits tilesFit tileFits tileTest countsFit tileCountsFit partFits countFits countTest
+      firstBad firstNot componentFits within every sum ofBits neg le lt eq
   accepted = refl
 
-  from-any : getD (assignDef 64 sheetJob sheetPalette lent .after .out) 2 0 ≡ 0
-  from-any = second-demand 64 (lit≤ tt) .assign sheetJob sheetPalette .chooses lent accepted 2 (lit< tt) refl .1 ∙ ap (λ (b : Near). b .index) middle
+  from-any : getD (assignDef sheetJob sheetPalette lent .after .out) 2 0 ≡ 0
+  from-any = second-demand .assign sheetJob sheetPalette .chooses lent accepted 2 (lit< tt) refl .1 ∙ ap (λ (b : Near). b .index) middle
 
 pub examples : Examples
 examples =

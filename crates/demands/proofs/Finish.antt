@@ -27,16 +27,16 @@ use Rattle.demands.specs.Ends.{ahead, Ending, Finished, Ends}
 use Rattle.demands.proofs.Ends.{advance-nearer, advance-draws, advance-stops, hand-in-nearer, ends, few-calls, goes-on, finished}
 
 -- a run goes on by a row of calls
-run-on : (size : ℕ) (K : Course) (seed : ℕ) {m x : Memory} {ds : List ℕ} {hs : List (List Float)} {d : ℕ} → Run size K seed m ds → Row size K m hs d x → getD (x .words) 1 0 ≡ 7 → Finished size K seed
-run-on size K seed {m} {x} {ds} r none e = record { last = x; samples = ds; run = r; stage = e }
-run-on size K seed r (advanced a h q) e = run-on size K seed (history.advanced r a h) q e
-run-on size K seed r (handedIn reduced h q) e = run-on size K seed (history.handedIn r reduced h) q e
+run-on : (K : Course) (seed : ℕ) {m x : Memory} {ds : List ℕ} {hs : List (List Float)} {d : ℕ} → Run K seed m ds → Row K m hs d x → getD (x .words) 1 0 ≡ 7 → Finished K seed
+run-on K seed {m} {x} {ds} r none e = record { last = x; samples = ds; run = r; stage = e }
+run-on K seed r (advanced a h q) e = run-on K seed (history.advanced r a h) q e
+run-on K seed r (handedIn reduced h q) e = run-on K seed (history.handedIn r reduced h) q e
 
-module _ (size : ℕ) (small : size ≤ 256) (K : Course) where
+module _ (K : Course) where
   abbrev noughts : List Float
   noughts = zeros (3 * (K .job .S * K .job .C))
 
-  room : coloursRoom size K noughts ≡ true
+  room : coloursRoom K noughts ≡ true
   unfolding coloursRoom
   room = eq-eqb (length noughts) (3 * (K .job .S * K .job .C)) (length-zeros (3 * (K .job .S * K .job .C)))
 
@@ -45,58 +45,58 @@ module _ (size : ℕ) (small : size ≤ 256) (K : Course) where
 
   -- ---- one call nearer
   module _ (m : Memory) where
-    after-advance : advanceAnswer size K m ≡ 0 → ahead K (advanceCall size K m 1 .after) < ahead K m
-    after-advance h = omega (arith, advance-nearer size small K m 1 h, advance-draws size small K m 0 h)
+    after-advance : advanceAnswer K m ≡ 0 → ahead K (advanceCall K m 1 .after) < ahead K m
+    after-advance h = omega (arith, advance-nearer K m 1 h, advance-draws K m 0 h)
 
-    after-hand-in : handInAnswer size K m noughts ≡ 0 → ahead K (handInCall size K m noughts .after) < ahead K m
-    after-hand-in h = omega (arith, hand-in-nearer size small K m noughts h)
+    after-hand-in : handInAnswer K m noughts ≡ 0 → ahead K (handInCall K m noughts .after) < ahead K m
+    after-hand-in h = omega (arith, hand-in-nearer K m noughts h)
 
-    by-advance : advanceAnswer size K m ≡ 0 → Ending size K (advanceCall size K m 1 .after) → Ending size K m
-    by-advance h E = record { hand-ins = E .hand-ins; drawn = advanceCall size K m 1 .drew + E .drawn; last = E .last; row = advanced 1 h (E .row); stage = E .stage }
+    by-advance : advanceAnswer K m ≡ 0 → Ending K (advanceCall K m 1 .after) → Ending K m
+    by-advance h E = record { hand-ins = E .hand-ins; drawn = advanceCall K m 1 .drew + E .drawn; last = E .last; row = advanced 1 h (E .row); stage = E .stage }
 
-    by-hand-in : handInAnswer size K m noughts ≡ 0 → Ending size K (handInCall size K m noughts .after) → Ending size K m
+    by-hand-in : handInAnswer K m noughts ≡ 0 → Ending K (handInCall K m noughts .after) → Ending K m
     by-hand-in h E = record { hand-ins = noughts ∷ E .hand-ins; drawn = E .drawn; last = E .last; row = handedIn noughts h (E .row); stage = E .stage }
 
-    here : getD (m .words) 1 0 ≡ 7 → Ending size K m
+    here : getD (m .words) 1 0 ≡ 7 → Ending K m
     here e = record { hand-ins = []; drawn = 0; last = m; row = none; stage = e }
 
-  ending : (most : ℕ) (m : Memory) → Accepted size K m → ahead K m ≤ most → Ending size K m
+  ending : (most : ℕ) (m : Memory) → Accepted K m → ahead K m ≤ most → Ending K m
   ending zero m A l = elim (ℕ-discrete (getD (m .words) 1 0) 7) [
     | yes e ↦ here m e
-    | no n ↦ absurd (elim (goes-on size small K m A n) [
+    | no n ↦ absurd (elim (goes-on K m A n) [
       | inl h ↦ omega (arith, after-advance m h)
       | inr h ↦ omega (arith, after-hand-in m (h noughts room fits))
     ])
   ]
   ending (suc most) m A l = elim (ℕ-discrete (getD (m .words) 1 0) 7) [
     | yes e ↦ here m e
-    | no n ↦ elim (goes-on size small K m A n) [
-      | inl h ↦ by-advance m h (ending most (advanceCall size K m 1 .after) (advance-leaves size small K m 1 h) (omega (arith, after-advance m h)))
+    | no n ↦ elim (goes-on K m A n) [
+      | inl h ↦ by-advance m h (ending most (advanceCall K m 1 .after) (advance-leaves K m 1 h) (omega (arith, after-advance m h)))
       | inr h ↦
           let z = h noughts room fits in
-          by-hand-in m z (ending most (handInCall size K m noughts .after) (handIn-leaves size small K m noughts z) (omega (arith, after-hand-in m z)))
+          by-hand-in m z (ending most (handInCall K m noughts .after) (handIn-leaves K m noughts z) (omega (arith, after-hand-in m z)))
     ]
   ]
 
-  reached : (m : Memory) → Accepted size K m → Ending size K m
+  reached : (m : Memory) → Accepted K m → Ending K m
   reached m A = ending (ahead K m) m A (le-refl (ahead K m))
 
-  finishes : (m : Memory) (seed : ℕ) → startAnswer size K m ≡ 0 → Finished size K seed
+  finishes : (m : Memory) (seed : ℕ) → startAnswer K m ≡ 0 → Finished K seed
   finishes m seed h =
-      let E = reached (startCall size K m seed .after) (start-leaves size small K m seed h) in
-      run-on size K seed (history.started m h) (E .row) (E .stage)
+      let E = reached (startCall K m seed .after) (start-leaves K m seed h) in
+      run-on K seed (history.started m h) (E .row) (E .stage)
 
-  pub run-ends : Ends size K
+  pub run-ends : Ends K
   run-ends =
       record {
-        advance-nearer = advance-nearer size small K;
-        advance-draws = advance-draws size small K;
-        advance-stops = advance-stops size small K;
-        hand-in-nearer = hand-in-nearer size small K;
-        row-ends = ends size small K;
-        few-calls = few-calls size small K;
-        goes-on = goes-on size small K;
-        result-there = finished size small K;
+        advance-nearer = advance-nearer K;
+        advance-draws = advance-draws K;
+        advance-stops = advance-stops K;
+        hand-in-nearer = hand-in-nearer K;
+        row-ends = ends K;
+        few-calls = few-calls K;
+        goes-on = goes-on K;
+        result-there = finished K;
         reached = reached;
         finished = finishes;
       }

@@ -32,46 +32,46 @@ use Rattle.demands.specs.First.{refused, startRules, advanceRules, handI
 use Rattle.demands.proofs.Calls.{decided, decides, ruled}
 
 -- ---- start, advance, hand-in, result
-module _ (size : ℕ) (K : Course) (m : Memory) where
-  start : (seed : ℕ) → Ruled Outcome (startCall size K m seed) (λ x. x .number) (startRules size K m) (refused m)
+module _ (K : Course) (m : Memory) where
+  start : (seed : ℕ) → Ruled Outcome (startCall K m seed) (λ x. x .number) (startRules K m) (refused m)
   unfolding startCall startAnswer answered numbered
-  start seed = ruled Outcome (λ x. x .number) (refused m) (λ k. refl) _ refl (startRules size K m) refl
+  start seed = ruled Outcome (λ x. x .number) (refused m) (λ k. refl) _ refl (startRules K m) refl
 
-  advance : (a : ℕ) → Ruled Outcome (advanceCall size K m a) (λ x. x .number) (advanceRules size K m) (refused m)
+  advance : (a : ℕ) → Ruled Outcome (advanceCall K m a) (λ x. x .number) (advanceRules K m) (refused m)
   unfolding advanceCall advanceAnswer answered numbered
-  advance a = ruled Outcome (λ x. x .number) (refused m) (λ k. refl) _ refl (advanceRules size K m) refl
+  advance a = ruled Outcome (λ x. x .number) (refused m) (λ k. refl) _ refl (advanceRules K m) refl
 
-  hand-in : (reduced : List Float) → Ruled Outcome (handInCall size K m reduced) (λ x. x .number) (handInRules size K m reduced) (refused m)
+  hand-in : (reduced : List Float) → Ruled Outcome (handInCall K m reduced) (λ x. x .number) (handInRules K m reduced) (refused m)
   unfolding handInCall handInAnswer answered numbered
-  hand-in reduced = ruled Outcome (λ x. x .number) (refused m) (λ k. refl) _ refl (handInRules size K m reduced) refl
+  hand-in reduced = ruled Outcome (λ x. x .number) (refused m) (λ k. refl) _ refl (handInRules K m reduced) refl
 
-  result : (out : List Float) → Ruled Copied (resultCall size K m out) (λ x. x .number) (resultRules size K m out) (λ k. copiedTo k out)
+  result : (out : List Float) → Ruled Copied (resultCall K m out) (λ x. x .number) (resultRules K m out) (λ k. copiedTo k out)
   unfolding resultCall resultAnswer numbered
-  result out = ruled Copied (λ x. x .number) (λ k. copiedTo k out) (λ k. refl) _ refl (resultRules size K m out) refl
+  result out = ruled Copied (λ x. x .number) (λ k. copiedTo k out) (λ k. refl) _ refl (resultRules K m out) refl
 
 -- ---- the single fit, best_two, assign
-module _ (size : ℕ) (J : Job) (palette : List Float) where
+module _ (J : Job) (palette : List Float) where
   single-fit : (hints : List ℕ)
-      → Ruled SingleOutcome (singleDef size J palette hints) (λ x. numberOfSingle (x .answer)) (oneRules size J palette (length hints) ++ (rule 15 (not (isEmpty J 0)) ∷ []))
+      → Ruled SingleOutcome (singleDef J palette hints) (λ x. numberOfSingle (x .answer)) (oneRules J palette (length hints) ++ (rule 15 (not (isEmpty J 0)) ∷ []))
       (λ k. singleOutcome (single.Refused k) hints)
   unfolding singleDef singleAnswer numbered
   single-fit hints =
       ruled SingleOutcome (λ x. numberOfSingle (x .answer)) (λ k. singleOutcome (single.Refused k) hints) (λ k. refl) _ refl
-      (oneRules size J palette (length hints) ++ (rule 15 (not (isEmpty J 0)) ∷ [])) refl
+      (oneRules J palette (length hints) ++ (rule 15 (not (isEmpty J 0)) ∷ [])) refl
 
   best-two : (hints : List ℕ)
-      → Ruled PairOutcome (pairDef size J palette hints) (λ x. numberOfPair (x .answer)) (oneRules size J palette (length hints)) (λ k. pairOutcome (pair.Refused k) hints)
+      → Ruled PairOutcome (pairDef J palette hints) (λ x. numberOfPair (x .answer)) (oneRules J palette (length hints)) (λ k. pairOutcome (pair.Refused k) hints)
   unfolding pairDef oneAnswer numbered
   best-two hints =
-      ruled PairOutcome (λ x. numberOfPair (x .answer)) (λ k. pairOutcome (pair.Refused k) hints) (λ k. refl) _ refl (oneRules size J palette (length hints)) refl
+      ruled PairOutcome (λ x. numberOfPair (x .answer)) (λ k. pairOutcome (pair.Refused k) hints) (λ k. refl) _ refl (oneRules J palette (length hints)) refl
 
   assign : (h : assigning.Held)
-      → Ruled assigning.Outcome (assigning.assignDef size J palette h) (λ x. x .number)
-      (plainRules size J palette (assigning.roomFor (J .T) (length (h .hints)) (length (h .out)))) (λ k. assigning.outcome k h)
+      → Ruled assigning.Outcome (assigning.assignDef J palette h) (λ x. x .number)
+      (plainRules J palette (assigning.roomFor (J .T) (length (h .hints)) (length (h .out)))) (λ k. assigning.outcome k h)
   unfolding assigning.assignDef assigning.assignAnswer plainAnswer numbered
   assign h =
       ruled assigning.Outcome (λ x. x .number) (λ k. assigning.outcome k h) (λ k. refl) _ refl
-      (plainRules size J palette (assigning.roomFor (J .T) (length (h .hints)) (length (h .out)))) refl
+      (plainRules J palette (assigning.roomFor (J .T) (length (h .hints)) (length (h .out)))) refl
 
 -- ---- grouping: `refusal` is 2, 3, then pixel by pixel 7 before 14
 grouping : (size : ℕ) (q : Pixels) (m : Lent)
@@ -89,7 +89,7 @@ read-sheet bytes h = by (found bytes h)
     by (accepted x) = record { only = λ x y e f. e ∙ sym f; numbers = refl; refuses = λ n. absurd (n refl) }
 
 -- ---- its writer: as for fitting, then 13, then 3 for room
-module _ (size : ℕ) (J : Job) (palette : List Float) (bytes : List ℕ) where
+module _ (J : Job) (palette : List Float) (bytes : List ℕ) where
   abbrev unwritten : ℕ → WriteOutcome
   unwritten k = writeOutcome (writing.Refused k) bytes
 
@@ -110,24 +110,24 @@ module _ (size : ℕ) (J : Job) (palette : List Float) (bytes : List ℕ) where
       by a true false q e = refl
       by a false p q e = rw e
 
-  write-sheet : Ruled WriteOutcome (writeDef size J palette bytes) (λ x. numberOfWriting (x .answer)) (writeRules size J palette bytes) unwritten
+  write-sheet : Ruled WriteOutcome (writeDef J palette bytes) (λ x. numberOfWriting (x .answer)) (writeRules J palette bytes) unwritten
   unfolding writeDef storedIn plainAnswer numbered
   write-sheet =
-      subst⁻¹ (λ (d : WriteOutcome). Ruled WriteOutcome d (λ x. numberOfWriting (x .answer)) (writeRules size J palette bytes) unwritten)
-      (in-order (plainRules size J palette true) (leb (length (file J palette)) 65536) (leb (length (file J palette)) (length bytes)) refl)
-      (ruled WriteOutcome (λ x. numberOfWriting (x .answer)) unwritten (λ k. refl) written refl (writeRules size J palette bytes) refl)
+      subst⁻¹ (λ (d : WriteOutcome). Ruled WriteOutcome d (λ x. numberOfWriting (x .answer)) (writeRules J palette bytes) unwritten)
+      (in-order (plainRules J palette true) (leb (length (file J palette)) 65536) (leb (length (file J palette)) (length bytes)) refl)
+      (ruled WriteOutcome (λ x. numberOfWriting (x .answer)) unwritten (λ k. refl) written refl (writeRules J palette bytes) refl)
 
-pub first-demand : (size : ℕ) → First size
-first-demand size =
+pub first-demand : First
+first-demand =
     record {
-      start = start size;
-      advance = advance size;
-      hand-in = hand-in size;
-      result = result size;
-      single-fit = single-fit size;
-      best-two = best-two size;
-      assign = assign size;
-      grouping = grouping size;
+      start = start;
+      advance = advance;
+      hand-in = hand-in;
+      result = result;
+      single-fit = single-fit;
+      best-two = best-two;
+      assign = assign;
+      grouping = grouping;
       read-sheet = read-sheet;
-      write-sheet = write-sheet size;
+      write-sheet = write-sheet;
     }

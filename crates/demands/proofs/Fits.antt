@@ -85,54 +85,54 @@ any-hint {R} make told same number best refusal left h k e = by h (eqb (number (
     by x true = same best (left x)
     by x false = same (refusal (number (length x))) x
 
-module _ (size : ℕ) (small : size ≤ 256) (J : Job) (palette : List Float) where
+module _ (J : Job) (palette : List Float) where
   -- a tile that passed is answered with its choice, which becomes its hint
-  single-chooses : (hints : List ℕ) → singleAnswer size J palette (length hints) ≡ 0
+  single-chooses : (hints : List ℕ) → singleAnswer J palette (length hints) ≡ 0
       → Chosen J palette (J .S) (J .C) 0
-      × (singleDef size J palette hints ≡ singleOutcome (single.Best (fitAt J palette (J .S) (J .C) 0)) (set hints 0 (winner J palette (J .S) (J .C) 0)))
+      × (singleDef J palette hints ≡ singleOutcome (single.Best (fitAt J palette (J .S) (J .C) 0)) (set hints 0 (winner J palette (J .S) (J .C) 0)))
   single-chooses hints z =
-      let first : oneAnswer size J palette (length hints) ≡ 0 = unfold singleAnswer oneAnswer numbered in both-pass (oneRules size J palette (length hints)) (rule 15 (not (isEmpty J 0)) ∷ []) refl z .0 in (
-        chosen J palette (J .S) (J .C) (shown size J palette _ small (one-plain size J palette (length hints) first)) 0 (le-of-eq (sym (one-tile size J palette (length hints) first))),
-        (unfold singleDef in rw (eq-eqb (singleAnswer size J palette (length hints)) 0 z)),
+      let first : oneAnswer J palette (length hints) ≡ 0 = unfold singleAnswer oneAnswer numbered in both-pass (oneRules J palette (length hints)) (rule 15 (not (isEmpty J 0)) ∷ []) refl z .0 in (
+        chosen J palette (J .S) (J .C) (shown J palette _ (one-plain J palette (length hints) first)) 0 (le-of-eq (sym (one-tile J palette (length hints) first))),
+        (unfold singleDef in rw (eq-eqb (singleAnswer J palette (length hints)) 0 z)),
       )
 
-  pair-chooses : (hints : List ℕ) → oneAnswer size J palette (length hints) ≡ 0
+  pair-chooses : (hints : List ℕ) → oneAnswer J palette (length hints) ≡ 0
       → Chosen J palette (J .S) (J .C) 0
-      × (pairDef size J palette hints ≡ pairOutcome (pair.Best (twoAt J palette (J .S) (J .C) 0)) (set hints 0 (winner J palette (J .S) (J .C) 0)))
+      × (pairDef J palette hints ≡ pairOutcome (pair.Best (twoAt J palette (J .S) (J .C) 0)) (set hints 0 (winner J palette (J .S) (J .C) 0)))
   pair-chooses hints z =
-      let present = shown size J palette _ small (one-plain size J palette (length hints) z) in
-      let first : 0 < J .T = le-of-eq (sym (one-tile size J palette (length hints) z)) in
+      let present = shown J palette _ (one-plain J palette (length hints) z) in
+      let first : 0 < J .T = le-of-eq (sym (one-tile J palette (length hints) z)) in
       let c = chosen J palette (J .S) (J .C) present 0 first in
-      let answered : pairDef size J palette hints ≡ pairOutcome (pair.Best (twoAt J palette (J .S) (J .C) 0)) (set hints 0 (twoAt J palette (J .S) (J .C) 0 .index)) =
-      unfold pairDef in rw (eq-eqb (oneAnswer size J palette (length hints)) 0 z) in (
+      let answered : pairDef J palette hints ≡ pairOutcome (pair.Best (twoAt J palette (J .S) (J .C) 0)) (set hints 0 (twoAt J palette (J .S) (J .C) 0 .index)) =
+      unfold pairDef in rw (eq-eqb (oneAnswer J palette (length hints)) 0 z) in (
         c,
         answered ∙ ap (λ (k : ℕ). pairOutcome (pair.Best (twoAt J palette (J .S) (J .C) 0)) (set hints 0 k)) (c .first),
       )
 
   -- whatever the hint: any two give one answer
-  single-any-hint : (h k : List ℕ) → length h ≡ length k → singleDef size J palette h .answer ≡ singleDef size J palette k .answer
+  single-any-hint : (h k : List ℕ) → length h ≡ length k → singleDef J palette h .answer ≡ singleDef J palette k .answer
   unfolding singleDef
-  single-any-hint = any-hint singleOutcome (λ o. o .answer) (λ r x. refl) (singleAnswer size J palette) (single.Best (fitAt J palette (J .S) (J .C) 0)) single.Refused (λ x. set x 0 (winner J palette (J .S) (J .C) 0))
+  single-any-hint = any-hint singleOutcome (λ o. o .answer) (λ r x. refl) (singleAnswer J palette) (single.Best (fitAt J palette (J .S) (J .C) 0)) single.Refused (λ x. set x 0 (winner J palette (J .S) (J .C) 0))
 
-  pair-any-hint : (h k : List ℕ) → length h ≡ length k → pairDef size J palette h .answer ≡ pairDef size J palette k .answer
+  pair-any-hint : (h k : List ℕ) → length h ≡ length k → pairDef J palette h .answer ≡ pairDef J palette k .answer
   unfolding pairDef
-  pair-any-hint = any-hint pairOutcome (λ o. o .answer) (λ r x. refl) (oneAnswer size J palette) (pair.Best (twoAt J palette (J .S) (J .C) 0)) pair.Refused (λ x. set x 0 (twoAt J palette (J .S) (J .C) 0 .index))
+  pair-any-hint = any-hint pairOutcome (λ o. o .answer) (λ r x. refl) (oneAnswer J palette) (pair.Best (twoAt J palette (J .S) (J .C) 0)) pair.Refused (λ x. set x 0 (twoAt J palette (J .S) (J .C) 0 .index))
 
   -- an empty tile, where all else passed: the single fit answers 15, and best_two as `empty-one` and `empty-many` say
-  single-empty : (hints : List ℕ) → oneAnswer size J palette (length hints) ≡ 0 → isEmpty J 0 ≡ true → singleAnswer size J palette (length hints) ≡ 15
+  single-empty : (hints : List ℕ) → oneAnswer J palette (length hints) ≡ 0 → isEmpty J 0 ≡ true → singleAnswer J palette (length hints) ≡ 15
   unfolding singleAnswer oneAnswer numbered
   single-empty hints z e =
-      sym (goes (oneRules size J palette (length hints)) (rule 15 (not (isEmpty J 0)) ∷ []) (answer (oneRules size J palette (length hints))) 15 refl refl z (fails 15 (not (isEmpty J 0)) [] (rw e)))
+      sym (goes (oneRules J palette (length hints)) (rule 15 (not (isEmpty J 0)) ∷ []) (answer (oneRules J palette (length hints))) 15 refl refl z (fails 15 (not (isEmpty J 0)) [] (rw e)))
 
 -- ---- assign
 -- whatever the hints: any two lists of them give one number, and each tile one subpalette
-assign-any-hints : (size : ℕ) (J : Job) (palette : List Float) (out h k : List ℕ) → length h ≡ length k
-    → (assignDef size J palette (held h out) .number ≡ assignDef size J palette (held k out) .number)
-    × (assignDef size J palette (held h out) .after .out ≡ assignDef size J palette (held k out) .after .out)
-assign-any-hints size J palette out h k e = (number h ∙ ap (λ (n : ℕ). cond (eqb (table n) 0) 0 (table n)) e ∙ sym (number k), left h ∙ ap (λ (n : ℕ). cond (eqb (table n) 0) all out) e ∙ sym (left k))
+assign-any-hints : (J : Job) (palette : List Float) (out h k : List ℕ) → length h ≡ length k
+    → (assignDef J palette (held h out) .number ≡ assignDef J palette (held k out) .number)
+    × (assignDef J palette (held h out) .after .out ≡ assignDef J palette (held k out) .after .out)
+assign-any-hints J palette out h k e = (number h ∙ ap (λ (n : ℕ). cond (eqb (table n) 0) 0 (table n)) e ∙ sym (number k), left h ∙ ap (λ (n : ℕ). cond (eqb (table n) 0) all out) e ∙ sym (left k))
   where
     table : ℕ → ℕ
-    table n = plainAnswer size J palette (roomFor (J .T) n (length out))
+    table n = plainAnswer J palette (roomFor (J .T) n (length out))
 
     all : List ℕ
     all = subpalettes J palette out (J .T)
@@ -145,20 +145,20 @@ assign-any-hints size J palette out h k e = (number h ∙ ap (λ (n : ℕ). cond
     left-by true n x y = refl
     left-by false n x y = refl
 
-    number : (x : List ℕ) → assignDef size J palette (held x out) .number ≡ cond (eqb (table (length x)) 0) 0 (table (length x))
+    number : (x : List ℕ) → assignDef J palette (held x out) .number ≡ cond (eqb (table (length x)) 0) 0 (table (length x))
     number x = unfold assignDef assignAnswer in number-by (eqb (table (length x)) 0) (table (length x)) (assigned J palette (held x out) (J .T)) (held x out)
 
-    left : (x : List ℕ) → assignDef size J palette (held x out) .after .out ≡ cond (eqb (table (length x)) 0) all out
+    left : (x : List ℕ) → assignDef J palette (held x out) .after .out ≡ cond (eqb (table (length x)) 0) all out
     left x = unfold assignDef assignAnswer assigned in left-by (eqb (table (length x)) 0) (table (length x)) (assigned J palette (held x out) (J .T)) (held x out)
 
-module _ (size : ℕ) (small : size ≤ 256) (J : Job) (palette : List Float) (h : Held) (z : assignAnswer size J palette h ≡ 0) where
-  plain : Plain size J palette (roomFor (J .T) (length (h .hints)) (length (h .out)))
+module _ (J : Job) (palette : List Float) (h : Held) (z : assignAnswer J palette h ≡ 0) where
+  plain : Plain J palette (roomFor (J .T) (length (h .hints)) (length (h .out)))
   unfolding assignAnswer
-  plain = plain-ready size J palette (roomFor (J .T) (length (h .hints)) (length (h .out))) z
+  plain = plain-ready J palette (roomFor (J .T) (length (h .hints)) (length (h .out))) z
 
-  done : assignDef size J palette h ≡ outcome 0 (assigned J palette h (J .T))
+  done : assignDef J palette h ≡ outcome 0 (assigned J palette h (J .T))
   unfolding assignDef
-  done = rw (eq-eqb (assignAnswer size J palette h) 0 z)
+  done = rw (eq-eqb (assignAnswer J palette h) 0 z)
 
   room : (length (h .hints) ≡ J .T) × (length (h .out) ≡ J .T)
   unfolding roomFor
@@ -167,43 +167,43 @@ module _ (size : ℕ) (small : size ≤ 256) (J : Job) (palette : List Float) (h
       (eqb-true _ _ (and-l (eqb (length (h .hints)) (J .T)) (eqb (length (h .out)) (J .T)) r), eqb-true _ _ (and-r (eqb (length (h .hints)) (J .T)) (eqb (length (h .out)) (J .T)) r))
 
   module _ (t : ℕ) (l : t < J .T) where
-    out-at : getD (assignDef size J palette h .after .out) t 0 ≡ subpaletteOf J palette t
+    out-at : getD (assignDef J palette h .after .out) t 0 ≡ subpaletteOf J palette t
     out-at = ap (λ (x : Outcome). getD (x .after .out) t 0) done ∙ (unfold assigned in subpalette-at J palette (h .out) (J .T) t (le-of-eq (sym (room .1))) l)
 
-    hint-left : getD (assignDef size J palette h .after .hints) t 0 ≡ hintOf J palette (h .hints) t
+    hint-left : getD (assignDef J palette h .after .hints) t 0 ≡ hintOf J palette (h .hints) t
     hint-left = ap (λ (x : Outcome). getD (x .after .hints) t 0) done ∙ (unfold assigned in hint-at J palette (h .hints) (J .T) t (le-of-eq (sym (room .0))) l)
 
     -- each tile that is not empty gets its choice, whatever its hint was, and it becomes the hint
     assign-chooses : isEmpty J t ≡ false
         → Chosen J palette (J .S) (J .C) t
-        × (getD (assignDef size J palette h .after .out) t 0 ≡ winner J palette (J .S) (J .C) t)
-        × (getD (assignDef size J palette h .after .hints) t 0 ≡ winner J palette (J .S) (J .C) t)
+        × (getD (assignDef J palette h .after .out) t 0 ≡ winner J palette (J .S) (J .C) t)
+        × (getD (assignDef J palette h .after .hints) t 0 ≡ winner J palette (J .S) (J .C) t)
     unfolding subpaletteOf
-    assign-chooses e = (chosen J palette (J .S) (J .C) (shown size J palette _ small plain) t l, out-at ∙ rw e, hint-left ∙ rw e)
+    assign-chooses e = (chosen J palette (J .S) (J .C) (shown J palette _ plain) t l, out-at ∙ rw e, hint-left ∙ rw e)
 
     -- an empty one gets 0, and keeps its hint
-    assign-empty : isEmpty J t ≡ true → (getD (assignDef size J palette h .after .out) t 0 ≡ 0) × (getD (assignDef size J palette h .after .hints) t 0 ≡ getD (h .hints) t 0)
+    assign-empty : isEmpty J t ≡ true → (getD (assignDef J palette h .after .out) t 0 ≡ 0) × (getD (assignDef J palette h .after .hints) t 0 ≡ getD (h .hints) t 0)
     unfolding subpaletteOf
     assign-empty e = (out-at ∙ rw e, hint-left ∙ rw e)
 
 -- ---- the three calls
-module _ (size : ℕ) (small : size ≤ 256) (J : Job) (palette : List Float) where
-  pub single-fits : Single-fit size J palette
-  single-fits = record { chooses = single-chooses size small J palette; any-hint = single-any-hint size small J palette; empty = single-empty size small J palette }
+module _ (J : Job) (palette : List Float) where
+  pub single-fits : Single-fit J palette
+  single-fits = record { chooses = single-chooses J palette; any-hint = single-any-hint J palette; empty = single-empty J palette }
 
-  pub both-fit : Best-two size J palette
+  pub both-fit : Best-two J palette
   both-fit =
       record {
-        chooses = pair-chooses size small J palette;
-        any-hint = pair-any-hint size small J palette;
-        empty-one = empty-one size J palette;
-        empty-many = empty-many size J palette;
+        chooses = pair-chooses J palette;
+        any-hint = pair-any-hint J palette;
+        empty-one = empty-one J palette;
+        empty-many = empty-many J palette;
       }
 
-  pub assigns : Assign size J palette
+  pub assigns : Assign J palette
   assigns =
       record {
-        chooses = assign-chooses size small J palette;
-        any-hints = assign-any-hints size J palette;
-        empty = assign-empty size small J palette;
+        chooses = assign-chooses J palette;
+        any-hints = assign-any-hints J palette;
+        empty = assign-empty J palette;
       }

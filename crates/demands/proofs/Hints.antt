@@ -46,75 +46,75 @@ answers-alike e f m x d c s z q h p a many = rw (sym q) (by (eqb e 0) refl)
     by true k = record { number = refl; drew = p; after = memories s z a (many (eqb-true e 0 k)) }
     by false k = record { number = refl; drew = refl; after = h }
 
-module _ (size : ℕ) (small : size ≤ 256) (K : Course) where
+module _ (K : Course) where
   -- an accepted call leaves a hint for each tile
-  kept : {z : Memory} {s : State} → Accepted size K z → stateOf z ≡ s → length (s .hints) ≡ K .job .T
+  kept : {z : Memory} {s : State} → Accepted K z → stateOf z ≡ s → length (s .hints) ≡ K .job .T
   kept A e = ap (λ (y : State). length (y .hints)) (sym e) ∙ A .fit .sound .hints
 
   module _ (m x : Memory) (h : Hints-apart m x) where
-    room : memoryRoom size K m ≡ memoryRoom size K x
+    room : memoryRoom K m ≡ memoryRoom K x
     unfolding memoryRoom coloursRoom
     room = cc
 
     -- the rules of a call on a run at its moment
-    rules : (r q : Bool) (moment : ℕ → Bool) → r ≡ q → runRules size K m r (moment (stateOf m .rec .stage)) ≡ runRules size K x q (moment (stateOf x .rec .stage))
+    rules : (r q : Bool) (moment : ℕ → Bool) → r ≡ q → runRules K m r (moment (stateOf m .rec .stage)) ≡ runRules K x q (moment (stateOf x .rec .stage))
     rules r q moment e =
-        ap (λ (t : Bool). runRules size K m t (moment (stateOf m .rec .stage))) e
-        ∙ ap (λ (s : State). jobRules size K q ++ (stateRules K s ++ (rule 11 (moment (s .rec .stage)) ∷ []))) (states m x h .rest)
+        ap (λ (t : Bool). runRules K m t (moment (stateOf m .rec .stage))) e
+        ∙ ap (λ (s : State). jobRules K q ++ (stateRules K s ++ (rule 11 (moment (s .rec .stage)) ∷ []))) (states m x h .rest)
 
-    starts-same : startAnswer size K m ≡ startAnswer size K x
+    starts-same : startAnswer K m ≡ startAnswer K x
     unfolding startAnswer
-    starts-same = ap (λ (t : Bool). answer (jobRules size K t)) room
+    starts-same = ap (λ (t : Bool). answer (jobRules K t)) room
 
-    advances-same : advanceAnswer size K m ≡ advanceAnswer size K x
+    advances-same : advanceAnswer K m ≡ advanceAnswer K x
     unfolding advanceAnswer
-    advances-same = ap answer (rules (memoryRoom size K m) (memoryRoom size K x) draws room)
+    advances-same = ap answer (rules (memoryRoom K m) (memoryRoom K x) draws room)
 
-    hand-ins-same : (reduced : List Float) → handInAnswer size K m reduced ≡ handInAnswer size K x reduced
+    hand-ins-same : (reduced : List Float) → handInAnswer K m reduced ≡ handInAnswer K x reduced
     unfolding handInAnswer
     hand-ins-same reduced =
         ap (λ (rs : List Rule). answer (rs ++ (rule 7 (componentsFit two reduced) ∷ [])))
-        (rules (memoryRoom size K m && coloursRoom size K reduced) (memoryRoom size K x && coloursRoom size K reduced) stops (ap (λ (t : Bool). t && coloursRoom size K reduced) room))
+        (rules (memoryRoom K m && coloursRoom K reduced) (memoryRoom K x && coloursRoom K reduced) stops (ap (λ (t : Bool). t && coloursRoom K reduced) room))
 
-    results-same : (out : List Float) → resultAnswer size K m out ≡ resultAnswer size K x out
+    results-same : (out : List Float) → resultAnswer K m out ≡ resultAnswer K x out
     unfolding resultAnswer
     results-same out =
-        ap answer (rules (memoryRoom size K m && coloursRoom size K out) (memoryRoom size K x && coloursRoom size K out) (λ k. eqb k 7) (ap (λ (t : Bool). t && coloursRoom size K out) room))
+        ap answer (rules (memoryRoom K m && coloursRoom K out) (memoryRoom K x && coloursRoom K out) (λ k. eqb k 7) (ap (λ (t : Bool). t && coloursRoom K out) room))
 
     -- ---- one call
-    call-same : (c : Request) → Same-but-hints (called size K m c) (called size K x c)
+    call-same : (c : Request) → Same-but-hints (called K m c) (called K x c)
     unfolding called
     call-same (start seed) =
         unfold startCall in
-        answers-alike (startAnswer size K m) (startAnswer size K x) m x 0 0 (starts K seed (m .hints)) (starts K seed (x .hints)) starts-same h refl (start-alike K seed (m .hints) (x .hints))
-        (λ e. kept (start-leaves size small K m seed e) (started-state size K m seed e) ∙ sym (kept (start-leaves size small K x seed (sym starts-same ∙ e)) (started-state size K x seed (sym starts-same ∙ e))))
+        answers-alike (startAnswer K m) (startAnswer K x) m x 0 0 (starts K seed (m .hints)) (starts K seed (x .hints)) starts-same h refl (start-alike K seed (m .hints) (x .hints))
+        (λ e. kept (start-leaves K m seed e) (started-state K m seed e) ∙ sym (kept (start-leaves K x seed (sym starts-same ∙ e)) (started-state K x seed (sym starts-same ∙ e))))
     call-same (advance a) =
         unfold advanceCall in
-        answers-alike (advanceAnswer size K m) (advanceAnswer size K x) m x (drawsOf K a (stateOf m)) (drawsOf K a (stateOf x)) (advances K a (stateOf m)) (advances K a (stateOf x)) advances-same h
+        answers-alike (advanceAnswer K m) (advanceAnswer K x) m x (drawsOf K a (stateOf m)) (drawsOf K a (stateOf x)) (advances K a (stateOf m)) (advances K a (stateOf x)) advances-same h
         (draws-alike K a (stateOf m) (stateOf x) (states m x h)) (advance-alike K a (stateOf m) (stateOf x) (states m x h))
-        (λ e. kept (advance-leaves size small K m a e) (advanced-state size K m a e) ∙ sym (kept (advance-leaves size small K x a (sym advances-same ∙ e)) (advanced-state size K x a (sym advances-same ∙ e))))
+        (λ e. kept (advance-leaves K m a e) (advanced-state K m a e) ∙ sym (kept (advance-leaves K x a (sym advances-same ∙ e)) (advanced-state K x a (sym advances-same ∙ e))))
     call-same (hand-in reduced) =
         unfold handInCall in
-        answers-alike (handInAnswer size K m reduced) (handInAnswer size K x reduced) m x 0 0 (handIn K reduced (stateOf m)) (handIn K reduced (stateOf x)) (hand-ins-same reduced) h refl
+        answers-alike (handInAnswer K m reduced) (handInAnswer K x reduced) m x 0 0 (handIn K reduced (stateOf m)) (handIn K reduced (stateOf x)) (hand-ins-same reduced) h refl
         (handIn-alike K reduced (stateOf m) (stateOf x) (states m x h))
-        (λ e. kept (handIn-leaves size small K m reduced e) (handed-state size K m reduced e) ∙ sym (kept (handIn-leaves size small K x reduced (sym (hand-ins-same reduced) ∙ e)) (handed-state size K x reduced (sym (hand-ins-same reduced) ∙ e))))
+        (λ e. kept (handIn-leaves K m reduced e) (handed-state K m reduced e) ∙ sym (kept (handIn-leaves K x reduced (sym (hand-ins-same reduced) ∙ e)) (handed-state K x reduced (sym (hand-ins-same reduced) ∙ e))))
 
-    result-same : (out : List Float) → resultCall size K m out ≡ resultCall size K x out
+    result-same : (out : List Float) → resultCall K m out ≡ resultCall K x out
     unfolding resultCall
     result-same out =
         ap (λ (e : ℕ). cond (eqb e 0) (copiedTo 0 (m .palette)) (copiedTo e out)) (results-same out)
-        ∙ ap (λ (p : List Float). cond (eqb (resultAnswer size K x out) 0) (copiedTo 0 p) (copiedTo (resultAnswer size K x out) out)) (h .palette)
+        ∙ ap (λ (p : List Float). cond (eqb (resultAnswer K x out) 0) (copiedTo 0 p) (copiedTo (resultAnswer K x out) out)) (h .palette)
 
   -- ---- calls in a row
-  rows : (cs : List Request) (m x : Memory) → Hints-apart m x → Hints-apart (left size K cs m) (left size K cs x)
+  rows : (cs : List Request) (m x : Memory) → Hints-apart m x → Hints-apart (left K cs m) (left K cs x)
   unfolding left
   rows [] m x h = h
-  rows (c ∷ cs) m x h = rows cs (called size K m c .after) (called size K x c .after) (call-same m x h c .after)
+  rows (c ∷ cs) m x h = rows cs (called K m c .after) (called K x c .after) (call-same m x h c .after)
 
-  pub whatever-hints : (m x : Memory) → Hints-apart m x → Whatever-hints size K m x
+  pub whatever-hints : (m x : Memory) → Hints-apart m x → Whatever-hints K m x
   whatever-hints m x h =
       record {
-        calls = λ cs c. call-same (left size K cs m) (left size K cs x) (rows cs m x h) c;
-        samples = λ cs a. sampled-alike K a (stateOf (left size K cs m)) (stateOf (left size K cs x)) (states (left size K cs m) (left size K cs x) (rows cs m x h));
-        results = λ cs out. result-same (left size K cs m) (left size K cs x) (rows cs m x h) out;
+        calls = λ cs c. call-same (left K cs m) (left K cs x) (rows cs m x h) c;
+        samples = λ cs a. sampled-alike K a (stateOf (left K cs m)) (stateOf (left K cs x)) (states (left K cs m) (left K cs x) (rows cs m x h));
+        results = λ cs out. result-same (left K cs m) (left K cs x) (rows cs m x h) out;
       }

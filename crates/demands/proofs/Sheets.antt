@@ -36,7 +36,7 @@ by-fields k false s x = refl
 
 module _ (bytes : List ℕ) (h : Room) where
   numbered : (k : ℕ) → eqb (number bytes h) k ≡ cond (enough h) (cond (leb (length bytes) 65536) (stopped k (fields bytes)) (eqb 13 k)) (eqb 3 k)
-  numbered k = ap (λ (n : ℕ). eqb n k) (first-demand 64 .read-sheet bytes h .numbers) ∙ by-fields k (enough h) (leb (length bytes) 65536) (fields bytes)
+  numbered k = ap (λ (n : ℕ). eqb n k) (first-demand .read-sheet bytes h .numbers) ∙ by-fields k (enough h) (leb (length bytes) 65536) (fields bytes)
 
   -- ---- 3
   number-3 : eqb (number bytes h) 3 ≡ not (enough h)
@@ -101,7 +101,7 @@ module _ (bytes : List ℕ) (h : Room) where
 
   number-0-of : (enough h) ≡ true → Well-formed bytes → (number bytes h) ≡ 0
   number-0-of r W =
-      first-demand 64 .read-sheet bytes h .numbers
+      first-demand .read-sheet bytes h .numbers
       ∙ ap (λ (t : Bool). faultOf (cond t (readSheet edition1 bytes) (refused 3))) r
       ∙ ap faultOf (subst (λ (l : List ℕ). readSheet edition1 l ≡ accepted (W .is)) (W .same) (read-written (W .is) (W .good) (subst (λ (l : List ℕ). length l ≤ 65536) (sym (W .same)) (W .small))))
 

@@ -18,28 +18,28 @@ use Rattle.demands.proofs.Prefixes.{take-firsts}
 use Rattle.demands.specs.Third.{Evenly, Third}
 use Rattle.demands.proofs.Division.{any-division}
 
-module _ (size : ℕ) (small : size ≤ 256) (K : Course) where
-  evenly : (seed : ℕ) {m : Memory} {ds : List ℕ} → Run size K seed m ds → Evenly size K seed m ds
+module _ (K : Course) where
+  evenly : (seed : ℕ) {m : Memory} {ds : List ℕ} → Run K seed m ds → Evenly K seed m ds
   evenly seed {m} {ds} r =
       record {
-        defined = run-samples size K seed r;
-        made = run-made size K seed r;
+        defined = run-samples K seed r;
+        made = run-made K seed r;
         even = λ i t l h. subst⁻¹ (λ (xs : List ℕ). Even (K .n) t (count i xs)) (first-draws t h) (even (K .n) seed i t l);
-        waits = run-waits size K seed r;
-        finished = run-end size small K seed r;
-        resumes = run-accepted size small K seed r;
+        waits = run-waits K seed r;
+        finished = run-end K seed r;
+        resumes = run-accepted K seed r;
       }
     where
       first-draws : (t : ℕ) → t ≤ length ds → take t ds ≡ firsts (drawAt (K .n) seed) t
-      first-draws t h = ap (take t) (run-samples size K seed r) ∙ take-firsts (drawAt (K .n) seed) t (length ds) h
+      first-draws t h = ap (take t) (run-samples K seed r) ∙ take-firsts (drawAt (K .n) seed) t (length ds) h
 
-  pub third-demand : Third size K
+  pub third-demand : Third K
   third-demand =
       record {
         evenly = evenly;
-        any-division = any-division size K;
-        any-size = advance-split size small K;
-        straight = start-straight size small K;
-        reported = call-draws size small K;
+        any-division = any-division K;
+        any-size = advance-split K;
+        straight = start-straight K;
+        reported = call-draws K;
         tenths = tenth-is;
       }

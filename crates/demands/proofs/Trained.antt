@@ -16,7 +16,7 @@ use Rattle.job.specs.Checks.{plainAnswer}
 use Rattle.sheet_format.specs.Sheet.{Sheet, edition1, sheet, readSheet}
 use Rattle.sheet_format.specs.Lists.{floats}
 use Rattle.sheet_pack.specs.Packed.{sheetOf}
-use Rattle.sheet.specs.Sheets.{jobOf}
+use Rattle.sheet.specs.Sheets.{jobIn as jobOf}
 use Rattle.sheet.proofs.Floats.{Singles}
 use Rattle.sheet.proofs.Inverse.{sets-front, accepted-job}
 use Rattle.sheet.proofs.Accepted.{within-limit}

@@ -22,42 +22,42 @@ abbrev pub ahead : Course → Memory → ℕ
 ahead K m = (K .job .S + K .job .C + 18) * b K - getD (m .words) 4 0 + handIns (getD (m .words) 1 0)
 
 -- k accepted calls, each a hand-in or an advance by at least 1, lead from m to the memory that the last one left
-pub data Calls (size : ℕ) (K : Course) (m : Memory) : ℕ → Memory → Type 0 where
-  none : Calls size K m 0 m
-  advanced : {k : ℕ} {x : Memory} → Calls size K m k x → (a : ℕ) → advanceAnswer size K x ≡ 0 → Calls size K m (suc k) (advanceCall size K x (suc a) .after)
-  handedIn : {k : ℕ} {x : Memory} → Calls size K m k x → (reduced : List Float) → handInAnswer size K x reduced ≡ 0 → Calls size K m (suc k) (handInCall size K x reduced .after)
+pub data Calls (K : Course) (m : Memory) : ℕ → Memory → Type 0 where
+  none : Calls K m 0 m
+  advanced : {k : ℕ} {x : Memory} → Calls K m k x → (a : ℕ) → advanceAnswer K x ≡ 0 → Calls K m (suc k) (advanceCall K x (suc a) .after)
+  handedIn : {k : ℕ} {x : Memory} → Calls K m k x → (reduced : List Float) → handInAnswer K x reduced ≡ 0 → Calls K m (suc k) (handInCall K x reduced .after)
 
 -- from m a row of accepted calls to the finish
-pub record Ending (size : ℕ) (K : Course) (m : Memory) : Type 0 where
+pub record Ending (K : Course) (m : Memory) : Type 0 where
   pub hand-ins : List (List Float)
   pub drawn : ℕ
   pub last : Memory
-  pub row : Row size K m hand-ins drawn last
+  pub row : Row K m hand-ins drawn last
   pub stage : getD (last .words) 1 0 ≡ 7
 
 -- a run from that seed that is finished: what its last call left, and all samples that it drew
-pub record Finished (size : ℕ) (K : Course) (seed : ℕ) : Type 0 where
+pub record Finished (K : Course) (seed : ℕ) : Type 0 where
   pub last : Memory
   pub samples : List ℕ
-  pub run : Run size K seed last samples
+  pub run : Run K seed last samples
   pub stage : getD (last .words) 1 0 ≡ 7
 
-pub record Ends (size : ℕ) (K : Course) : Type 0 where
+pub record Ends (K : Course) : Type 0 where
   -- an advance brings the finish nearer by the draws that it reports, which are some where it has an allotment
-  pub advance-nearer : (m : Memory) (a : ℕ) → advanceAnswer size K m ≡ 0 → ahead K (advanceCall size K m a .after) + advanceCall size K m a .drew ≡ ahead K m
-  pub advance-draws : (m : Memory) (a : ℕ) → advanceAnswer size K m ≡ 0 → 1 ≤ advanceCall size K m (suc a) .drew
+  pub advance-nearer : (m : Memory) (a : ℕ) → advanceAnswer K m ≡ 0 → ahead K (advanceCall K m a .after) + advanceCall K m a .drew ≡ ahead K m
+  pub advance-draws : (m : Memory) (a : ℕ) → advanceAnswer K m ≡ 0 → 1 ≤ advanceCall K m (suc a) .drew
   -- and where its allotment covers the draws that are missing it ends at a stop
-  pub advance-stops : (m : Memory) (a : ℕ) → advanceAnswer size K m ≡ 0 → (K .job .S + K .job .C + 18) * b K ≤ getD (m .words) 4 0 + a
-      → draws (getD (advanceCall size K m a .after .words) 1 0) ≡ false
+  pub advance-stops : (m : Memory) (a : ℕ) → advanceAnswer K m ≡ 0 → (K .job .S + K .job .C + 18) * b K ≤ getD (m .words) 4 0 + a
+      → draws (getD (advanceCall K m a .after .words) 1 0) ≡ false
   -- a hand-in by one
-  pub hand-in-nearer : (m : Memory) (reduced : List Float) → handInAnswer size K m reduced ≡ 0 → suc (ahead K (handInCall size K m reduced .after)) ≡ ahead K m
+  pub hand-in-nearer : (m : Memory) (reduced : List Float) → handInAnswer K m reduced ≡ 0 → suc (ahead K (handInCall K m reduced .after)) ≡ ahead K m
   -- so no row of calls is longer than what was ahead
-  pub row-ends : {m x : Memory} {k : ℕ} → Calls size K m k x → k + ahead K x ≤ ahead K m
-  pub few-calls : {m x : Memory} {k : ℕ} → Calls size K m k x → k ≤ (K .job .S + K .job .C + 18) * b K + 3
+  pub row-ends : {m x : Memory} {k : ℕ} → Calls K m k x → k + ahead K x ≤ ahead K m
+  pub few-calls : {m x : Memory} {k : ℕ} → Calls K m k x → k ≤ (K .job .S + K .job .C + 18) * b K + 3
   -- short of the finish a call is accepted, and at the finish the result is
-  pub goes-on : (m : Memory) → Accepted size K m → getD (m .words) 1 0 ≢ 7
-      → (advanceAnswer size K m ≡ 0) ⊎ ((reduced : List Float) → coloursRoom size K reduced ≡ true → componentsFit two reduced ≡ true → handInAnswer size K m reduced ≡ 0)
-  pub result-there : (m : Memory) → Accepted size K m → getD (m .words) 1 0 ≡ 7 → (out : List Float) → coloursRoom size K out ≡ true → resultAnswer size K m out ≡ 0
+  pub goes-on : (m : Memory) → Accepted K m → getD (m .words) 1 0 ≢ 7
+      → (advanceAnswer K m ≡ 0) ⊎ ((reduced : List Float) → coloursRoom K reduced ≡ true → componentsFit two reduced ≡ true → handInAnswer K m reduced ≡ 0)
+  pub result-there : (m : Memory) → Accepted K m → getD (m .words) 1 0 ≡ 7 → (out : List Float) → coloursRoom K out ≡ true → resultAnswer K m out ≡ 0
   -- the finish is reached: from every accepted memory, and by a run from every accepted start
-  pub reached : (m : Memory) → Accepted size K m → Ending size K m
-  pub finished : (m : Memory) (seed : ℕ) → startAnswer size K m ≡ 0 → Finished size K seed
+  pub reached : (m : Memory) → Accepted K m → Ending K m
+  pub finished : (m : Memory) (seed : ℕ) → startAnswer K m ≡ 0 → Finished K seed

@@ -11,7 +11,7 @@ use Rattle.prng.specs.Shuffle.{deck, shuffleOf}
 use Rattle.cycle.specs.Tenth.{tenth}
 use Rattle.stats.specs.Stats.{valueAt, leastTwo}
 use Rattle.extremes.specs.Extremes.{argmaxOf, argminOf}
-use Rattle.job.specs.Job.{Job, job}
+use Rattle.job.specs.Job.{Job, job, tileSize}
 use Rattle.color.specs.Blend.{blend}
 use Rattle.palette_tile.specs.Tiles.{fitAt}
 use Rattle.assign_tiles.specs.Tiles.{held}
@@ -45,7 +45,7 @@ five = ofBits binary32 0x40a00000
 
 -- ---- the sheet of docs/SCOPE.md: (0.25, 0, 0) four times; an empty tile; (0.5, 0, 0) twice; (1, 0, 0) once
 abbrev pub sheetJob : Job
-sheetJob = job 2 1 4 one (0 ∷ 1 ∷ 1 ∷ 0 ∷ 1 ∷ 1 ∷ 2 ∷ 1 ∷ []) (quarter ∷ nought ∷ nought ∷ half ∷ nought ∷ nought ∷ one ∷ nought ∷ nought ∷ []) (4 ∷ 2 ∷ 1 ∷ [])
+sheetJob = job tileSize 2 1 4 one (0 ∷ 1 ∷ 1 ∷ 0 ∷ 1 ∷ 1 ∷ 2 ∷ 1 ∷ []) (quarter ∷ nought ∷ nought ∷ half ∷ nought ∷ nought ∷ one ∷ nought ∷ nought ∷ []) (4 ∷ 2 ∷ 1 ∷ [])
 
 -- subpalettes (0, 0, 0) and (1, 0, 0)
 abbrev pub sheetPalette : List Float
@@ -60,7 +60,7 @@ pub record Past (s c n : ℕ) (K : Course) (m : Memory) : Type 0 where
 
 -- n samples of a job that has one tile of one colour, and memory to start a run in
 abbrev pub oneColour : ℕ → ℕ → ℕ → Course
-oneColour s c n = course (job s c 1 one (0 ∷ 1 ∷ []) (half ∷ nought ∷ nought ∷ []) (1 ∷ [])) n (replicate (2 * n) 0)
+oneColour s c n = course (job tileSize s c 1 one (0 ∷ 1 ∷ []) (half ∷ nought ∷ nought ∷ []) (1 ∷ [])) n (replicate (2 * n) 0)
 
 abbrev pub blank : ℕ → ℕ → ℕ → Memory
 blank s c n = memory (replicate n 0) (0 ∷ []) (replicate (3 * (s * c)) nought) (replicate (3 * (s * c)) nought) (replicate 6 0)
@@ -79,17 +79,17 @@ pub record Examples : Type 0 where
   pub tenth-of-10 : tenth 10 ≡ 1
   pub tenth-of-19 : tenth 19 ≡ 1
   pub tenth-of-20 : tenth 20 ≡ 2
-  pub draws-20 : (size : ℕ) → size ≤ 256 → (K : Course) (seed : ℕ) {m : Memory} {ds : List ℕ} → Run size K seed m ds → Past 1 1 10 K m → Each-twice ds
-  pub draws-44 : (size : ℕ) → size ≤ 256 → (K : Course) (seed : ℕ) {m : Memory} {ds : List ℕ} → Run size K seed m ds → Past 2 2 25 K m → Most-twice ds
+  pub draws-20 : (K : Course) (seed : ℕ) {m : Memory} {ds : List ℕ} → Run K seed m ds → Past 1 1 10 K m → Each-twice ds
+  pub draws-44 : (K : Course) (seed : ℕ) {m : Memory} {ds : List ℕ} → Run K seed m ds → Past 2 2 25 K m → Most-twice ds
   -- there are such runs, from every seed to the finish
-  pub a-run-of-20 : (seed : ℕ) → (x : Finished 64 (oneColour 1 1 10) seed) × Each-twice (x .samples)
-  pub a-run-of-44 : (seed : ℕ) → (x : Finished 64 (oneColour 2 2 25) seed) × Most-twice (x .samples)
+  pub a-run-of-20 : (seed : ℕ) → (x : Finished (oneColour 1 1 10) seed) × Each-twice (x .samples)
+  pub a-run-of-44 : (seed : ℕ) → (x : Finished (oneColour 2 2 25) seed) × Most-twice (x .samples)
   pub argmax-takes-last : argmaxOf (valueAt (one ∷ three ∷ three ∷ [])) 3 ≡ 2
   pub argmin-takes-first : argminOf (valueAt (two ∷ one ∷ one ∷ [])) 3 ≡ 1
   pub two-of-2-1-1 : leastTwo (valueAt (two ∷ one ∷ one ∷ [])) 3 ≡ record { index = 1; dist = one; second = one }
   pub two-of-5 : leastTwo (valueAt (five ∷ [])) 1 ≡ record { index = 0; dist = five; second = inf false }
   pub tile-2 : fitAt sheetJob sheetPalette 2 1 2 ≡ record { index = 0; dist = half }
   -- so from hints 0, 1 and 99, and from any other
-  pub tile-2-from : (a c hint d : ℕ) (w x y z : ℕ) → getD (assignDef 64 sheetJob sheetPalette (held (a ∷ c ∷ hint ∷ d ∷ []) (w ∷ x ∷ y ∷ z ∷ [])) .after .out) 2 0 ≡ 0
+  pub tile-2-from : (a c hint d : ℕ) (w x y z : ℕ) → getD (assignDef sheetJob sheetPalette (held (a ∷ c ∷ hint ∷ d ∷ []) (w ∷ x ∷ y ∷ z ∷ [])) .after .out) 2 0 ≡ 0
   pub nudge : blend half nought one ≡ half
   pub shuffle-of-one : (s x : ℕ) → shuffleOf s (x ∷ []) ≡ deck (x ∷ []) s

@@ -35,23 +35,23 @@ use Rattle.demands.specs.Calls.{Call, Ruled}
 abbrev pub refused : Memory → ℕ → Outcome
 refused m k = outcome k 0 m
 
-module _ (size : ℕ) (K : Course) (m : Memory) where
+module _ (K : Course) (m : Memory) where
   abbrev pub startRules : List Rule
-  startRules = jobRules size K (memoryRoom size K m)
+  startRules = jobRules K (memoryRoom K m)
 
   abbrev pub advanceRules : List Rule
-  advanceRules = runRules size K m (memoryRoom size K m) (draws (stateOf m .rec .stage))
+  advanceRules = runRules K m (memoryRoom K m) (draws (stateOf m .rec .stage))
 
   abbrev pub handInRules : List Float → List Rule
-  handInRules reduced = runRules size K m (memoryRoom size K m && coloursRoom size K reduced) (stops (stateOf m .rec .stage)) ++ (rule 7 (componentsFit two reduced) ∷ [])
+  handInRules reduced = runRules K m (memoryRoom K m && coloursRoom K reduced) (stops (stateOf m .rec .stage)) ++ (rule 7 (componentsFit two reduced) ∷ [])
 
   abbrev pub resultRules : List Float → List Rule
-  resultRules out = runRules size K m (memoryRoom size K m && coloursRoom size K out) (eqb (stateOf m .rec .stage) 7)
+  resultRules out = runRules K m (memoryRoom K m && coloursRoom K out) (eqb (stateOf m .rec .stage) 7)
 
 -- ---- the sheet's reader: 3 for room, then 13 for size, then the first fault in field order (Sheets: 0, 3, 12 and 13 exactly when)
 abbrev pub numberOfReading : Reading → ℕ
 numberOfReading (reading.Refused k) = k
-numberOfReading (reading.Sheet s c t weight) = 0
+numberOfReading (reading.Sheet z) = 0
 
 abbrev pub faultOf : Answer Sheet → ℕ
 faultOf (faulty k) = k
@@ -68,25 +68,25 @@ numberOfWriting (writing.Bytes n) = 0
 abbrev pub file : Job → List Float → List ℕ
 file J palette = encode (sheet edition1) (sheetOf J palette)
 
-abbrev pub writeRules : ℕ → Job → List Float → List ℕ → List Rule
-writeRules size J palette bytes = plainRules size J palette true ++ (rule 13 (leb (length (file J palette)) 65536) ∷ rule 3 (leb (length (file J palette)) (length bytes)) ∷ [])
+abbrev pub writeRules : Job → List Float → List ℕ → List Rule
+writeRules J palette bytes = plainRules J palette true ++ (rule 13 (leb (length (file J palette)) 65536) ∷ rule 3 (leb (length (file J palette)) (length bytes)) ∷ [])
 
--- ---- the ten calls, for tiles of at most `size` pixels
-pub record First (size : ℕ) : Type 0 where
-  pub start : (K : Course) (m : Memory) (seed : ℕ) → Ruled Outcome (startCall size K m seed) (λ x. x .number) (startRules size K m) (refused m)
-  pub advance : (K : Course) (m : Memory) (a : ℕ) → Ruled Outcome (advanceCall size K m a) (λ x. x .number) (advanceRules size K m) (refused m)
-  pub hand-in : (K : Course) (m : Memory) (reduced : List Float) → Ruled Outcome (handInCall size K m reduced) (λ x. x .number) (handInRules size K m reduced) (refused m)
-  pub result : (K : Course) (m : Memory) (out : List Float) → Ruled Copied (resultCall size K m out) (λ x. x .number) (resultRules size K m out) (λ k. copiedTo k out)
+-- ---- the ten calls, on jobs of any tile size: a size that is none answers 2. Grouping has no job, and names its size
+pub record First : Type 0 where
+  pub start : (K : Course) (m : Memory) (seed : ℕ) → Ruled Outcome (startCall K m seed) (λ x. x .number) (startRules K m) (refused m)
+  pub advance : (K : Course) (m : Memory) (a : ℕ) → Ruled Outcome (advanceCall K m a) (λ x. x .number) (advanceRules K m) (refused m)
+  pub hand-in : (K : Course) (m : Memory) (reduced : List Float) → Ruled Outcome (handInCall K m reduced) (λ x. x .number) (handInRules K m reduced) (refused m)
+  pub result : (K : Course) (m : Memory) (out : List Float) → Ruled Copied (resultCall K m out) (λ x. x .number) (resultRules K m out) (λ k. copiedTo k out)
   pub single-fit : (J : Job) (palette : List Float) (hints : List ℕ)
-      → Ruled SingleOutcome (singleDef size J palette hints) (λ x. numberOfSingle (x .answer)) (oneRules size J palette (length hints) ++ (rule 15 (not (isEmpty J 0)) ∷ []))
+      → Ruled SingleOutcome (singleDef J palette hints) (λ x. numberOfSingle (x .answer)) (oneRules J palette (length hints) ++ (rule 15 (not (isEmpty J 0)) ∷ []))
       (λ k. singleOutcome (single.Refused k) hints)
   pub best-two : (J : Job) (palette : List Float) (hints : List ℕ)
-      → Ruled PairOutcome (pairDef size J palette hints) (λ x. numberOfPair (x .answer)) (oneRules size J palette (length hints)) (λ k. pairOutcome (pair.Refused k) hints)
+      → Ruled PairOutcome (pairDef J palette hints) (λ x. numberOfPair (x .answer)) (oneRules J palette (length hints)) (λ k. pairOutcome (pair.Refused k) hints)
   pub assign : (J : Job) (palette : List Float) (h : assigning.Held)
-      → Ruled assigning.Outcome (assigning.assignDef size J palette h) (λ x. x .number)
-      (plainRules size J palette (assigning.roomFor (J .T) (length (h .hints)) (length (h .out)))) (λ k. assigning.outcome k h)
+      → Ruled assigning.Outcome (assigning.assignDef J palette h) (λ x. x .number)
+      (plainRules J palette (assigning.roomFor (J .T) (length (h .hints)) (length (h .out)))) (λ k. assigning.outcome k h)
   -- `refusal` is 2, 3, then pixel by pixel 7 before 14
-  pub grouping : (q : Pixels) (m : Lent) → Call groups.Outcome (groups.grouping size q m) (λ x. groups.numberOf (x .answer)) (refusal size q m) (λ k. groups.outcome (grouped.Refused k) m)
+  pub grouping : (size : ℕ) (q : Pixels) (m : Lent) → Call groups.Outcome (groups.grouping size q m) (λ x. groups.numberOf (x .answer)) (refusal size q m) (λ k. groups.outcome (grouped.Refused k) m)
   pub read-sheet : (bytes : List ℕ) (h : Room) → Call ReadOutcome (readDef bytes h) (λ x. numberOfReading (x .answer)) (faultOf (found bytes h)) (λ k. readOutcome (reading.Refused k) h)
   pub write-sheet : (J : Job) (palette : List Float) (bytes : List ℕ)
-      → Ruled WriteOutcome (writeDef size J palette bytes) (λ x. numberOfWriting (x .answer)) (writeRules size J palette bytes) (λ k. writeOutcome (writing.Refused k) bytes)
+      → Ruled WriteOutcome (writeDef J palette bytes) (λ x. numberOfWriting (x .answer)) (writeRules J palette bytes) (λ k. writeOutcome (writing.Refused k) bytes)

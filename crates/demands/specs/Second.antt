@@ -47,41 +47,41 @@ pub record Chosen (J : Job) (palette : List Float) (n have t : ℕ) : Type 0 whe
   pub none-before-second : (j : ℕ) → j < n → j ≢ twoAt J palette n have t .index → lt (distances J palette n have t j) (twoAt J palette n have t .second) ≡ false
 
 -- ---- the single fit, best_two and assign, where S subpalettes of C colours are present
-module _ (size : ℕ) (J : Job) (palette : List Float) where
+module _ (J : Job) (palette : List Float) where
   pub record Single-fit : Type 0 where
     -- a tile that passed is answered with its choice, which becomes its hint
-    pub chooses : (hints : List ℕ) → singleAnswer size J palette (length hints) ≡ 0
+    pub chooses : (hints : List ℕ) → singleAnswer J palette (length hints) ≡ 0
         → Chosen J palette (J .S) (J .C) 0
-        × (singleDef size J palette hints ≡ singleOutcome (single.Best (fitAt J palette (J .S) (J .C) 0)) (set hints 0 (winner J palette (J .S) (J .C) 0)))
+        × (singleDef J palette hints ≡ singleOutcome (single.Best (fitAt J palette (J .S) (J .C) 0)) (set hints 0 (winner J palette (J .S) (J .C) 0)))
     -- any two hints give one answer
-    pub any-hint : (h k : List ℕ) → length h ≡ length k → singleDef size J palette h .answer ≡ singleDef size J palette k .answer
+    pub any-hint : (h k : List ℕ) → length h ≡ length k → singleDef J palette h .answer ≡ singleDef J palette k .answer
     -- an empty tile, where all else passed, is refused
-    pub empty : (hints : List ℕ) → oneAnswer size J palette (length hints) ≡ 0 → isEmpty J 0 ≡ true → singleAnswer size J palette (length hints) ≡ 15
+    pub empty : (hints : List ℕ) → oneAnswer J palette (length hints) ≡ 0 → isEmpty J 0 ≡ true → singleAnswer J palette (length hints) ≡ 15
 
   pub record Best-two : Type 0 where
-    pub chooses : (hints : List ℕ) → oneAnswer size J palette (length hints) ≡ 0
+    pub chooses : (hints : List ℕ) → oneAnswer J palette (length hints) ≡ 0
         → Chosen J palette (J .S) (J .C) 0
-        × (pairDef size J palette hints ≡ pairOutcome (pair.Best (twoAt J palette (J .S) (J .C) 0)) (set hints 0 (winner J palette (J .S) (J .C) 0)))
-    pub any-hint : (h k : List ℕ) → length h ≡ length k → pairDef size J palette h .answer ≡ pairDef size J palette k .answer
+        × (pairDef J palette hints ≡ pairOutcome (pair.Best (twoAt J palette (J .S) (J .C) 0)) (set hints 0 (winner J palette (J .S) (J .C) 0)))
+    pub any-hint : (h k : List ℕ) → length h ≡ length k → pairDef J palette h .answer ≡ pairDef J palette k .answer
     -- an empty tile: 0, 0 and 0, or infinity where there is one subpalette
-    pub empty-one : (hints : List ℕ) → oneAnswer size J palette (length hints) ≡ 0 → isEmpty J 0 ≡ true → J .S ≡ 1
-        → pairDef size J palette hints ≡ pairOutcome (pair.Best (record { index = 0; dist = nought; second = inf false })) (set hints 0 0)
-    pub empty-many : (hints : List ℕ) → oneAnswer size J palette (length hints) ≡ 0 → isEmpty J 0 ≡ true → 2 ≤ J .S
-        → pairDef size J palette hints ≡ pairOutcome (pair.Best (record { index = 0; dist = nought; second = nought })) (set hints 0 0)
+    pub empty-one : (hints : List ℕ) → oneAnswer J palette (length hints) ≡ 0 → isEmpty J 0 ≡ true → J .S ≡ 1
+        → pairDef J palette hints ≡ pairOutcome (pair.Best (record { index = 0; dist = nought; second = inf false })) (set hints 0 0)
+    pub empty-many : (hints : List ℕ) → oneAnswer J palette (length hints) ≡ 0 → isEmpty J 0 ≡ true → 2 ≤ J .S
+        → pairDef J palette hints ≡ pairOutcome (pair.Best (record { index = 0; dist = nought; second = nought })) (set hints 0 0)
 
   pub record Assign : Type 0 where
     -- each tile that is not empty gets its choice, whatever its hint was, and it becomes the hint
-    pub chooses : (h : Held) → assignAnswer size J palette h ≡ 0 → (t : ℕ) → t < J .T → isEmpty J t ≡ false
+    pub chooses : (h : Held) → assignAnswer J palette h ≡ 0 → (t : ℕ) → t < J .T → isEmpty J t ≡ false
         → Chosen J palette (J .S) (J .C) t
-        × (getD (assignDef size J palette h .after .out) t 0 ≡ winner J palette (J .S) (J .C) t)
-        × (getD (assignDef size J palette h .after .hints) t 0 ≡ winner J palette (J .S) (J .C) t)
+        × (getD (assignDef J palette h .after .out) t 0 ≡ winner J palette (J .S) (J .C) t)
+        × (getD (assignDef J palette h .after .hints) t 0 ≡ winner J palette (J .S) (J .C) t)
     -- any two lists of hints give one number, and each tile one subpalette
     pub any-hints : (out h k : List ℕ) → length h ≡ length k
-        → (assignDef size J palette (held h out) .number ≡ assignDef size J palette (held k out) .number)
-        × (assignDef size J palette (held h out) .after .out ≡ assignDef size J palette (held k out) .after .out)
+        → (assignDef J palette (held h out) .number ≡ assignDef J palette (held k out) .number)
+        × (assignDef J palette (held h out) .after .out ≡ assignDef J palette (held k out) .after .out)
     -- an empty one gets 0, and keeps its hint
-    pub empty : (h : Held) → assignAnswer size J palette h ≡ 0 → (t : ℕ) → t < J .T → isEmpty J t ≡ true
-        → (getD (assignDef size J palette h .after .out) t 0 ≡ 0) × (getD (assignDef size J palette h .after .hints) t 0 ≡ getD (h .hints) t 0)
+    pub empty : (h : Held) → assignAnswer J palette h ≡ 0 → (t : ℕ) → t < J .T → isEmpty J t ≡ true
+        → (getD (assignDef J palette h .after .out) t 0 ≡ 0) × (getD (assignDef J palette h .after .hints) t 0 ≡ getD (h .hints) t 0)
 
 -- ---- one draw of a run
 -- the squared distance of colour q to each colour of subpalette i
@@ -143,11 +143,11 @@ pub data Request : Type 0 where
   advance : ℕ → Request
   hand-in : List Float → Request
 
-module _ (size : ℕ) (K : Course) where
+module _ (K : Course) where
   unfoldable pub called : Memory → Request → Outcome
-  called m (start seed) = startCall size K m seed
-  called m (advance a) = advanceCall size K m a
-  called m (hand-in reduced) = handInCall size K m reduced
+  called m (start seed) = startCall K m seed
+  called m (advance a) = advanceCall K m a
+  called m (hand-in reduced) = handInCall K m reduced
 
   -- the memory that calls in a row leave, whatever each of them answered
   unfoldable pub left : List Request → Memory → Memory
@@ -159,20 +159,20 @@ module _ (size : ℕ) (K : Course) where
   pub record Whatever-hints (m x : Memory) : Type 0 where
     pub calls : (cs : List Request) (c : Request) → Same-but-hints (called (left cs m) c) (called (left cs x) c)
     pub samples : (cs : List Request) (a : ℕ) → sampled K a (stateOf (left cs m)) ≡ sampled K a (stateOf (left cs x))
-    pub results : (cs : List Request) (out : List Float) → resultCall size K (left cs m) out ≡ resultCall size K (left cs x) out
+    pub results : (cs : List Request) (out : List Float) → resultCall K (left cs m) out ≡ resultCall K (left cs x) out
 
 -- ---- the demand
-pub record Second (size : ℕ) : Type 0 where
-  pub single-fit : (J : Job) (palette : List Float) → Single-fit size J palette
-  pub best-two : (J : Job) (palette : List Float) → Best-two size J palette
-  pub assign : (J : Job) (palette : List Float) → Assign size J palette
+pub record Second : Type 0 where
+  pub single-fit : (J : Job) (palette : List Float) → Single-fit J palette
+  pub best-two : (J : Job) (palette : List Float) → Best-two J palette
+  pub assign : (J : Job) (palette : List Float) → Assign J palette
   -- at every draw of an accepted memory, whatever hints it holds, each tile's choice is among the colours then present
-  pub tiles : (K : Course) (m : Memory) → Accepted size K m → (t : ℕ) → t < K .job .T → Chosen (K .job) (stateOf m .palette) (subsOf (K .job .S) (stateOf m .rec)) (haveOf (K .job .C) (stateOf m .rec)) t
+  pub tiles : (K : Course) (m : Memory) → Accepted K m → (t : ℕ) → t < K .job .T → Chosen (K .job) (stateOf m .palette) (subsOf (K .job .S) (stateOf m .rec)) (haveOf (K .job .C) (stateOf m .rec)) t
   -- the draw itself
-  pub draw : (K : Course) (m : Memory) → Accepted size K m → Moves K (sampleAt (stateOf m)) (stateOf m) (draw K (stateOf m))
+  pub draw : (K : Course) (m : Memory) → Accepted K m → Moves K (sampleAt (stateOf m)) (stateOf m) (draw K (stateOf m))
   -- an accepted advance is such draws, as many as it reports
-  pub advance : (K : Course) (m : Memory) (a : ℕ) → advanceAnswer size K m ≡ 0 → Draws K (stateOf m) (sampled K a (stateOf m)) (stateOf (advanceCall size K m a .after))
-  pub advance-many : (K : Course) (m : Memory) (a : ℕ) → advanceAnswer size K m ≡ 0 → length (sampled K a (stateOf m)) ≡ advanceCall size K m a .drew
+  pub advance : (K : Course) (m : Memory) (a : ℕ) → advanceAnswer K m ≡ 0 → Draws K (stateOf m) (sampled K a (stateOf m)) (stateOf (advanceCall K m a .after))
+  pub advance-many : (K : Course) (m : Memory) (a : ℕ) → advanceAnswer K m ≡ 0 → length (sampled K a (stateOf m)) ≡ advanceCall K m a .drew
   -- by one draw inside a round: of the memory before and after
-  pub one-draw : (K : Course) (m : Memory) → advanceAnswer size K m ≡ 0 → 2 ≤ getD (m .words) 3 0 → Moves K (sampleAt (stateOf m)) (stateOf m) (stateOf (advanceCall size K m 1 .after))
-  pub whatever-hints : (K : Course) (m x : Memory) → Hints-apart m x → Whatever-hints size K m x
+  pub one-draw : (K : Course) (m : Memory) → advanceAnswer K m ≡ 0 → 2 ≤ getD (m .words) 3 0 → Moves K (sampleAt (stateOf m)) (stateOf m) (stateOf (advanceCall K m 1 .after))
+  pub whatever-hints : (K : Course) (m x : Memory) → Hints-apart m x → Whatever-hints K m x

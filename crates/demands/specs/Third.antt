@@ -19,7 +19,7 @@ use Rattle.stages.specs.History.{Run}
 use Rattle.calls.specs.Accepted.{Accepted}
 
 -- ds are all samples that the calls since the start from that seed drew, in their order, and m is the memory that the last call left
-pub record Evenly (size : ℕ) (K : Course) (seed : ℕ) (m : Memory) (ds : List ℕ) : Type 0 where
+pub record Evenly (K : Course) (seed : ℕ) (m : Memory) (ds : List ℕ) : Type 0 where
   -- they are the defined ones: the first draws of the cycle from that seed
   pub defined : ds ≡ firsts (drawAt (K .n) seed) (length ds)
   -- as many as word 4 says
@@ -31,33 +31,33 @@ pub record Evenly (size : ℕ) (K : Course) (seed : ℕ) (m : Memory) (ds : List
   -- past the last draw, at stages 5, 6 and 7
   pub finished : 5 ≤ getD (m .words) 1 0 → length ds ≡ (K .job .S + K .job .C + 18) * b K
   -- the next call accepts what the last one left
-  pub resumes : Accepted size K m
+  pub resumes : Accepted K m
 
 -- ---- any division into calls
 -- accepted calls that lead from m to x: all colours handed in, in their order, and the number of all draws reported
-pub data Row (size : ℕ) (K : Course) : Memory → List (List Float) → ℕ → Memory → Type 0 where
-  none : {m : Memory} → Row size K m [] 0 m
-  advanced : {m x : Memory} {hs : List (List Float)} {d : ℕ} (a : ℕ) → advanceAnswer size K m ≡ 0
-      → Row size K (advanceCall size K m a .after) hs d x → Row size K m hs (advanceCall size K m a .drew + d) x
-  handedIn : {m x : Memory} {hs : List (List Float)} {d : ℕ} (reduced : List Float) → handInAnswer size K m reduced ≡ 0
-      → Row size K (handInCall size K m reduced .after) hs d x → Row size K m (reduced ∷ hs) d x
+pub data Row (K : Course) : Memory → List (List Float) → ℕ → Memory → Type 0 where
+  none : {m : Memory} → Row K m [] 0 m
+  advanced : {m x : Memory} {hs : List (List Float)} {d : ℕ} (a : ℕ) → advanceAnswer K m ≡ 0
+      → Row K (advanceCall K m a .after) hs d x → Row K m hs (advanceCall K m a .drew + d) x
+  handedIn : {m x : Memory} {hs : List (List Float)} {d : ℕ} (reduced : List Float) → handInAnswer K m reduced ≡ 0
+      → Row K (handInCall K m reduced .after) hs d x → Row K m (reduced ∷ hs) d x
 
 -- from one memory the same hand-ins and as many draws in all lead to one memory
-pub record Any-division (size : ℕ) (K : Course) : Type 0 where
-  pub same : {m x y : Memory} {hs : List (List Float)} {d : ℕ} → Row size K m hs d x → Row size K m hs d y → x ≡ y
+pub record Any-division (K : Course) : Type 0 where
+  pub same : {m x y : Memory} {hs : List (List Float)} {d : ℕ} → Row K m hs d x → Row K m hs d y → x ≡ y
 
 -- ---- the demand
-pub record Third (size : ℕ) (K : Course) : Type 0 where
+pub record Third (K : Course) : Type 0 where
   -- whatever the division into calls
-  pub evenly : (seed : ℕ) {m : Memory} {ds : List ℕ} → Run size K seed m ds → Evenly size K seed m ds
-  pub any-division : Any-division size K
+  pub evenly : (seed : ℕ) {m : Memory} {ds : List ℕ} → Run K seed m ds → Evenly K seed m ds
+  pub any-division : Any-division K
   -- to advance by a and then by c, with no stop between, is to advance by a + c
-  pub any-size : (m : Memory) (a c : ℕ) → advanceAnswer size K m ≡ 0 → draws (advance K a (stateOf m) .rec .stage) ≡ true
-      → advanceCall size K m (a + c)
-      ≡ outcome 0 (advanceCall size K m a .drew + advanceCall size K (advanceCall size K m a .after) c .drew) (advanceCall size K (advanceCall size K m a .after) c .after)
+  pub any-size : (m : Memory) (a c : ℕ) → advanceAnswer K m ≡ 0 → draws (advance K a (stateOf m) .rec .stage) ≡ true
+      → advanceCall K m (a + c)
+      ≡ outcome 0 (advanceCall K m a .drew + advanceCall K (advanceCall K m a .after) c .drew) (advanceCall K (advanceCall K m a .after) c .after)
   -- with fewer than ten samples there are no draws: the start goes straight to the first stop
-  pub straight : b K ≡ 0 → (m : Memory) (seed : ℕ) → startAnswer size K m ≡ 0 → getD (startCall size K m seed .after .words) 1 0 ≡ 3
+  pub straight : b K ≡ 0 → (m : Memory) (seed : ℕ) → startAnswer K m ≡ 0 → getD (startCall K m seed .after .words) 1 0 ≡ 3
   -- the draws that a call reports are those that its record has more, in refused calls too
-  pub reported : (m : Memory) (a : ℕ) → getD (advanceCall size K m a .after .words) 4 0 ≡ getD (m .words) 4 0 + advanceCall size K m a .drew
+  pub reported : (m : Memory) (a : ℕ) → getD (advanceCall K m a .after .words) 4 0 ≡ getD (m .words) 4 0 + advanceCall K m a .drew
   -- b is the Rust's f32 tenth, cut to a whole number
   pub tenths : (n : ℕ) → n ≤ 16384 → tenth n ≡ n / 10

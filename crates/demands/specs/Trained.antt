@@ -11,7 +11,7 @@ use Rattle.color.specs.Color.{Bounded}
 use Rattle.format.specs.Format.{refused, accepted}
 use Rattle.sheet_format.specs.Sheet.{Sheet, edition1, readSheet}
 use Rattle.sheet_format.specs.Lists.{floats}
-use Rattle.sheet.specs.Sheets.{jobOf}
+use Rattle.sheet.specs.Sheets.{jobIn as jobOf}
 use Rattle.fit_lines.specs.Lines.{refusedLine}
 use Rattle.train_samples.specs.Samples.{unitsTo}
 use Rattle.train_text.specs.Trained.{courseOf, trainedPalette}

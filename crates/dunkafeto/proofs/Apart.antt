@@ -36,28 +36,28 @@ unfolding toldRun
 run-apart x h = apart (x .number) (x .drew) h
 
 -- ---- the five calls
-module _ (size : ℕ) (K : Course) (m : Memory) where
-  pub start-apart : (seed : ℕ) → let x = startCall size K m seed in Apart (toldRun x .answer) (x .number) (x .drew)
-  start-apart seed = run-apart (startCall size K m seed) (unfold startCall startAnswer answered in
-      both (λ (x : Outcome). x .number < 256) (eqb (startAnswer size K m) 0) (omega arith) (answer-small (jobRules size K (memoryRoom size K m)) refl))
+module _ (K : Course) (m : Memory) where
+  pub start-apart : (seed : ℕ) → let x = startCall K m seed in Apart (toldRun x .answer) (x .number) (x .drew)
+  start-apart seed = run-apart (startCall K m seed) (unfold startCall startAnswer answered in
+      both (λ (x : Outcome). x .number < 256) (eqb (startAnswer K m) 0) (omega arith) (answer-small (jobRules K (memoryRoom K m)) refl))
 
-  pub advance-apart : (a : ℕ) → let x = advanceCall size K m a in Apart (toldRun x .answer) (x .number) (x .drew)
-  advance-apart a = run-apart (advanceCall size K m a) (unfold advanceCall advanceAnswer answered in
-      both (λ (x : Outcome). x .number < 256) (eqb (advanceAnswer size K m) 0) (omega arith) (answer-small (runRules size K m (memoryRoom size K m) (draws (stateOf m .rec .stage))) refl))
+  pub advance-apart : (a : ℕ) → let x = advanceCall K m a in Apart (toldRun x .answer) (x .number) (x .drew)
+  advance-apart a = run-apart (advanceCall K m a) (unfold advanceCall advanceAnswer answered in
+      both (λ (x : Outcome). x .number < 256) (eqb (advanceAnswer K m) 0) (omega arith) (answer-small (runRules K m (memoryRoom K m) (draws (stateOf m .rec .stage))) refl))
 
-  pub hand-in-apart : (reduced : List Float) → let x = handInCall size K m reduced in Apart (toldRun x .answer) (x .number) (x .drew)
-  hand-in-apart reduced = run-apart (handInCall size K m reduced) (unfold handInCall handInAnswer answered in
-      both (λ (x : Outcome). x .number < 256) (eqb (handInAnswer size K m reduced) 0) (omega arith)
-      (answer-small (runRules size K m (memoryRoom size K m && coloursRoom size K reduced) (stops (stateOf m .rec .stage)) ++ (rule 7 (componentsFit two reduced) ∷ [])) refl))
+  pub hand-in-apart : (reduced : List Float) → let x = handInCall K m reduced in Apart (toldRun x .answer) (x .number) (x .drew)
+  hand-in-apart reduced = run-apart (handInCall K m reduced) (unfold handInCall handInAnswer answered in
+      both (λ (x : Outcome). x .number < 256) (eqb (handInAnswer K m reduced) 0) (omega arith)
+      (answer-small (runRules K m (memoryRoom K m && coloursRoom K reduced) (stops (stateOf m .rec .stage)) ++ (rule 7 (componentsFit two reduced) ∷ [])) refl))
 
-  pub result-apart : (out : List Float) → let x = resultCall size K m out in Apart (toldColours x .answer) (x .number) 0
+  pub result-apart : (out : List Float) → let x = resultCall K m out in Apart (toldColours x .answer) (x .number) 0
   unfolding toldColours
-  result-apart out = apart (resultCall size K m out .number) 0 (unfold resultCall resultAnswer in
-      both (λ (x : Copied). x .number < 256) (eqb (resultAnswer size K m out) 0) (omega arith)
-      (answer-small (runRules size K m (memoryRoom size K m && coloursRoom size K out) (eqb (stateOf m .rec .stage) 7)) refl))
+  result-apart out = apart (resultCall K m out .number) 0 (unfold resultCall resultAnswer in
+      both (λ (x : Copied). x .number < 256) (eqb (resultAnswer K m out) 0) (omega arith)
+      (answer-small (runRules K m (memoryRoom K m && coloursRoom K out) (eqb (stateOf m .rec .stage) 7)) refl))
 
-pub assign-apart : (size : ℕ) (J : Job) (palette : List Float) (h : assigning.Held) → let x = assigning.assignDef size J palette h in Apart (toldTiles x .answer) (x .number) 0
+pub assign-apart : (J : Job) (palette : List Float) (h : assigning.Held) → let x = assigning.assignDef J palette h in Apart (toldTiles x .answer) (x .number) 0
 unfolding toldTiles
-assign-apart size J palette h = apart (assigning.assignDef size J palette h .number) 0 (unfold assigning.assignDef assigning.assignAnswer plainAnswer in
-    both (λ (x : assigning.Outcome). x .number < 256) (eqb (assigning.assignAnswer size J palette h) 0) (omega arith)
-    (answer-small (plainRules size J palette (assigning.roomFor (J .T) (length (h .hints)) (length (h .out)))) refl))
+assign-apart J palette h = apart (assigning.assignDef J palette h .number) 0 (unfold assigning.assignDef assigning.assignAnswer plainAnswer in
+    both (λ (x : assigning.Outcome). x .number < 256) (eqb (assigning.assignAnswer J palette h) 0) (omega arith)
+    (answer-small (plainRules J palette (assigning.roomFor (J .T) (length (h .hints)) (length (h .out)))) refl))

@@ -15,13 +15,13 @@ use Rattle.calls.proofs.Accepted.{job-passed}
 use Rattle.calls.proofs.Answers.{advance-opened}
 use Rattle.run_draw.proofs.Draws.{few-made}
 
-pub draws-few : (size : ℕ) (K : Course) (m : Memory) (a : ℕ) → advanceCall size K m a .drew ≤ 81950
+pub draws-few : (K : Course) (m : Memory) (a : ℕ) → advanceCall K m a .drew ≤ 81950
 unfolding advanceCall answered
-draws-few size K m a = by-test (λ (x : Outcome). x .drew ≤ 81950) (eqb (advanceAnswer size K m) 0) (λ t. accepted (eqb-true _ _ t)) (λ _. omega arith)
+draws-few K m a = by-test (λ (x : Outcome). x .drew ≤ 81950) (eqb (advanceAnswer K m) 0) (λ t. accepted (eqb-true _ _ t)) (λ _. omega arith)
   where
-    accepted : advanceAnswer size K m ≡ 0 → drawsOf K a (stateOf m) ≤ 81950
+    accepted : advanceAnswer K m ≡ 0 → drawsOf K a (stateOf m) ≤ 81950
     accepted z =
-        let A = advance-opened size K m z .0 in
-        let D = job-passed size K true (A .passed) in
+        let A = advance-opened K m z .0 in
+        let D = job-passed K true (A .passed) in
         let R = advance-rests K (D .ready .sizes .subs) (D .ready .sizes .some) a (stateOf m) (A .fit .rests) in
         omega (arith, advance-made K a (stateOf m), few-made K (D .ready .sizes .few) (D .ready .sizes .cap) (D .few) (advance K a (stateOf m)) (R .place))

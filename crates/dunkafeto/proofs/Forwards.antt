@@ -26,10 +26,10 @@ unfolding toldTiles
 tiles-told number h x e = ap (λ (k : ℕ). told k h) (sym (zero-add number)) ∙ ap toldTiles e
 
 -- ---- advance
-module _ (size : ℕ) (K : Course) (m : Memory) (a number draws : ℕ) (after : Memory) (e : outcome number draws after ≡ advanceCall size K m a) where
-  pub advance-told : (answer : ℕ) → answer ≡ packed number draws → told answer after ≡ toldRun (advanceCall size K m a)
+module _ (K : Course) (m : Memory) (a number draws : ℕ) (after : Memory) (e : outcome number draws after ≡ advanceCall K m a) where
+  pub advance-told : (answer : ℕ) → answer ≡ packed number draws → told answer after ≡ toldRun (advanceCall K m a)
   unfolding toldRun
   advance-told answer f = ap (λ (k : ℕ). told k after) f ∙ ap toldRun e
 
   pub few : draws ≤ 0xffff_ffff
-  few = omega (arith, subst (λ (x : Outcome). x .drew ≤ 81950) (sym e) (draws-few size K m a))
+  few = omega (arith, subst (λ (x : Outcome). x .drew ≤ 81950) (sym e) (draws-few K m a))

@@ -1,7 +1,7 @@
 // The calls for C and Rust hosts: forwarders only, each with the contract of what it forwards to. Assumes nothing.
 // The answer is one number, draws times 256 and the answer number (crate told). A slice is a pointer and a length in C.
 ghost use mathlib.Core.Path.{_≡_};
-ghost use Rattle.job.specs.Job.{sizesOf, jobOf, tileSize};
+ghost use Rattle.job.specs.Job.{sizesOf, jobOf};
 ghost use Rattle.quantizer.specs.Course.{courseOf};
 ghost use Rattle.stages.specs.Calls.{memory, startCall, advanceCall, handInCall, resultCall};
 ghost use Rattle.assign_tiles.specs.Tiles.{held};
@@ -28,7 +28,10 @@ pub extern "C" fn dunkafeto_start(
     least: &mut [f32],
     words: &mut [u64],
 ) -> u64
-    ensures { λ r. ⌜ told r (memory (now (order .exit)) (now (hints .exit)) (now (palette .exit)) (now (least .exit)) (now (words .exit))) ≡ toldRun (startCall (courseOf (sizesOf s c t n weight) (now (tiles .entry)) (now (colours .entry)) (now (counts .entry)) (now (samples .entry))) (memory (now (order .entry)) (now (hints .entry)) (now (palette .entry)) (now (least .entry)) (now (words .entry))) seed) ⌝ }
+    ensures { λ r. ⌜ told r (memory (now (order .exit)) (now (hints .exit)) (now (palette .exit)) (now (least .exit)) (now (words .exit)))
+        ≡ toldRun
+        (startCall (courseOf (sizesOf s c t n weight) (now (tiles .entry)) (now (colours .entry)) (now (counts .entry)) (now (samples .entry)))
+        (memory (now (order .entry)) (now (hints .entry)) (now (palette .entry)) (now (least .entry)) (now (words .entry))) seed) ⌝ }
 {
     let z = job::sizes_of(s, c, t, n, weight);
     let number = run_start::start(
@@ -66,7 +69,10 @@ pub extern "C" fn dunkafeto_advance(
     words: &mut [u64],
     allotment: u64,
 ) -> u64
-    ensures { λ r. ⌜ told r (memory (now (order .exit)) (now (hints .exit)) (now (palette .exit)) (now (least .exit)) (now (words .exit))) ≡ toldRun (advanceCall (courseOf (sizesOf s c t n weight) (now (tiles .entry)) (now (colours .entry)) (now (counts .entry)) (now (samples .entry))) (memory (now (order .entry)) (now (hints .entry)) (now (palette .entry)) (now (least .entry)) (now (words .entry))) allotment) ⌝ }
+    ensures { λ r. ⌜ told r (memory (now (order .exit)) (now (hints .exit)) (now (palette .exit)) (now (least .exit)) (now (words .exit)))
+        ≡ toldRun
+        (advanceCall (courseOf (sizesOf s c t n weight) (now (tiles .entry)) (now (colours .entry)) (now (counts .entry)) (now (samples .entry)))
+        (memory (now (order .entry)) (now (hints .entry)) (now (palette .entry)) (now (least .entry)) (now (words .entry))) allotment) ⌝ }
 {
     let z = job::sizes_of(s, c, t, n, weight);
     let a = run_advance::advance(
@@ -104,7 +110,11 @@ pub extern "C" fn dunkafeto_hand_in(
     words: &mut [u64],
     reduced: &[f32],
 ) -> u64
-    ensures { λ r. ⌜ told r (memory (now (order .entry)) (now (hints .exit)) (now (palette .exit)) (now (least .entry)) (now (words .exit))) ≡ toldRun (handInCall (courseOf (sizesOf s c t n weight) (now (tiles .entry)) (now (colours .entry)) (now (counts .entry)) (now (samples .entry))) (memory (now (order .entry)) (now (hints .entry)) (now (palette .entry)) (now (least .entry)) (now (words .entry))) (now (reduced .entry))) ⌝ }
+    ensures { λ r. ⌜ told r (memory (now (order .entry)) (now (hints .exit)) (now (palette .exit)) (now (least .entry)) (now (words .exit)))
+        ≡ toldRun
+        (handInCall (courseOf (sizesOf s c t n weight) (now (tiles .entry)) (now (colours .entry)) (now (counts .entry)) (now (samples .entry)))
+        (memory (now (order .entry)) (now (hints .entry)) (now (palette .entry)) (now (least .entry)) (now (words .entry)))
+        (now (reduced .entry))) ⌝ }
 {
     let z = job::sizes_of(s, c, t, n, weight);
     let number = run_hand_in::hand_in(
@@ -142,7 +152,10 @@ pub extern "C" fn dunkafeto_result(
     words: &[u64],
     out: &mut [f32],
 ) -> u64
-    ensures { λ r. ⌜ told r (now (out .exit)) ≡ toldColours (resultCall (courseOf (sizesOf s c t n weight) (now (tiles .entry)) (now (colours .entry)) (now (counts .entry)) (now (samples .entry))) (memory (now (order .entry)) (now (hints .entry)) (now (palette .entry)) (now (least .entry)) (now (words .entry))) (now (out .entry))) ⌝ }
+    ensures { λ r. ⌜ told r (now (out .exit))
+        ≡ toldColours
+        (resultCall (courseOf (sizesOf s c t n weight) (now (tiles .entry)) (now (colours .entry)) (now (counts .entry)) (now (samples .entry)))
+        (memory (now (order .entry)) (now (hints .entry)) (now (palette .entry)) (now (least .entry)) (now (words .entry))) (now (out .entry))) ⌝ }
 {
     let z = job::sizes_of(s, c, t, n, weight);
     let number = run_result::result(
@@ -175,7 +188,10 @@ pub extern "C" fn dunkafeto_assign(
     hints: &mut [u32],
     out: &mut [u32],
 ) -> u64
-    ensures { λ r. ⌜ told r (held (now (hints .exit)) (now (out .exit))) ≡ toldTiles (assignDef tileSize (jobOf (sizesOf s c t 0 weight) (now (tiles .entry)) (now (colours .entry)) (now (counts .entry))) (now (palette .entry)) (held (now (hints .entry)) (now (out .entry)))) ⌝ }
+    ensures { λ r. ⌜ told r (held (now (hints .exit)) (now (out .exit)))
+        ≡ toldTiles
+        (assignDef (jobOf (sizesOf s c t 0 weight) (now (tiles .entry)) (now (colours .entry)) (now (counts .entry))) (now (palette .entry))
+        (held (now (hints .entry)) (now (out .entry)))) ⌝ }
 {
     let z = job::sizes_of(s, c, t, 0, weight);
     let number = assign::assign(z, tiles, colours, counts, palette, hints, out);

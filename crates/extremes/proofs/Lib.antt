@@ -1,4 +1,4 @@
-pub mod Turns
-pub mod Examples
 pub mod Choices
+pub mod Turns
 pub mod Order
+pub mod Examples

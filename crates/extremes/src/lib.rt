@@ -1,10 +1,10 @@
 // Selection helpers: the greatest and the least by IEEE 754's total order of f32, which goes by their bits, as specs/Extremes.antt says.
 // No value may be a NaN: it is placed by its bits, which the language keeps to itself.
 ghost use mathlib.Core.Path.{_≡_};
-ghost use mathlib.Core.Bool.{not};
+ghost use mathlib.Core.Bool.{cond, not};
 ghost use lib.Dec.{T};
-ghost use lib.Ieee.{binary32, isNan, toBits};
 ghost use lib.ListN.{length};
+ghost use lib.Ieee.{binary32, isNan, toBits};
 ghost use Rattle.ieee.specs.Terms.{keyOf};
 ghost use Rattle.stats.specs.Stats.{valueAt};
 ghost use Rattle.extremes.specs.Extremes.{NoNan, argmaxOf, argminOf};
@@ -25,16 +25,17 @@ pub fn total_key(x: f32) -> u32
     }
 }
 
-// The last of the greatest, 0 where there is none.
-pub fn argmax(values: &[f32]) -> usize
+// Where `greatest` is true the last of the greatest, else the first of the least; 0 where there is none.
+fn extreme(values: &[f32], greatest: bool) -> usize
     requires { ⌜ NoNan (valueAt (now values)) (length (now values)) ⌝ }
-    ensures { λ r. ⌜ r ≡ argmaxOf (valueAt (now (values .entry))) (length (now (values .entry))) ⌝ }
+    ensures { λ r. ⌜ r ≡ cond greatest (argmaxOf (valueAt (now (values .entry))) (length (now (values .entry)))) (argminOf (valueAt (now (values .entry))) (length (now (values .entry)))) ⌝ }
 {
     let n = values.len();
     let mut best = 0;
     let mut i = 0;
     while i < n {
-        if total_key(values[best]) <= total_key(values[i]) {
+        let rises = total_key(values[best]) <= total_key(values[i]);
+        if rises == greatest {
             best = i;
         }
         i += 1;
@@ -42,19 +43,18 @@ pub fn argmax(values: &[f32]) -> usize
     best
 }
 
+// The last of the greatest, 0 where there is none.
+pub fn argmax(values: &[f32]) -> usize
+    requires { ⌜ NoNan (valueAt (now values)) (length (now values)) ⌝ }
+    ensures { λ r. ⌜ r ≡ argmaxOf (valueAt (now (values .entry))) (length (now (values .entry))) ⌝ }
+{
+    extreme(values, true)
+}
+
 // The first of the least, 0 where there is none.
 pub fn argmin(values: &[f32]) -> usize
     requires { ⌜ NoNan (valueAt (now values)) (length (now values)) ⌝ }
     ensures { λ r. ⌜ r ≡ argminOf (valueAt (now (values .entry))) (length (now (values .entry))) ⌝ }
 {
-    let n = values.len();
-    let mut best = 0;
-    let mut i = 0;
-    while i < n {
-        if total_key(values[i]) < total_key(values[best]) {
-            best = i;
-        }
-        i += 1;
-    }
-    best
+    extreme(values, false)
 }

@@ -27,16 +27,16 @@ fn tile_found(
     i: usize,
 ) -> Found
     requires { ⌜ Paired (jobOf z (now tiles) (now colours) (now counts)) (now palette) (z .s) (z .c) (now hints) i ⌝ }
-    ensures { λ r. ⌜ (r .sub ≡ subpaletteOf (jobOf z (now (tiles .entry)) (now (colours .entry)) (now (counts .entry))) (now (palette .entry)) i) × (r .bits ≡ distBits (jobOf z (now (tiles .entry)) (now (colours .entry)) (now (counts .entry))) (now (palette .entry)) i) ⌝ }
+    ensures { λ r. ⌜ (r .sub ≡ subpaletteOf (jobOf z (now (tiles .entry)) (now (colours .entry)) (now (counts .entry))) (now (palette .entry)) i)
+        × (r .bits ≡ distBits (jobOf z (now (tiles .entry)) (now (colours .entry)) (now (counts .entry))) (now (palette .entry)) i) ⌝ }
 {
     if job::is_empty(tiles, i) {
         return Found { sub: 0, bits: 0 };
     }
     let best = palette_tile::tile_fit(z, tiles, colours, counts, palette, z.s, z.c, hints, i);
-    Found {
-        sub: best.index as u32,
-        bits: f32::to_bits(best.dist),
-    }
+    let sub = best.index as u32;
+    let bits = f32::to_bits(best.dist);
+    Found { sub, bits }
 }
 
 // A line for each tile, and how many tiles each subpalette has.
@@ -51,8 +51,10 @@ fn put_tiles(
     out: &mut [u8],
     at: usize,
 ) -> usize
-    requires { ⌜ Shown (jobOf z (now tiles) (now colours) (now counts)) (now palette) (z .s) (z .c) × (length (now hints) ≡ (z .t)) × ((z .s) ≤ length (now loads)) × ((k : ℕ) → getD (now loads) k 0 ≡ 0) × (at + 33 * (z .t) ≤ length (now out)) ⌝ }
-    ensures { λ r. ⌜ Stored (now (out .entry)) (now (out .exit)) at r (tileLines (jobOf z (now (tiles .entry)) (now (colours .entry)) (now (counts .entry))) (now (palette .entry)) (z .t)) × ((k : ℕ) → getD (now (loads .exit)) k 0 ≡ loadOf (jobOf z (now (tiles .entry)) (now (colours .entry)) (now (counts .entry))) (now (palette .entry)) k (z .t)) ⌝ }
+    requires { ⌜ Shown (jobOf z (now tiles) (now colours) (now counts)) (now palette) (z .s) (z .c) × (length (now hints) ≡ z .t)
+        × (z .s ≤ length (now loads)) × ((k : ℕ) → getD (now loads) k 0 ≡ 0) × (at + 33 * z .t ≤ length (now out)) ⌝ }
+    ensures { λ r. ⌜ Stored (now (out .entry)) (now (out .exit)) at r (tileLines (jobOf z (now (tiles .entry)) (now (colours .entry)) (now (counts .entry))) (now (palette .entry)) (z .t))
+        × ((k : ℕ) → getD (now (loads .exit)) k 0 ≡ loadOf (jobOf z (now (tiles .entry)) (now (colours .entry)) (now (counts .entry))) (now (palette .entry)) k (z .t)) ⌝ }
 {
     let mut q = at;
     let mut i = 0;
@@ -89,7 +91,7 @@ pub fn put_fit(
     hints: &mut [u32],
     out: &mut [u8],
 ) -> usize
-    requires { ⌜ Shown (jobOf z (now tiles) (now colours) (now counts)) (now palette) (z .s) (z .c) × (length (now hints) ≡ (z .t)) × (34060 ≤ length (now out)) ⌝ }
+    requires { ⌜ Shown (jobOf z (now tiles) (now colours) (now counts)) (now palette) (z .s) (z .c) × (length (now hints) ≡ z .t) × (34060 ≤ length (now out)) ⌝ }
     ensures { λ r. ⌜ Stored (now (out .entry)) (now (out .exit)) 0 r (fitText (jobOf z (now (tiles .entry)) (now (colours .entry)) (now (counts .entry))) (now (palette .entry))) ⌝ }
 {
     let mut loads = [0u32; 16];

@@ -14,10 +14,10 @@ use Rattle.palette_tile.specs.Tiles.{Fitted}
 use Rattle.fits.proofs.Shown.{one-paired}
 use Rattle.fits_check.specs.One.{oneRules, oneAnswer, singleAnswer}
 
-module _ (size : ℕ) (J : Job) (palette : List Float) (n : ℕ) (a : ℕ) (e : a ≡ singleAnswer size J palette n) (z : a ≡ 0) where
-  both : (oneAnswer size J palette n ≡ 0) × (answer (rule 15 (not (isEmpty J 0)) ∷ []) ≡ 0)
+module _ (J : Job) (palette : List Float) (n : ℕ) (a : ℕ) (e : a ≡ singleAnswer J palette n) (z : a ≡ 0) where
+  both : (oneAnswer J palette n ≡ 0) × (answer (rule 15 (not (isEmpty J 0)) ∷ []) ≡ 0)
   unfolding oneAnswer singleAnswer numbered
-  both = both-pass (oneRules size J palette n) (rule 15 (not (isEmpty J 0)) ∷ []) refl (sym e ∙ z)
+  both = both-pass (oneRules J palette n) (rule 15 (not (isEmpty J 0)) ∷ []) refl (sym e ∙ z)
 
   full : 1 ≤ sizeOf (J .tiles) 0
   unfolding answer
@@ -27,5 +27,5 @@ module _ (size : ℕ) (J : Job) (palette : List Float) (n : ℕ) (a : ℕ) (e : 
       by zero h = absurd (omega arith)
       by (suc k) h = omega arith
 
-  pub single-asked : size ≤ 256 → (hints : List ℕ) → length hints ≡ n → Fitted J palette (J .S) (J .C) hints 0
-  single-asked s hints l = record { paired = one-paired size J palette n 0 (sym (both .0)) refl s hints l; full = full }
+  pub single-asked : (hints : List ℕ) → length hints ≡ n → Fitted J palette (J .S) (J .C) hints 0
+  single-asked hints l = record { paired = one-paired J palette n 0 (sym (both .0)) refl hints l; full = full }

@@ -17,11 +17,9 @@ use Rattle.fits_check.specs.One.{oneAnswer}
 use Rattle.fits_check.proofs.Passes.{one-tile, one-plain}
 
 -- the whole palette is present
-pub shown : (size : ℕ) (J : Job) (palette : List Float) (room : Bool) → size ≤ 256 → Plain size J palette room → Shown J palette (J .S) (J .C)
-shown size J palette room z P =
+pub shown : (J : Job) (palette : List Float) (room : Bool) → Plain J palette room → Shown J palette (J .S) (J .C)
+shown J palette room P =
     record {
-      size = size;
-      small = z;
       ready = P .ready;
       subs = P .ready .sizes .subs;
       most = le-refl (J .S);
@@ -32,14 +30,14 @@ shown size J palette room z P =
     }
 
 -- what an answer of 0 to a call with one tile gives
-module _ (size : ℕ) (J : Job) (palette : List Float) (n : ℕ) (a : ℕ) (e : a ≡ oneAnswer size J palette n) (z : a ≡ 0) where
-  answered : oneAnswer size J palette n ≡ 0
+module _ (J : Job) (palette : List Float) (n : ℕ) (a : ℕ) (e : a ≡ oneAnswer J palette n) (z : a ≡ 0) where
+  answered : oneAnswer J palette n ≡ 0
   answered = sym e ∙ z
 
-  pub one-paired : size ≤ 256 → (hints : List ℕ) → length hints ≡ n → Paired J palette (J .S) (J .C) hints 0
-  one-paired s hints l =
+  pub one-paired : (hints : List ℕ) → length hints ≡ n → Paired J palette (J .S) (J .C) hints 0
+  one-paired hints l =
       record {
-        shown = shown size J palette (eqb n (J .T)) s (one-plain size J palette n answered);
-        tile = omega (arith, one-tile size J palette n answered);
-        each = l ∙ eqb-true n (J .T) (one-plain size J palette n answered .roomy);
+        shown = shown J palette (eqb n (J .T)) (one-plain J palette n answered);
+        tile = omega (arith, one-tile J palette n answered);
+        each = l ∙ eqb-true n (J .T) (one-plain J palette n answered .roomy);
       }

@@ -2,7 +2,7 @@
 // It first asks for the number of the first rule broken, over shared slices, so that a refusal writes nothing.
 use job::Sizes;
 ghost use mathlib.Core.Path.{_≡_};
-ghost use Rattle.job.specs.Job.{jobOf, tileSize};
+ghost use Rattle.job.specs.Job.{jobOf};
 ghost use Rattle.fits_outcome.specs.Fits.{singleOutcome, singleDef};
 use fits_outcome::Single;
 
@@ -15,7 +15,7 @@ pub fn single_fit(
     palette: &[f32],
     hints: &mut [u32],
 ) -> Single
-    ensures { λ r. ⌜ singleOutcome r (now (hints .exit)) ≡ singleDef tileSize (jobOf z (now (tiles .entry)) (now (colours .entry)) (now (counts .entry))) (now (palette .entry)) (now (hints .entry)) ⌝ }
+    ensures { λ r. ⌜ singleOutcome r (now (hints .exit)) ≡ singleDef (jobOf z (now (tiles .entry)) (now (colours .entry)) (now (counts .entry))) (now (palette .entry)) (now (hints .entry)) ⌝ }
 {
     let number = fits_check::check_single(z, tiles, colours, counts, palette, hints.len());
     if number != 0 {

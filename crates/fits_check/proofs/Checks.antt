@@ -15,33 +15,33 @@ use Rattle.job.specs.Checks.{plainAnswer}
 use Rattle.fits_check.specs.One.{oneRules, oneAnswer, singleAnswer}
 use Rattle.fits_check.proofs.Passes.{one-tile, one-plain}
 
-module _ (size : ℕ) (J : Job) (palette : List Float) (n : ℕ) where
+module _ (J : Job) (palette : List Float) (n : ℕ) where
   -- ---- what the checks answer
-  pub one-many : (J .T ≡ 1 → ⊥) → 2 ≡ oneAnswer size J palette n
+  pub one-many : (J .T ≡ 1 → ⊥) → 2 ≡ oneAnswer J palette n
   unfolding oneAnswer
   one-many h = fails _ _ _ (ne-eqb _ _ h)
 
-  pub one-checked : J .T ≡ 1 → (r : ℕ) → r ≡ plainAnswer size J palette (eqb n (J .T)) → r ≡ oneAnswer size J palette n
+  pub one-checked : J .T ≡ 1 → (r : ℕ) → r ≡ plainAnswer J palette (eqb n (J .T)) → r ≡ oneAnswer J palette n
   unfolding oneAnswer plainAnswer
   one-checked h r e = skips _ _ _ _ (eq-eqb _ _ h) e
 
-  module _ (a : ℕ) (e : a ≡ oneAnswer size J palette n) where
-    pub single-stops : (a ≡ 0 → ⊥) → a ≡ singleAnswer size J palette n
+  module _ (a : ℕ) (e : a ≡ oneAnswer J palette n) where
+    pub single-stops : (a ≡ 0 → ⊥) → a ≡ singleAnswer J palette n
     unfolding oneAnswer singleAnswer numbered
-    single-stops h = stops (oneRules size J palette n) _ a refl e h
+    single-stops h = stops (oneRules J palette n) _ a refl e h
 
     module _ (z : a ≡ 0) where
-      answered : oneAnswer size J palette n ≡ 0
+      answered : oneAnswer J palette n ≡ 0
       answered = sym e ∙ z
 
       pub one-listed : 1 < length (J .tiles)
-      one-listed = omega (arith, one-tile size J palette n answered, one-plain size J palette n answered .ready .table)
+      one-listed = omega (arith, one-tile J palette n answered, one-plain J palette n answered .ready .table)
 
       -- ---- the single fit's own rule
-      pub single-empty : (r : Bool) → r ≡ isEmpty J 0 → r ≡ true → 15 ≡ singleAnswer size J palette n
+      pub single-empty : (r : Bool) → r ≡ isEmpty J 0 → r ≡ true → 15 ≡ singleAnswer J palette n
       unfolding oneAnswer singleAnswer numbered
-      single-empty r f h = goes (oneRules size J palette n) _ a 15 refl e z (fails _ _ _ (ap not (sym f ∙ h)))
+      single-empty r f h = goes (oneRules J palette n) _ a 15 refl e z (fails _ _ _ (ap not (sym f ∙ h)))
 
-      pub single-passes : (r : Bool) → r ≡ isEmpty J 0 → r ≡ false → 0 ≡ singleAnswer size J palette n
+      pub single-passes : (r : Bool) → r ≡ isEmpty J 0 → r ≡ false → 0 ≡ singleAnswer J palette n
       unfolding oneAnswer singleAnswer numbered
-      single-passes r f h = goes (oneRules size J palette n) _ a 0 refl e z (skips _ _ _ _ (ap not (sym f ∙ h)) none)
+      single-passes r f h = goes (oneRules J palette n) _ a 0 refl e z (skips _ _ _ _ (ap not (sym f ∙ h)) none)

@@ -13,14 +13,14 @@ use Rattle.job.specs.Gives.{Plain}
 use Rattle.job.proofs.Ready.{plain-ready}
 use Rattle.fits_check.specs.One.{oneRules, oneAnswer}
 
-module _ (size : ℕ) (J : Job) (palette : List Float) (n : ℕ) (z : oneAnswer size J palette n ≡ 0) where
-  passed : Passed (oneRules size J palette n)
+module _ (J : Job) (palette : List Float) (n : ℕ) (z : oneAnswer J palette n ≡ 0) where
+  passed : Passed (oneRules J palette n)
   unfolding oneAnswer numbered
-  passed = all-pass (oneRules size J palette n) refl z
+  passed = all-pass (oneRules J palette n) refl z
 
   pub one-tile : J .T ≡ 1
   one-tile = eqb-true (J .T) 1 (passed .0)
 
-  pub one-plain : Plain size J palette (eqb n (J .T))
+  pub one-plain : Plain J palette (eqb n (J .T))
   unfolding plainAnswer
-  one-plain = plain-ready size J palette (eqb n (J .T)) (sym (pass-all (plainRules size J palette (eqb n (J .T))) (passed .1)))
+  one-plain = plain-ready J palette (eqb n (J .T)) (sym (pass-all (plainRules J palette (eqb n (J .T))) (passed .1)))

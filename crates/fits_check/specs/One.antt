@@ -1,4 +1,4 @@
--- The rules of a call with one tile of at most `size` pixels: the number that the single fit gets, and the one that `best_two` gets.
+-- The rules of a call with one tile: the number that the single fit gets, and the one that `best_two` gets.
 -- Definitions only. Assumes nothing.
 use Prim.Native.Nat.{ℕ}
 use mathlib.Core.Bool.{not}
@@ -10,12 +10,12 @@ use Rattle.job.specs.Job.{Job, isEmpty}
 use Rattle.job.specs.Checks.{plainRules}
 
 -- one tile, a hint for it, then those of every call without samples
-abbrev pub oneRules : ℕ → Job → List Float → ℕ → List Rule
-oneRules size J palette hints = rule 2 (eqb (J .T) 1) ∷ plainRules size J palette (eqb hints (J .T))
+abbrev pub oneRules : Job → List Float → ℕ → List Rule
+oneRules J palette hints = rule 2 (eqb (J .T) 1) ∷ plainRules J palette (eqb hints (J .T))
 
-unfoldable pub oneAnswer : ℕ → Job → List Float → ℕ → ℕ
-oneAnswer size J palette hints = answer (oneRules size J palette hints)
+unfoldable pub oneAnswer : Job → List Float → ℕ → ℕ
+oneAnswer J palette hints = answer (oneRules J palette hints)
 
 -- the single fit wants a colour, after all else
-unfoldable pub singleAnswer : ℕ → Job → List Float → ℕ → ℕ
-singleAnswer size J palette hints = answer (oneRules size J palette hints ++ (rule 15 (not (isEmpty J 0)) ∷ []))
+unfoldable pub singleAnswer : Job → List Float → ℕ → ℕ
+singleAnswer J palette hints = answer (oneRules J palette hints ++ (rule 15 (not (isEmpty J 0)) ∷ []))

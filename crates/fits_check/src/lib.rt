@@ -14,7 +14,7 @@ pub fn check_one(
     palette: &[f32],
     hints: usize,
 ) -> u32
-    ensures { λ r. ⌜ r ≡ oneAnswer (z .size) (jobOf z (now (tiles .entry)) (now (colours .entry)) (now (counts .entry))) (now (palette .entry)) hints ⌝ }
+    ensures { λ r. ⌜ r ≡ oneAnswer (jobOf z (now (tiles .entry)) (now (colours .entry)) (now (counts .entry))) (now (palette .entry)) hints ⌝ }
 {
     if z.t != 1 {
         return 2;
@@ -31,7 +31,7 @@ pub fn check_single(
     palette: &[f32],
     hints: usize,
 ) -> u32
-    ensures { λ r. ⌜ r ≡ singleAnswer (z .size) (jobOf z (now (tiles .entry)) (now (colours .entry)) (now (counts .entry))) (now (palette .entry)) hints ⌝ }
+    ensures { λ r. ⌜ r ≡ singleAnswer (jobOf z (now (tiles .entry)) (now (colours .entry)) (now (counts .entry))) (now (palette .entry)) hints ⌝ }
 {
     let number = check_one(z, tiles, colours, counts, palette, hints);
     if number != 0 {

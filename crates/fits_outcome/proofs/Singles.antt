@@ -16,12 +16,12 @@ use Rattle.fits_check.specs.One.{singleAnswer}
 named : (best fit : Near) (hints after : List ℕ) → best ≡ fit → after ≡ set hints 0 (best .index) → singleOutcome (Fit best) after ≡ singleOutcome (Fit fit) (set hints 0 (fit .index))
 named best fit hints after f g = rw (g, f)
 
-module _ (size : ℕ) (J : Job) (palette : List Float) (hints : List ℕ) (r : ℕ) (e : r ≡ singleAnswer size J palette (length hints)) where
+module _ (J : Job) (palette : List Float) (hints : List ℕ) (r : ℕ) (e : r ≡ singleAnswer J palette (length hints)) where
   -- a refusal writes nothing
-  pub single-refused : (r ≡ 0 → ⊥) → singleOutcome (NoFit r) hints ≡ singleDef size J palette hints
+  pub single-refused : (r ≡ 0 → ⊥) → singleOutcome (NoFit r) hints ≡ singleDef J palette hints
   unfolding singleDef
   single-refused h = rw (← e, ne-eqb r 0 h)
 
-  pub single-done : r ≡ 0 → (best : Near) (after : List ℕ) → best ≡ fitAt J palette (J .S) (J .C) 0 → after ≡ set hints 0 (best .index) → singleOutcome (Fit best) after ≡ singleDef size J palette hints
+  pub single-done : r ≡ 0 → (best : Near) (after : List ℕ) → best ≡ fitAt J palette (J .S) (J .C) 0 → after ≡ set hints 0 (best .index) → singleOutcome (Fit best) after ≡ singleDef J palette hints
   unfolding singleDef
   single-done z best after f g = rw (← e, eq-eqb r 0 z) (named best (fitAt J palette (J .S) (J .C) 0) hints after f g)

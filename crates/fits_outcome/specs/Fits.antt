@@ -1,4 +1,4 @@
--- The single fit of a job of one tile, of at most `size` pixels: its answer, and the hints that it leaves. Definitions only. Assumes nothing.
+-- The single fit of a job of one tile: its answer, and the hints that it leaves. Definitions only. Assumes nothing.
 use Prim.Native.Nat.{ℕ}
 use mathlib.Core.Bool.{cond}
 use mathlib.Core.List.{List}
@@ -25,8 +25,8 @@ abbrev pub singleOutcome : Single → List ℕ → SingleOutcome
 singleOutcome r h = record { answer = r; hints = h }
 
 -- the call: it reads no hint and leaves the winner there; a refusal writes nothing
-unfoldable pub singleDef : ℕ → Job → List Float → List ℕ → SingleOutcome
-singleDef size J palette hints =
-    let number = singleAnswer size J palette (length hints) in
+unfoldable pub singleDef : Job → List Float → List ℕ → SingleOutcome
+singleDef J palette hints =
+    let number = singleAnswer J palette (length hints) in
     let best = fitAt J palette (J .S) (J .C) 0 in
     cond (eqb number 0) (singleOutcome (Fit best) (set hints 0 (best .index))) (singleOutcome (NoFit number) hints)

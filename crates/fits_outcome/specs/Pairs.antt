@@ -1,4 +1,4 @@
--- `best_two` of a job of one tile, of at most `size` pixels: its answer, and the hints that it leaves. Definitions only. Assumes nothing.
+-- `best_two` of a job of one tile: its answer, and the hints that it leaves. Definitions only. Assumes nothing.
 use Prim.Native.Nat.{ℕ}
 use mathlib.Core.Bool.{cond}
 use mathlib.Core.List.{List}
@@ -25,8 +25,8 @@ abbrev pub pairOutcome : Pair → List ℕ → PairOutcome
 pairOutcome r h = record { answer = r; hints = h }
 
 -- the call: it reads no hint and leaves the winner there; a refusal writes nothing
-unfoldable pub pairDef : ℕ → Job → List Float → List ℕ → PairOutcome
-pairDef size J palette hints =
-    let number = oneAnswer size J palette (length hints) in
+unfoldable pub pairDef : Job → List Float → List ℕ → PairOutcome
+pairDef J palette hints =
+    let number = oneAnswer J palette (length hints) in
     let best = twoAt J palette (J .S) (J .C) 0 in
     cond (eqb number 0) (pairOutcome (Both best) (set hints 0 (best .index))) (pairOutcome (NoBoth number) hints)

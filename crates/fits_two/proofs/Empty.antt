@@ -17,18 +17,18 @@ use Rattle.fits_check.specs.One.{oneAnswer}
 use Rattle.fits_outcome.specs.Pairs.{pairOutcome, pairDef}
 use Rattle.fits_check.proofs.Passes.{one-tile, one-plain}
 
-module _ (size : ℕ) (J : Job) (palette : List Float) (hints : List ℕ) (z : oneAnswer size J palette (length hints) ≡ 0) (e : isEmpty J 0 ≡ true) where
+module _ (J : Job) (palette : List Float) (hints : List ℕ) (z : oneAnswer J palette (length hints) ≡ 0) (e : isEmpty J 0 ≡ true) where
   no-counts : length (countsOf J 0) ≡ 0
-  no-counts = counts-length size J (one-plain size J palette (length hints) z .ready) 0 (omega (arith, one-tile size J palette (length hints) z)) ∙ eqb-true (sizeOf (J .tiles) 0) 0 e
+  no-counts = counts-length J (one-plain J palette (length hints) z .ready) 0 (omega (arith, one-tile J palette (length hints) z)) ∙ eqb-true (sizeOf (J .tiles) 0) 0 e
 
-  answered : (best : Two) → twoAt J palette (J .S) (J .C) 0 ≡ best → pairDef size J palette hints ≡ pairOutcome (Both best) (set hints 0 (best .index))
+  answered : (best : Two) → twoAt J palette (J .S) (J .C) 0 ≡ best → pairDef J palette hints ≡ pairOutcome (Both best) (set hints 0 (best .index))
   unfolding pairDef
-  answered best f = rw (eq-eqb (oneAnswer size J palette (length hints)) 0 z, f)
+  answered best f = rw (eq-eqb (oneAnswer J palette (length hints)) 0 z, f)
 
-  pub empty-one : J .S ≡ 1 → pairDef size J palette hints ≡ pairOutcome (Both (record { index = 0; dist = ofBits binary32 0; second = inf false })) (set hints 0 0)
+  pub empty-one : J .S ≡ 1 → pairDef J palette hints ≡ pairOutcome (Both (record { index = 0; dist = ofBits binary32 0; second = inf false })) (set hints 0 0)
   unfolding twoAt
   empty-one s = answered (record { index = 0; dist = ofBits binary32 0; second = inf false }) (empty-alone (presentIn J palette (J .S) (J .C)) (tileAt J 0) (J .weight) no-counts s)
 
-  pub empty-many : 2 ≤ J .S → pairDef size J palette hints ≡ pairOutcome (Both (record { index = 0; dist = ofBits binary32 0; second = ofBits binary32 0 })) (set hints 0 0)
+  pub empty-many : 2 ≤ J .S → pairDef J palette hints ≡ pairOutcome (Both (record { index = 0; dist = ofBits binary32 0; second = ofBits binary32 0 })) (set hints 0 0)
   unfolding twoAt
   empty-many s = answered (record { index = 0; dist = ofBits binary32 0; second = ofBits binary32 0 }) (empty-among (presentIn J palette (J .S) (J .C)) (tileAt J 0) (J .weight) no-counts s)

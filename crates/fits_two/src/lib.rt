@@ -2,7 +2,7 @@
 // It first asks for the number of the first rule broken, over shared slices, so that a refusal writes nothing.
 use job::Sizes;
 ghost use mathlib.Core.Path.{_≡_};
-ghost use Rattle.job.specs.Job.{jobOf, tileSize};
+ghost use Rattle.job.specs.Job.{jobOf};
 ghost use Rattle.fits_outcome.specs.Pairs.{pairOutcome, pairDef};
 use fits_outcome::Pair;
 
@@ -16,7 +16,7 @@ pub fn best_two(
     palette: &[f32],
     hints: &mut [u32],
 ) -> Pair
-    ensures { λ r. ⌜ pairOutcome r (now (hints .exit)) ≡ pairDef tileSize (jobOf z (now (tiles .entry)) (now (colours .entry)) (now (counts .entry))) (now (palette .entry)) (now (hints .entry)) ⌝ }
+    ensures { λ r. ⌜ pairOutcome r (now (hints .exit)) ≡ pairDef (jobOf z (now (tiles .entry)) (now (colours .entry)) (now (counts .entry))) (now (palette .entry)) (now (hints .entry)) ⌝ }
 {
     let number = fits_check::check_one(z, tiles, colours, counts, palette, hints.len());
     if number != 0 {

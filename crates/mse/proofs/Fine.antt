@@ -29,6 +29,7 @@ use Rattle.palette.specs.Palette.{Tile, subOf, nearestOf}
 use Rattle.palette.proofs.Sums.{nearest-good}
 use Rattle.palette.proofs.Near.{nearest-within}
 use Rattle.palette_tile.specs.Tiles.{tileAt, winner, Shown}
+use Rattle.palette_tile.proofs.Walks.{walk-keeps}
 use Rattle.palette_tile.proofs.Present.{winner-below, part-some, part-bounded}
 use Rattle.mse.specs.declared.Tally.{Tally}
 use Rattle.mse.specs.Mse.{errorOf, stepTally, tileTally, tallyStep, nothing, tallyOf, meanOf, mseOf, Summed}
@@ -108,9 +109,7 @@ module _ (J : Job) (pal : List Float) (n have : ℕ) (S : Shown J pal n have) wh
           (omega (arith, counts-length J (S .ready) t l)) (omega (arith, S .ready .short t l, S .ready .sizes .small, S .ready .sizes .tiles)) F)
 
   pub tally-fine : (t : ℕ) → t ≤ J .T → Fine (tallyOf J pal n have t) (65536 * t)
-  unfolding tallyOf
-  tally-fine zero h = start
-  tally-fine (suc t) h = turn-fine t h (tallyOf J pal n have t) (tally-fine t (omega arith))
+  tally-fine = walk-keeps (λ t a. Fine a (65536 * t)) (J .T) (tallyStep J pal n have) nothing start turn-fine
 
 -- ---- the mean
 div-plus : (f : Format) (x y : Float) (k : ℕ) → T (plus x) → Within x k 1 → T (positive y) → T (plus (div f x y))

@@ -14,6 +14,7 @@ use Rattle.ieee.specs.Narrow.{narrowOf}
 use Rattle.color.specs.Color.{colourAt, Bounded}
 use Rattle.job.specs.Job.{Job, sizeOf, isEmpty}
 use Rattle.palette.specs.Palette.{Tile, subOf, nearestOf}
+use Rattle.palette_tile.specs.Walk.{walk}
 use Rattle.palette_tile.specs.Tiles.{tileAt, winner, Paired}
 use Rattle.mse.specs.declared.Tally.{Tally}
 
@@ -38,17 +39,15 @@ abbrev pub nothing : Tally
 nothing = record { total = ofBits binary64 0; count = 0 }
 
 -- over the first t tiles
-unfoldable pub tallyOf : Job → List Float → ℕ → ℕ → ℕ → Tally
-unfolding tallyStep
-tallyOf J pal n have zero = nothing
-tallyOf J pal n have (suc t) = tallyStep J pal n have t (tallyOf J pal n have t)
+abbrev pub tallyOf : Job → List Float → ℕ → ℕ → ℕ → Tally
+tallyOf J pal n have t = walk (tallyStep J pal n have) nothing t
 
 -- 0 where nothing counts
 abbrev pub meanOf : Tally → Float
 meanOf a = cond (eqb (a .count) 0) (ofBits binary32 0) (narrowOf (div binary64 (a .total) (ofInt binary64 (pos (a .count)))))
 
 unfoldable pub mseOf : Job → List Float → ℕ → ℕ → Float
-unfolding tallyOf
+unfolding walk tallyStep
 mseOf J pal n have = meanOf (tallyOf J pal n have (J .T))
 
 -- ---- what the functions ask

@@ -1,3 +1,5 @@
 pub mod Asks
 pub mod Hints
 pub mod Present
+pub mod Turns
+pub mod Walks

@@ -1,6 +1,6 @@
 -- The fit of a job's tile among the n subpalettes of `have` colours that are present, the best two, and the hints that fits leave.
 -- Definitions only: none reads a hint. Assumes nothing.
-use Prim.Native.Nat.{ℕ, zero, suc, _*_, _≤_, _<_}
+use Prim.Native.Nat.{ℕ, _*_, _≤_, _<_}
 use mathlib.Core.Path.{_≡_}
 use mathlib.Core.Bool.{cond}
 use mathlib.Core.List.{List}
@@ -13,6 +13,7 @@ use Rattle.stats.specs.declared.Near.{Near}
 use Rattle.stats.specs.declared.Two.{Two}
 use Rattle.palette.specs.Palette.{Palette, Tile, paletteWith, tileWith, bestFit}
 use Rattle.palette_two.specs.PaletteTwo.{bestTwo}
+use Rattle.palette_tile.specs.Walk.{walk}
 
 abbrev pub tileAt : Job → ℕ → Tile
 tileAt J t = tileWith (tileOf J t) (countsOf J t)
@@ -36,13 +37,11 @@ unfoldable pub hintStep : Job → List Float → ℕ → ℕ → ℕ → List �
 hintStep J pal n have t h = cond (isEmpty J t) h (set h t (winner J pal n have t))
 
 -- after the first t tiles
-unfoldable pub hintsOf : Job → List Float → ℕ → ℕ → List ℕ → ℕ → List ℕ
-unfolding hintStep
-hintsOf J pal n have h zero = h
-hintsOf J pal n have h (suc t) = hintStep J pal n have t (hintsOf J pal n have h t)
+abbrev pub hintsOf : Job → List Float → ℕ → ℕ → List ℕ → ℕ → List ℕ
+hintsOf J pal n have h t = walk (hintStep J pal n have) h t
 
 -- ---- what the functions ask
--- a job that passed at some tile size, and its palette, of which n subpalettes of `have` colours are present
+-- a job that passed, and its palette, of which n subpalettes of `have` colours are present
 pub record Shown (J : Job) (pal : List Float) (n have : ℕ) : Type 0 where
   pub ready : Ready J
   pub subs : 1 ≤ n

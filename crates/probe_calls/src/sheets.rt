@@ -17,11 +17,11 @@ pub extern "C" fn probe_sheet_read(
 ) -> u32 {
     match sheet::read(bytes, tiles, colours, counts, palette) {
         Reading::Refused(number) => number,
-        Reading::Sheet { s, c, t, weight } => {
-            *subs = s;
-            *each = c;
-            *many = t;
-            *heavy = weight;
+        Reading::Sheet(z) => {
+            *subs = z.s;
+            *each = z.c;
+            *many = z.t;
+            *heavy = z.weight;
             0
         }
     }

@@ -1,6 +1,6 @@
 -- Every index that a stage chooses is one of those present, and its place is one of the palette's. Assumes nothing.
 use Prim.Native.Nat.{ℕ, _+_, _*_, _/_, _≤_, _<_}
-use mathlib.Core.Path.{subst}
+use mathlib.Core.Path.{_≡_, subst}
 use mathlib.Core.Bool.{Bool, true, false, cond}
 use mathlib.Core.List.{List}
 use native.Mathlib.Nat.{le-trans, mul-le-mul-right}
@@ -13,11 +13,13 @@ use Rattle.color.specs.declared.Oklab.{Oklab}
 use Rattle.color.specs.Color.{colourAt}
 use Rattle.choice.proofs.Two.{two-below}
 use Rattle.job.specs.Job.{Job, tileOf}
+use Rattle.stats.specs.declared.Near.{Near}
 use Rattle.palette.specs.Palette.{gap, subOf}
 use Rattle.palette_two.specs.PaletteTwo.{nearestTwoOf}
 use Rattle.palette_edit.proofs.Kept.{place-room}
-use Rattle.palette_tile.specs.Tiles.{winner, Shown}
+use Rattle.palette_tile.specs.Tiles.{fitAt, winner, Shown}
 use Rattle.palette_tile.proofs.Present.{shown-present, winner-below, pair-below, part-colours, part-nearest}
+use Rattle.palette_tile.proofs.Turns.{fit-below}
 use Rattle.quantizer.specs.Sums.{sumsAt, greatest}
 use Rattle.quantizer.proofs.Choices.{greatest-below, smallest-below}
 use Rattle.quantizer.specs.Seeding.{worstOf}
@@ -45,6 +47,10 @@ module _ (J : Job) (pal : List Float) (n have : ℕ) (S : Shown J pal n have) wh
   -- the places of subpalette i are among 256
   pub row-256 : (i : ℕ) → i < n → i * J .C + J .C ≤ 256
   row-256 i l = row-room i n (J .C) 256 l shown-few
+
+  -- b is a tile's fit
+  pub fit-row : (t : ℕ) (b : Near) → b ≡ fitAt J pal n have t → b .index * J .C + J .C ≤ 256
+  fit-row t b e = row-256 (b .index) (fit-below J pal n have t b e S)
 
   pub place-256 : (i j : ℕ) → i < n → j < have → i * J .C + j < 256
   place-256 i j l m = omega (arith, row-256 i l, S .present)

@@ -9,6 +9,7 @@ use lib.Ieee.{Float}
 use Rattle.color.specs.Color.{colourAt}
 use Rattle.color.proofs.Puts.{length-put}
 use Rattle.job.specs.Job.{Job, isEmpty}
+use Rattle.palette_tile.specs.Walk.{walk}
 use Rattle.palette.specs.Palette.{Tile, subOf}
 use Rattle.palette_edit.specs.Edits.{placeOf, colourCopied}
 use Rattle.palette_tile.specs.Tiles.{tileAt, winner}
@@ -28,7 +29,7 @@ cond-length false x y n p q = q
 
 -- ---- sums
 pub length-distances : (J : Job) (pal : List Float) (n t : ℕ) → length (distancesOf J pal n t) ≡ 16
-unfolding distancesOf distanceStep
+unfolding walk distanceStep
 length-distances J pal n zero = length-zeros 16
 length-distances J pal n (suc t) = cond-length (isEmpty J t) _ _ 16 (length-distances J pal n t) (length-bump (distancesOf J pal n t) _ _ ∙ length-distances J pal n t)
 
@@ -38,14 +39,14 @@ length-tile-needs s X w base d zero = refl
 length-tile-needs s X w base d (suc k) = length-bump (tileNeeds s X w base d k) _ _ ∙ length-tile-needs s X w base d k
 
 pub length-needs : (J : Job) (pal : List Float) (have t : ℕ) → length (needsOf J pal have t) ≡ 256
-unfolding needsOf needStep
+unfolding walk needStep
 length-needs J pal have zero = length-zeros 256
 length-needs J pal have (suc t) =
     let i = winner J pal (J .S) have t in
     length-tile-needs (subOf pal (J .C) have i) (tileAt J t) (J .weight) (i * J .C) (needsOf J pal have t) (length (tileAt J t .counts)) ∙ length-needs J pal have t
 
 pub shares-wide : (J : Job) (pal : List Float) (t : ℕ) → Wide (sharesOf J pal t) 16
-unfolding sharesOf
+unfolding walk
 shares-wide J pal zero = record { had = length-zeros 16; lost = length-zeros 16 }
 shares-wide J pal (suc t) =
     let W = shares-wide J pal t in
@@ -59,14 +60,14 @@ tile-wide s X w base A n W (suc k) =
     record { had = length-bump (tileShares s X w base A k .had) _ _ ∙ B .had; lost = length-bump (tileShares s X w base A k .lost) _ _ ∙ B .lost }
 
 pub spread-wide : (J : Job) (pal : List Float) (owner : ℕ → ℕ) (t : ℕ) → Wide (spreadOf J pal owner t) 256
-unfolding spreadOf spreadStep
+unfolding walk spreadStep
 spread-wide J pal owner zero = record { had = length-zeros 256; lost = length-zeros 256 }
 spread-wide J pal owner (suc t) = tile-wide (subOf pal (J .C) (J .C) (owner t)) (tileAt J t) (J .weight) _ (spreadOf J pal owner t) 256 (spread-wide J pal owner t) _
 
 -- ---- hints
 module _ (J : Job) (pal : List Float) (h : List ℕ) where
   pub length-pair-hints : (t : ℕ) → length (pairHints J pal h t) ≡ length h
-  unfolding pairHints
+  unfolding walk
   length-pair-hints zero = refl
   length-pair-hints (suc t) = length-set (pairHints J pal h t) t _ ∙ length-pair-hints t
 

@@ -16,6 +16,7 @@ use Rattle.color.specs.Color.{colourAt}
 use Rattle.stats.proofs.Seconds.{two-all}
 use Rattle.choice.proofs.Scan.{least-good}
 use Rattle.job.specs.Job.{Job, isEmpty}
+use Rattle.palette_tile.specs.Walk.{walk}
 use Rattle.palette.specs.Palette.{distAt, gap, subOf, nearestOf, termOf}
 use Rattle.palette.proofs.Parts.{sub-finite}
 use Rattle.palette.proofs.Sums.{gap-good, tile-real, dist-good}
@@ -88,7 +89,7 @@ module _ (J : Job) (pal : List Float) (n have : ℕ) (S : Shown J pal n have) (t
 
 -- ---- seeding
 pub distances-good : (J : Job) (pal : List Float) (n : ℕ) → Shown J pal n 1 → (t : ℕ) → t ≤ J .T → AllGood (distancesOf J pal n t)
-unfolding distancesOf distanceStep
+unfolding walk distanceStep
 distances-good J pal n S zero h = zeros-good 16
 distances-good J pal n S (suc t) h = either (isEmpty J t) (distances-good J pal n S t (omega arith))
   where
@@ -98,7 +99,7 @@ distances-good J pal n S (suc t) h = either (isEmpty J t) (distances-good J pal 
 
 -- ---- growing
 pub needs-good : (J : Job) (pal : List Float) (have : ℕ) → Shown J pal (J .S) have → (t : ℕ) → t ≤ J .T → AllGood (needsOf J pal have t)
-unfolding needsOf needStep
+unfolding walk needStep
 needs-good J pal have S zero h = zeros-good 256
 needs-good J pal have S (suc t) h =
     tile-needs-good J pal (J .S) have S t h (winner J pal (J .S) have t) (winner-below J pal (J .S) have S t) (needsOf J pal have t) (length-needs J pal have t) (needs-good J pal have S t (omega arith)) (length (tileAt J t .counts)) (le-refl _)
@@ -106,7 +107,7 @@ needs-good J pal have S (suc t) h =
 -- ---- replacing
 module _ (J : Job) (pal : List Float) (S : Shown J pal (J .S) (J .C)) where
   pub shares-good : (t : ℕ) → t ≤ J .T → AllGood (sharesOf J pal t .had) × AllGood (sharesOf J pal t .lost)
-  unfolding sharesOf
+  unfolding walk
   shares-good zero h = (zeros-good 16, zeros-good 16)
   shares-good (suc t) h =
       let before = shares-good t (omega arith) in
@@ -119,7 +120,7 @@ module _ (J : Job) (pal : List Float) (S : Shown J pal (J .S) (J .C)) where
       )
 
   pub spread-good : (owner : ℕ → ℕ) → ((t : ℕ) → t < J .T → owner t < J .S) → (t : ℕ) → t ≤ J .T → AllGood (spreadOf J pal owner t .had) × AllGood (spreadOf J pal owner t .lost)
-  unfolding spreadOf spreadStep
+  unfolding walk spreadStep
   spread-good owner o zero h = (zeros-good 256, zeros-good 256)
   spread-good owner o (suc t) h =
       tile-shares-good J pal (J .S) (J .C) S t h (owner t) (o t h) (spreadOf J pal owner t) (spread-wide J pal owner t) (spread-good owner o t (omega arith)) (length (tileAt J t .counts)) (le-refl _)

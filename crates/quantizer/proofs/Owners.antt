@@ -8,13 +8,14 @@ use lib.ListN.{getD, length, set}
 use lib.Seq.{getD-set-same, getD-set-other}
 use lib.Ieee.{Float}
 use Rattle.job.specs.Job.{Job}
+use Rattle.palette_tile.specs.Walk.{walk}
 use Rattle.quantizer.specs.Replacing.{pairAt, pairHints}
 use Rattle.quantizer.proofs.Lengths.{length-pair-hints}
 
 module _ (J : Job) (pal : List Float) (h : List ℕ) where
   -- the hint of a tile that was asked for is its winner
   pub pair-hint : (m : ℕ) → m ≤ length h → (t : ℕ) → t < m → getD (pairHints J pal h m) t 0 ≡ pairAt J pal t .index
-  unfolding pairHints
+  unfolding walk
   pair-hint zero e t l = absurd (none l)
     where
       none : t < 0 → ⊥

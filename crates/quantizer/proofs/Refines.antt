@@ -20,6 +20,7 @@ use Rattle.color.proofs.Puts.{length-put, put-here, put-elsewhere}
 use Rattle.color.proofs.Sizes.{colour-sized, sized-wider, bounded-put}
 use Rattle.color.proofs.Means.{times-sized, over-sized}
 use Rattle.job.specs.Job.{Job}
+use Rattle.palette_tile.specs.Walk.{walk}
 use Rattle.job.proofs.Tiles.{counts-length}
 use Rattle.palette.specs.Palette.{Tile, subOf, nearestOf}
 use Rattle.palette_tile.specs.Tiles.{tileAt, winner, Shown}
@@ -124,7 +125,7 @@ module _ (J : Job) (pal : List Float) (S : Shown J pal (J .S) (J .C)) where
   tile-pixels t l = le-trans (S .ready .full t l) (S .ready .sizes .small)
 
   pub gathered : (t : ℕ) → t ≤ J .T → Gathered (gatherOf J pal t) (256 * t)
-  unfolding gatherOf gatherStep
+  unfolding walk gatherStep
   gathered zero h = record { held = nothing-gathered .held; few = λ i. omega (arith, nothing-gathered .few i) }
   gathered (suc t) h =
       let i = winner J pal (J .S) (J .C) t in

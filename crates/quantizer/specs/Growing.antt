@@ -10,8 +10,9 @@ use Rattle.color.specs.Color.{colourAt}
 use Rattle.job.specs.Job.{Job}
 use Rattle.palette.specs.Palette.{Tile, subOf, nearestOf, termOf}
 use Rattle.palette_edit.specs.Edits.{colourCopied}
+use Rattle.palette_tile.specs.Walk.{walk}
 use Rattle.palette_tile.specs.Tiles.{tileAt, winner, hintsOf}
-use Rattle.quantizer.specs.Sums.{bump, zeros, sumsAt, greatest}
+use Rattle.quantizer.specs.Sums.{bump, zeros, places, sumsAt, greatest}
 
 -- the first k colours of a tile: the distance of each, times its count, goes to the sum of the nearest colour of s, whose sums begin at `base`
 unfoldable pub tileNeeds : List Float → Tile → Float → ℕ → List Float → ℕ → List Float
@@ -23,9 +24,8 @@ unfoldable pub needStep : Job → List Float → ℕ → ℕ → ℕ → List Fl
 needStep J pal have i t d = tileNeeds (subOf pal (J .C) have i) (tileAt J t) (J .weight) (i * J .C) d (length (tileAt J t .counts))
 
 -- over the first t tiles, each to the subpalette that fits it best
-unfoldable pub needsOf : Job → List Float → ℕ → ℕ → List Float
-needsOf J pal have zero = zeros 256
-needsOf J pal have (suc t) = needStep J pal have (winner J pal (J .S) have t) t (needsOf J pal have t)
+abbrev pub needsOf : Job → List Float → ℕ → ℕ → List Float
+needsOf J pal have t = walk (λ i. needStep J pal have (winner J pal (J .S) have i) i) (zeros places) t
 
 -- the colour of subpalette i to be copied: of those present, the last of greatest sum. Where only one is present, it is that one, and no tile is fitted
 unfoldable pub splitOf : Job → List Float → ℕ → ℕ → ℕ

@@ -10,8 +10,9 @@ use Rattle.color.specs.declared.Oklab.{Oklab}
 use Rattle.color.specs.Color.{colourAt, putAt, plusTimes, overOf}
 use Rattle.job.specs.Job.{Job}
 use Rattle.palette.specs.Palette.{Tile, subOf, nearestOf}
+use Rattle.palette_tile.specs.Walk.{walk}
 use Rattle.palette_tile.specs.Tiles.{tileAt, winner}
-use Rattle.quantizer.specs.Sums.{zeros}
+use Rattle.quantizer.specs.Sums.{zeros, places}
 
 -- the sums, three numbers a colour, and how many pixels went into each
 pub record Gather : Type 0 where
@@ -22,7 +23,7 @@ abbrev pub gather : List Float → List ℕ → Gather
 gather sums cnts = record { sums = sums; cnts = cnts }
 
 abbrev pub nothing : Gather
-nothing = gather (zeros 768) (replicate 256 0)
+nothing = gather (zeros (3 * places)) (replicate places 0)
 
 -- m pixels of the colour q, to the colour at p
 unfoldable pub addAt : Gather → ℕ → Oklab → ℕ → Gather
@@ -40,9 +41,8 @@ unfoldable pub gatherStep : Job → List Float → ℕ → ℕ → Gather → Ga
 gatherStep J pal i t A = tileGather (subOf pal (J .C) (J .C) i) (tileAt J t) (J .weight) (i * J .C) A (length (tileAt J t .counts))
 
 -- over the first t tiles, each to the subpalette that fits it best
-unfoldable pub gatherOf : Job → List Float → ℕ → Gather
-gatherOf J pal zero = nothing
-gatherOf J pal (suc t) = gatherStep J pal (winner J pal (J .S) (J .C) t) t (gatherOf J pal t)
+abbrev pub gatherOf : Job → List Float → ℕ → Gather
+gatherOf J pal t = walk (λ i. gatherStep J pal (winner J pal (J .S) (J .C) i) i) nothing t
 
 -- colour p becomes its mean, where pixels were counted
 unfoldable pub meanStep : Gather → ℕ → List Float → List Float

@@ -9,13 +9,14 @@ use lib.Dec.{eqb, ltb}
 use lib.Ieee.{Float, nan, binary32, mul, lt, ofInt, ofBits}
 use Rattle.color.specs.Color.{colourAt}
 use Rattle.stats.specs.declared.Two.{Two}
-use Rattle.job.specs.Job.{Job}
+use Rattle.job.specs.Job.{Job, mostSubpalettes}
 use Rattle.palette.specs.Palette.{Tile, subOf}
 use Rattle.palette_two.specs.PaletteTwo.{nearestTwoOf}
 use Rattle.palette_edit.specs.Edits.{colourCopied, subCopied}
+use Rattle.palette_tile.specs.Walk.{walk}
 use Rattle.palette_tile.specs.Tiles.{tileAt, twoAt}
 use Rattle.quantizer.specs.declared.Swap.{Swap}
-use Rattle.quantizer.specs.Sums.{bump, zeros, sumsAt, greatest, smallest}
+use Rattle.quantizer.specs.Sums.{bump, zeros, places, sumsAt, greatest, smallest}
 
 -- what each has, and what would be added without it
 pub record Shares : Type 0 where
@@ -36,14 +37,13 @@ shareWith r A = shares (bump (A .had) (r .index) (r .dist)) (bump (A .lost) (r .
 abbrev pub pairAt : Job → List Float → ℕ → Two
 pairAt J pal t = twoAt J pal (J .S) (J .C) t
 
-unfoldable pub sharesOf : Job → List Float → ℕ → Shares
-sharesOf J pal zero = noShares 16
-sharesOf J pal (suc t) = shareWith (pairAt J pal t) (sharesOf J pal t)
+-- over the first t tiles
+abbrev pub sharesOf : Job → List Float → ℕ → Shares
+sharesOf J pal t = walk (λ i. shareWith (pairAt J pal i)) (noShares mostSubpalettes) t
 
 -- the hints after the best two of the first t tiles
-unfoldable pub pairHints : Job → List Float → List ℕ → ℕ → List ℕ
-pairHints J pal h zero = h
-pairHints J pal h (suc t) = set (pairHints J pal h t) t (pairAt J pal t .index)
+abbrev pub pairHints : Job → List Float → List ℕ → ℕ → List ℕ
+pairHints J pal h t = walk (λ i g. set g i (pairAt J pal i .index)) h t
 
 -- ---- by colour
 -- m pixels whose best two are r, to the colour at p
@@ -67,10 +67,9 @@ ownerOf J pal t = cond (ltb 1 (J .S)) (pairAt J pal t .index) 0
 unfoldable pub spreadStep : Job → List Float → ℕ → ℕ → Shares → Shares
 spreadStep J pal i t A = tileShares (subOf pal (J .C) (J .C) i) (tileAt J t) (J .weight) (i * J .C) A (length (tileAt J t .counts))
 
--- over the first t tiles, tile t to subpalette `owner t`
-unfoldable pub spreadOf : Job → List Float → (ℕ → ℕ) → ℕ → Shares
-spreadOf J pal owner zero = noShares 256
-spreadOf J pal owner (suc t) = spreadStep J pal (owner t) t (spreadOf J pal owner t)
+-- over the first t tiles, tile i to subpalette `owner i`
+abbrev pub spreadOf : Job → List Float → (ℕ → ℕ) → ℕ → Shares
+spreadOf J pal owner t = walk (λ i. spreadStep J pal (owner i) i) (noShares places) t
 
 -- ---- what gives way to what
 -- what one place would add if it were gone is less than half of what another has

@@ -24,10 +24,10 @@ use Rattle.quantizer_color_sums.specs.Asked.{Owned, OwnerTurn}
 -- ---- a tile
 module _ (J : Job) (pal : List Float) (hints : List ℕ) (t : ℕ) (A : Shares) (K : OwnerTurn J pal hints t A) where
   pub owner-colours : Placed 3 (J .tiles) t (length (J .colours))
-  owner-colours = colours-placed (K .owned .shown .size) J (K .owned .shown .ready) t (K .tile)
+  owner-colours = colours-placed J (K .owned .shown .ready) t (K .tile)
 
   pub owner-counts : Placed 1 (J .tiles) t (length (J .counts))
-  owner-counts = counts-placed (K .owned .shown .size) J (K .owned .shown .ready) t (K .tile)
+  owner-counts = counts-placed J (K .owned .shown .ready) t (K .tile)
 
   module _ (i : ℕ) (e : i ≡ ownerIn (J .S) hints t) where
     mine : i ≡ ownerOf J pal t

@@ -39,8 +39,8 @@ gathering J pal S t l A K i m =
     record {
       some = part-some J pal (J .S) (J .C) S i m;
       place = omega (arith, row-256 J pal (J .S) (J .C) S i m, part-colours J pal (J .S) (J .C) S i m);
-      three = tile-three (S .size) J (S .ready) t l;
-      near = tile-near (S .size) J (S .ready) t l;
+      three = tile-three J (S .ready) t l;
+      near = tile-near J (S .ready) t l;
       held = K .held;
-      few = λ p. omega (arith, K .few p, S .ready .full t l, S .small, S .ready .sizes .tiles);
+      few = λ p. omega (arith, K .few p, S .ready .full t l, S .ready .sizes .small, S .ready .sizes .tiles);
     }

@@ -24,20 +24,7 @@ pub fn nudge(
 {
     let tile = quantizer_sample::sample_tile(samples, i);
     let q = quantizer_sample::sample_colour(tiles, colours, samples, i);
-    let best = palette_tile::tile_fit(
-        z.s,
-        z.c,
-        z.t,
-        z.weight,
-        tiles,
-        colours,
-        counts,
-        pal,
-        subs,
-        have,
-        hints,
-        tile,
-    );
+    let best = palette_tile::tile_fit(z, tiles, colours, counts, pal, subs, have, hints, tile);
     let winner = best.index;
     let near = palette::nearest(palette::part(pal, z.c, have, winner), q, z.weight);
     let k = near.index;

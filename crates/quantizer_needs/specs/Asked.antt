@@ -8,16 +8,16 @@ use lib.Dec.{eqb}
 use lib.Ieee.{Float}
 use Rattle.job.specs.Job.{Job}
 use Rattle.palette_tile.specs.Tiles.{Shown, Paired}
-use Rattle.quantizer.specs.Sums.{zeros}
+use Rattle.quantizer.specs.Sums.{zeros, places}
 use Rattle.quantizer.specs.Growing.{needsOf}
 
 unfoldable pub splitSums : Job → List Float → ℕ → List Float
-splitSums J pal have = cond (eqb have 1) (zeros 256) (needsOf J pal have (J .T))
+splitSums J pal have = cond (eqb have 1) (zeros places) (needsOf J pal have (J .T))
 
 -- tile t's part in the sums
 pub record NeedTurn (J : Job) (pal : List Float) (have : ℕ) (hints : List ℕ) (t : ℕ) (total : List Float) : Type 0 where
   pub paired : Paired J pal (J .S) have hints t
-  pub wide : length total ≡ 256
+  pub wide : length total ≡ places
 
 -- a palette with room for one colour more in each subpalette, and a hint for each tile
 pub record Growing (J : Job) (pal : List Float) (have : ℕ) (hints : List ℕ) : Type 0 where

@@ -4,7 +4,7 @@ use job::Sizes;
 ghost use mathlib.Core.Path.{_≡_};
 ghost use Rattle.job.specs.Job.{jobOf};
 ghost use Rattle.palette_tile.specs.Tiles.{winner, hintStep};
-ghost use Rattle.quantizer.specs.Sums.{zeros};
+ghost use Rattle.quantizer.specs.Sums.{zeros, places};
 ghost use Rattle.quantizer.specs.Growing.{needStep, grownHints};
 ghost use Rattle.quantizer_needs.specs.Asked.{splitSums, NeedTurn, Growing};
 
@@ -46,7 +46,7 @@ pub fn color_distances(
     hints: &mut [u32],
     total: &mut [f32],
 )
-    requires { ⌜ Growing (jobOf z (now tiles) (now colours) (now counts)) (now pal) have (now hints) × (now total ≡ zeros 256) ⌝ }
+    requires { ⌜ Growing (jobOf z (now tiles) (now colours) (now counts)) (now pal) have (now hints) × (now total ≡ zeros places) ⌝ }
     ensures { λ r. ⌜ (now (total .exit) ≡ splitSums (jobOf z (now (tiles .entry)) (now (colours .entry)) (now (counts .entry))) (now (pal .entry)) have) × (now (hints .exit) ≡ grownHints (jobOf z (now (tiles .entry)) (now (colours .entry)) (now (counts .entry))) (now (pal .entry)) have (now (hints .entry))) ⌝ }
 {
     if have == 1 {

@@ -21,7 +21,8 @@ fn weakest_palette(
     requires { ⌜ Shown (jobOf z (now tiles) (now colours) (now counts)) (now pal) (z .s) (z .c) × (length (now hints) ≡ (z .t)) ⌝ }
     ensures { λ r. ⌜ (r ≡ weakestOf (jobOf z (now (tiles .entry)) (now (colours .entry)) (now (counts .entry))) (now (pal .entry))) × (now (hints .exit) ≡ replacedHints (jobOf z (now (tiles .entry)) (now (colours .entry)) (now (counts .entry))) (now (pal .entry)) (now (hints .entry))) ⌝ }
 {
-    if z.s == 1 {
+    let subs = z.s;
+    if subs == 1 {
         return Swap {
             from: 0,
             to: 0,
@@ -40,7 +41,7 @@ fn weakest_palette(
         &mut total_palette_mse,
         &mut removed_palette_mse,
     );
-    quantizer_choice::choose(&total_palette_mse[0..z.s], &removed_palette_mse[0..z.s])
+    quantizer_choice::choose(&total_palette_mse[0..subs], &removed_palette_mse[0..subs])
 }
 
 // A colour in each subpalette, then a subpalette.

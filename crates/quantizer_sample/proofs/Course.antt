@@ -11,7 +11,7 @@ module _ (K : Course) (i : ℕ) (D : Sampling K) (l : i < K .n) where
   told =
       record {
         listed = omega (arith, D .passed .pairs);
-        tile = colours-placed (D .size) (K .job) (D .passed .ready) (sampleTile K i) (D .passed .tile i l);
+        tile = colours-placed (K .job) (D .passed .ready) (sampleTile K i) (D .passed .tile i l);
         place = D .passed .place i l;
       }
 

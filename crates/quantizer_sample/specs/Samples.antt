@@ -14,8 +14,7 @@ pub record Told (tiles : List ℕ) (colours : List Float) (samples : List ℕ) (
   pub tile : Placed 3 tiles (getD samples (2 * i) 0) (length colours)
   pub place : getD samples (2 * i + 1) 0 < sizeOf tiles (getD samples (2 * i) 0)
 
--- a course whose job and samples passed at some tile size
+-- a course whose job and samples passed
 pub record Sampling (K : Course) : Type 0 where
-  pub size : ℕ
   pub room : Bool
-  pub passed : Sampled size (K .job) (K .n) (K .samples) room
+  pub passed : Sampled (K .job) (K .n) (K .samples) room

@@ -31,7 +31,7 @@ module _ (J : Job) (pal : List Float) (n : ℕ) (hints : List ℕ) (t : ℕ) (d 
   Stepped sums after = (sums ≡ distanceStep J pal n t d) × (after ≡ hintStep J pal n 1 t hints)
 
   pub turn-listed : 2 * t + 1 < length (J .tiles)
-  turn-listed = tile-listed (K .paired .shown .size) J (K .paired .shown .ready) t (K .paired .tile)
+  turn-listed = tile-listed J (K .paired .shown .ready) t (K .paired .tile)
 
   -- r is what the code's test of an empty tile answers
   module _ (r : Bool) (R : r ≡ isEmpty J t) where

@@ -2,7 +2,7 @@
 use mathlib.Core.Path.{_≡_, sym, _∙_}
 use mathlib.Core.Bool.{true}
 use mathlib.Core.List.{List}
-use Prim.Native.Nat.{ℕ, _≤_}
+use Prim.Native.Nat.{ℕ}
 use lib.Ieee.{Float}
 use lib.ListN.{length}
 use borrow.Author.Tests.{eq-eqb, ne-eqb}
@@ -14,19 +14,19 @@ use Rattle.calls.proofs.Accepted.{job-passed}
 use Rattle.calls.proofs.Answers.{advance-opened}
 use Rattle.run_steps.specs.Running.{Running}
 
-module _ (size : ℕ) (K : Course) (o h : List ℕ) (p l : List Float) (w : List ℕ) (a : ℕ) (e : a ≡ advanceAnswer size K (memory o h p l w)) where
-  pub refused : (allotment : ℕ) → (a ≡ 0 → ⊥) → outcome a 0 (memory o h p l w) ≡ advanceCall size K (memory o h p l w) allotment
+module _ (K : Course) (o h : List ℕ) (p l : List Float) (w : List ℕ) (a : ℕ) (e : a ≡ advanceAnswer K (memory o h p l w)) where
+  pub refused : (allotment : ℕ) → (a ≡ 0 → ⊥) → outcome a 0 (memory o h p l w) ≡ advanceCall K (memory o h p l w) allotment
   unfolding advanceCall answered
   refused allotment n = rw (← e, ne-eqb a 0 n)
 
-  pub work-asks : size ≤ 256 → a ≡ 0 → Running K (stateWith o h p l (recordOf w)) × (length w ≡ 6)
+  pub work-asks : a ≡ 0 → Running K (stateWith o h p l (recordOf w)) × (length w ≡ 6)
   unfolding stateOf
-  work-asks small z =
-      let A = advance-opened size K (memory o h p l w) (sym e ∙ z) .0 in
-      (record { size = size; small = small; room = true; passed = job-passed size K true (A .passed); fit = A .fit }, A .roomy .words)
+  work-asks z =
+      let A = advance-opened K (memory o h p l w) (sym e ∙ z) .0 in
+      (record { room = true; passed = job-passed K true (A .passed); fit = A .fit }, A .roomy .words)
 
   pub advanced : (allotment : ℕ) → a ≡ 0 → (x : Outcome)
       → x ≡ outcome 0 (drawsOf K allotment (stateWith o h p l (recordOf w))) (memoryOf (advance K allotment (stateWith o h p l (recordOf w))))
-      → x ≡ advanceCall size K (memory o h p l w) allotment
+      → x ≡ advanceCall K (memory o h p l w) allotment
   unfolding advanceCall answered stateOf
   advanced allotment z x q = rw (← e, eq-eqb a 0 z) q

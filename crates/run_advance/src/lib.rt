@@ -1,10 +1,7 @@
 // The public call that makes a run's draws: at most an allotment, none past a stop.
 use job::Sizes;
 ghost use mathlib.Core.Path.{_≡_};
-ghost use Prim.Native.Nat.{_≤_};
 ghost use Rattle.quantizer.specs.Course.{courseOf};
-ghost use Rattle.stages.specs.State.{draws};
-ghost use Rattle.stages.specs.Stages.{advance};
 ghost use Rattle.stages.specs.Calls.{memory, outcome, advanceCall};
 
 // The number, 0 or that of the first rule that is broken, and the draws made.
@@ -27,8 +24,10 @@ pub fn advance(
     words: &mut [u64],
     allotment: u64,
 ) -> Advanced
-    requires { ⌜ z .size ≤ 256 ⌝ }
-    ensures { λ x. ⌜ outcome (x .number) (x .draws) (memory (now (order .exit)) (now (hints .exit)) (now (palette .exit)) (now (least .exit)) (now (words .exit))) ≡ advanceCall (z .size) (courseOf z (now (tiles .entry)) (now (colours .entry)) (now (counts .entry)) (now (samples .entry))) (memory (now (order .entry)) (now (hints .entry)) (now (palette .entry)) (now (least .entry)) (now (words .entry))) allotment ⌝ }
+    ensures { λ x. ⌜ outcome (x .number) (x .draws)
+        (memory (now (order .exit)) (now (hints .exit)) (now (palette .exit)) (now (least .exit)) (now (words .exit)))
+        ≡ advanceCall (courseOf z (now (tiles .entry)) (now (colours .entry)) (now (counts .entry)) (now (samples .entry)))
+        (memory (now (order .entry)) (now (hints .entry)) (now (palette .entry)) (now (least .entry)) (now (words .entry))) allotment ⌝ }
 {
     let number = run_check::refuses_advance(
         z,

@@ -12,7 +12,7 @@ use Rattle.quantizer.specs.Sums.{zeros}
 use Rattle.quantizer.specs.Seeding.{seeded}
 use Rattle.quantizer_seed.specs.Seeds.{Seeding}
 use Rattle.stages.specs.State.{stateWith}
-use Rattle.run_blank.specs.Blanks.{dealt, Blanking}
+use Rattle.run_blank.specs.Blanks.{begun, dealt, Blanking}
 
 -- ---- both palettes
 module _ (K : Course) (p l : List Float) (B : Blanking K p l) where
@@ -27,7 +27,6 @@ module _ (K : Course) (p l : List Float) (B : Blanking K p l) where
   blanked l2 el z e p2 ep = (ep ∙ ap (seeded K) (e ∙ ap zeros (B .one)), el ∙ ap zeros (B .two))
 
 -- ---- the order
-pub dealt-by : (n seed : ℕ) (o : List ℕ) (g m : ℕ) → cycle (deck o g) m ≡ after n seed 0
-    → stateWith o [] [] [] (record { generator = g; stage = 0; rounds = 0; left = 0; made = 0; error = 0 }) ≡ dealt n seed
+pub dealt-by : (n seed : ℕ) (o : List ℕ) (g m : ℕ) → cycle (deck o g) m ≡ after n seed 0 → stateWith o [] [] [] (begun g) ≡ dealt n seed
 unfolding dealt
 dealt-by n seed o g m e = rw (ap (λ (c : Cycle). c .cards .order) e, ap (λ (c : Cycle). c .cards .state) e)

@@ -7,13 +7,16 @@ use lib.ListN.{length}
 use Rattle.cycle.specs.Cycle.{after}
 use Rattle.quantizer.specs.Course.{Course}
 use Rattle.quantizer_sample.specs.Samples.{Sampling}
-use Rattle.stages.specs.State.{State}
+use Rattle.stages.specs.declared.Record.{Record}
+use Rattle.stages.specs.State.{State, stateWith}
 
--- the first order of n samples, and a record at the very beginning
+-- a record at the very beginning
+abbrev pub begun : ℕ → Record
+begun g = record { generator = g; stage = 0; rounds = 0; left = 0; made = 0; error = 0 }
+
+-- the first order of n samples, and that record
 unfoldable pub dealt : ℕ → ℕ → State
-dealt n seed =
-    let c = after n seed 0 in
-    record { order = c .cards .order; hints = []; palette = []; least = []; rec = record { generator = c .cards .state; stage = 0; rounds = 0; left = 0; made = 0; error = 0 } }
+dealt n seed = let c = after n seed 0 in stateWith (c .cards .order) [] [] [] (begun (c .cards .state))
 
 -- a course that passed, and both palettes' room
 pub record Blanking (K : Course) (p l : List Float) : Type 0 where

@@ -23,7 +23,10 @@ pub fn blank(
     least: &mut [f32],
 )
     requires { ⌜ Blanking (courseOf z (now tiles) (now colours) (now counts) (now samples)) (now palette) (now least) ⌝ }
-    ensures { λ _. ⌜ (now (palette .exit) ≡ seeded (courseOf z (now (tiles .entry)) (now (colours .entry)) (now (counts .entry)) (now (samples .entry))) (zeros (3 * ((z .s) * (z .c))))) × (now (least .exit) ≡ zeros (3 * ((z .s) * (z .c)))) ⌝ }
+    ensures { λ _. ⌜
+        (now (palette .exit) ≡ seeded (courseOf z (now (tiles .entry)) (now (colours .entry)) (now (counts .entry)) (now (samples .entry)))
+        (zeros (3 * ((z .s) * (z .c)))))
+        × (now (least .exit) ≡ zeros (3 * ((z .s) * (z .c)))) ⌝ }
 {
     run_memory::zero(least);
     run_memory::zero(palette);

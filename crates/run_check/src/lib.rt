@@ -66,7 +66,9 @@ fn wider_room(
     words: &[u64],
     more: &[f32],
 ) -> bool
-    ensures { λ r. ⌜ Lends (z .s) (z .c) r (memoryRoom (plain z) (memory (now (order .entry)) (now (hints .entry)) (now (palette .entry)) (now (least .entry)) (now (words .entry))) && coloursRoom (plain z) (now (more .entry))) (now (words .entry)) ⌝ }
+    ensures { λ r. ⌜ Lends (z .s) (z .c) r
+        (memoryRoom (plain z) (memory (now (order .entry)) (now (hints .entry)) (now (palette .entry)) (now (least .entry)) (now (words .entry)))
+        && coloursRoom (plain z) (now (more .entry))) (now (words .entry)) ⌝ }
 {
     if !memory_room(z, order, hints, palette, least, words) {
         return false;
@@ -89,7 +91,8 @@ fn check_run(
     room: bool,
 ) -> u32
     requires { ⌜ (room ≡ true → length (now words) ≡ 6) ⌝ }
-    ensures { λ r. ⌜ r ≡ runAnswer (courseOf z (now (tiles .entry)) (now (colours .entry)) (now (counts .entry)) (now (samples .entry))) (memory (now (order .entry)) (now (hints .entry)) (now (palette .entry)) (now (least .entry)) (now (words .entry))) room ⌝ }
+    ensures { λ r. ⌜ r ≡ runAnswer (courseOf z (now (tiles .entry)) (now (colours .entry)) (now (counts .entry)) (now (samples .entry)))
+        (memory (now (order .entry)) (now (hints .entry)) (now (palette .entry)) (now (least .entry)) (now (words .entry))) room ⌝ }
 {
     let a = job_check::check_sampled(z, tiles, colours, counts, samples, room);
     if a != 0 {
@@ -113,7 +116,8 @@ pub fn refuses_start(
     least: &[f32],
     words: &[u64],
 ) -> u32
-    ensures { λ r. ⌜ r ≡ startAnswer (courseOf z (now (tiles .entry)) (now (colours .entry)) (now (counts .entry)) (now (samples .entry))) (memory (now (order .entry)) (now (hints .entry)) (now (palette .entry)) (now (least .entry)) (now (words .entry))) ⌝ }
+    ensures { λ r. ⌜ r ≡ startAnswer (courseOf z (now (tiles .entry)) (now (colours .entry)) (now (counts .entry)) (now (samples .entry)))
+        (memory (now (order .entry)) (now (hints .entry)) (now (palette .entry)) (now (least .entry)) (now (words .entry))) ⌝ }
 {
     let room = memory_room(z, order, hints, palette, least, words);
     job_check::check_sampled(z, tiles, colours, counts, samples, room)
@@ -131,7 +135,8 @@ pub fn refuses_advance(
     least: &[f32],
     words: &[u64],
 ) -> u32
-    ensures { λ r. ⌜ r ≡ advanceAnswer (courseOf z (now (tiles .entry)) (now (colours .entry)) (now (counts .entry)) (now (samples .entry))) (memory (now (order .entry)) (now (hints .entry)) (now (palette .entry)) (now (least .entry)) (now (words .entry))) ⌝ }
+    ensures { λ r. ⌜ r ≡ advanceAnswer (courseOf z (now (tiles .entry)) (now (colours .entry)) (now (counts .entry)) (now (samples .entry)))
+        (memory (now (order .entry)) (now (hints .entry)) (now (palette .entry)) (now (least .entry)) (now (words .entry))) ⌝ }
 {
     let room = memory_room(z, order, hints, palette, least, words);
     let a = check_run(
@@ -169,7 +174,8 @@ pub fn refuses_hand_in(
     words: &[u64],
     reduced: &[f32],
 ) -> u32
-    ensures { λ r. ⌜ r ≡ handInAnswer (courseOf z (now (tiles .entry)) (now (colours .entry)) (now (counts .entry)) (now (samples .entry))) (memory (now (order .entry)) (now (hints .entry)) (now (palette .entry)) (now (least .entry)) (now (words .entry))) (now (reduced .entry)) ⌝ }
+    ensures { λ r. ⌜ r ≡ handInAnswer (courseOf z (now (tiles .entry)) (now (colours .entry)) (now (counts .entry)) (now (samples .entry)))
+        (memory (now (order .entry)) (now (hints .entry)) (now (palette .entry)) (now (least .entry)) (now (words .entry))) (now (reduced .entry)) ⌝ }
 {
     let room = wider_room(z, order, hints, palette, least, words, reduced);
     let a = check_run(
@@ -210,7 +216,8 @@ pub fn refuses_result(
     words: &[u64],
     out: &[f32],
 ) -> u32
-    ensures { λ r. ⌜ r ≡ resultAnswer (courseOf z (now (tiles .entry)) (now (colours .entry)) (now (counts .entry)) (now (samples .entry))) (memory (now (order .entry)) (now (hints .entry)) (now (palette .entry)) (now (least .entry)) (now (words .entry))) (now (out .entry)) ⌝ }
+    ensures { λ r. ⌜ r ≡ resultAnswer (courseOf z (now (tiles .entry)) (now (colours .entry)) (now (counts .entry)) (now (samples .entry)))
+        (memory (now (order .entry)) (now (hints .entry)) (now (palette .entry)) (now (least .entry)) (now (words .entry))) (now (out .entry)) ⌝ }
 {
     let room = wider_room(z, order, hints, palette, least, words, out);
     let a = check_run(

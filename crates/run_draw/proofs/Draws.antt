@@ -46,14 +46,14 @@ module _ (K : Course) (few : K .job .S ≤ 16) (cap : K .job .C ≤ 16) (short :
   few-made p = omega (arith, made-few K s p, product (K .job .S + K .job .C + 18) (omega arith))
 
 -- what a draw asks holds between calls
-pub drawable : (size : ℕ) → size ≤ 256 → (K : Course) (room : Bool) → Sampled size (K .job) (K .n) (K .samples) room → (s : State) → Rests K s → Sound K s → draws (s .rec .stage) ≡ true → Drawable K s
-drawable size small K room D s R A t =
+pub drawable : (K : Course) (room : Bool) → Sampled (K .job) (K .n) (K .samples) room → (s : State) → Rests K s → Sound K s → draws (s .rec .stage) ≡ true → Drawable K s
+drawable K room D s R A t =
     let few = D .ready .sizes .few in
     let cap = D .ready .sizes .cap in
     record {
       going = record {
-        sampling = record { size = size; room = room; passed = D };
-        shown = draw-shown size small K (D .ready) s (R .place) (A .held .size) (A .held .bound);
+        sampling = record { room = room; passed = D };
+        shown = draw-shown K (D .ready) s (R .place) (A .held .size) (A .held .bound);
         each = A .hints;
         all = A .dealt .size;
         below = λ j l. A .dealt .below j (omega (arith, A .dealt .size));

@@ -21,7 +21,9 @@ pub fn draw(
     r: Record,
 ) -> Record
     requires { ⌜ Drawable (courseOf z (now tiles) (now colours) (now counts) (now samples)) (stateWith (now order) (now hints) (now palette) [] r) ⌝ }
-    ensures { λ x. ⌜ stateWith (now (order .exit)) (now (hints .exit)) (now (palette .exit)) [] x ≡ draw (courseOf z (now (tiles .entry)) (now (colours .entry)) (now (counts .entry)) (now (samples .entry))) (stateWith (now (order .entry)) (now (hints .entry)) (now (palette .entry)) [] r) ⌝ }
+    ensures { λ x. ⌜ stateWith (now (order .exit)) (now (hints .exit)) (now (palette .exit)) [] x
+        ≡ draw (courseOf z (now (tiles .entry)) (now (colours .entry)) (now (counts .entry)) (now (samples .entry)))
+        (stateWith (now (order .entry)) (now (hints .entry)) (now (palette .entry)) [] r) ⌝ }
 {
     let subs = run_stage::subs_of(z.s, r);
     let have = run_stage::have_of(z.c, r);

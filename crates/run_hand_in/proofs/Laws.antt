@@ -51,41 +51,39 @@ module _ (K : Course) (o h : List ℕ) (p l : List Float) (r : Record) (A : Hand
     final x e = rw (eq-eqb (r .stage) 3 k) (ap (stateWith o h p l) e ∙ settled (decide (eqb (10 * b K) 0)))
 
   pub refined-on : r .stage ≢ 3 → r .stage ≡ 5 → (h2 : List ℕ) (p2 : List Float) → (p2 ≡ refinedTimes (K .job) 4 p) × (h2 ≡ hintsTimes (K .job) 4 p h)
-      → stateWith o h2 p2 l (placed r 6 0 0) ≡ handIn K p (stateWith o h p l r)
+      → (x : Record) → x ≡ placed r 6 0 0 → stateWith o h2 p2 l x ≡ handIn K p (stateWith o h p l r)
   unfolding handIn refinedOnce refinedTimes hintsTimes
-  refined-on a k h2 p2 e = rw (ne-eqb (r .stage) 3 a, eq-eqb (r .stage) 5 k, e .0, e .1)
+  refined-on a k h2 p2 e x er = rw (ne-eqb (r .stage) 3 a, eq-eqb (r .stage) 5 k, e .0, e .1, er)
 
-  pub last-on : r .stage ≢ 3 → r .stage ≢ 5 → stateWith o h p l (placed r 7 0 0) ≡ handIn K p (stateWith o h p l r)
+  pub last-on : r .stage ≢ 3 → r .stage ≢ 5 → (x : Record) → x ≡ placed r 7 0 0 → stateWith o h p l x ≡ handIn K p (stateWith o h p l r)
   unfolding handIn
-  last-on a k = rw (ne-eqb (r .stage) 3 a, ne-eqb (r .stage) 5 k)
+  last-on a k x er = rw (ne-eqb (r .stage) 3 a, ne-eqb (r .stage) 5 k, er)
 
 -- ---- the call
-module _ (size : ℕ) (small : size ≤ 256) (K : Course) (m : Memory) (reduced : List Float) (a : ℕ) (e : a ≡ handInAnswer size K m reduced) where
-  pub refused : (a ≡ 0 → ⊥) → outcome a 0 m ≡ handInCall size K m reduced
+module _ (K : Course) (m : Memory) (reduced : List Float) (a : ℕ) (e : a ≡ handInAnswer K m reduced) where
+  pub refused : (a ≡ 0 → ⊥) → outcome a 0 m ≡ handInCall K m reduced
   unfolding handInCall
   refused h = rw (← e) (sym (next.refused a m 0 (handIn K reduced (stateOf m)) h))
 
   module _ (z : a ≡ 0) where
     sized : length reduced ≡ 3 * (K .job .S * K .job .C)
     unfolding coloursRoom
-    sized = eqb-true (length reduced) (3 * (K .job .S * K .job .C)) (handIn-opened size K m reduced (sym e ∙ z) .2)
+    sized = eqb-true (length reduced) (3 * (K .job .S * K .job .C)) (handIn-opened K m reduced (sym e ∙ z) .2)
 
     pub same-room : length (m .palette) ≡ length reduced
-    same-room = handIn-opened size K m reduced (sym e ∙ z) .0 .roomy .palette ∙ sym sized
+    same-room = handIn-opened K m reduced (sym e ∙ z) .0 .roomy .palette ∙ sym sized
 
     pub six : length (m .words) ≡ 6
-    six = handIn-opened size K m reduced (sym e ∙ z) .0 .roomy .words
+    six = handIn-opened K m reduced (sym e ∙ z) .0 .roomy .words
 
     module _ (p : List Float) (ep : p ≡ reduced) (r : Record) (er : r ≡ recordOf (m .words)) where
       pub handed : Handed K (stateWith (m .order) (m .hints) p (m .least) r)
       unfolding stateOf
       handed =
-          let o = handIn-opened size K m reduced (sym e ∙ z) in
-          let D = job-passed size K true (o .0 .passed) in
+          let o = handIn-opened K m reduced (sym e ∙ z) in
+          let D = job-passed K true (o .0 .passed) in
           record {
             refinable = record {
-              size = size;
-              small = small;
               ready = D .ready;
               all = rw ep sized;
               bound = rw ep (bounded-wider reduced 2 4 (omega arith) (components-within two reduced 2 two-within (o .3)));
@@ -100,9 +98,9 @@ module _ (size : ℕ) (small : size ≤ 256) (K : Course) (m : Memory) (reduced 
       same-call = rw (ep, er)
 
       pub accepted : (h2 : List ℕ) (p2 : List Float) (x : Record) → stateWith (m .order) h2 p2 (m .least) x ≡ handIn K p (stateWith (m .order) (m .hints) p (m .least) r) → (w2 : List ℕ) → w2 ≡ wordsOf x
-          → outcome 0 0 (memory (m .order) h2 p2 (m .least) w2) ≡ handInCall size K m reduced
+          → outcome 0 0 (memory (m .order) h2 p2 (m .least) w2) ≡ handInCall K m reduced
       unfolding handInCall memoryOf
       accepted h2 p2 x f w2 ew =
           ap (λ (w : List ℕ). outcome 0 0 (memory (m .order) h2 p2 (m .least) w)) ew
           ∙ ap (λ (s : State). outcome 0 0 (memoryOf s)) (f ∙ same-call)
-          ∙ sym (next.done (handInAnswer size K m reduced) m 0 (handIn K reduced (stateOf m)) (sym e ∙ z))
+          ∙ sym (next.done (handInAnswer K m reduced) m 0 (handIn K reduced (stateOf m)) (sym e ∙ z))

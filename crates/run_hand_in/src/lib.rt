@@ -3,7 +3,6 @@
 use job::Sizes;
 use stages::Record;
 ghost use mathlib.Core.Path.{_≡_};
-ghost use Rattle.job.specs.Job.{tileSize};
 ghost use Rattle.quantizer.specs.Course.{courseOf};
 ghost use Rattle.stages.specs.State.{stateWith};
 ghost use Rattle.stages.specs.Stages.{handIn};
@@ -11,7 +10,7 @@ ghost use Rattle.stages.specs.Calls.{memory, outcome, handInCall};
 ghost use Rattle.run_refine.specs.Refines.{Handed};
 
 // What follows a stop, with the colours handed in as the palette.
-fn go_on(
+fn after_stop(
     z: Sizes,
     tiles: &[u32],
     colours: &[f32],
@@ -24,30 +23,18 @@ fn go_on(
     r: Record,
 ) -> Record
     requires { ⌜ Handed (courseOf z (now tiles) (now colours) (now counts) (now samples)) (stateWith (now order) (now hints) (now palette) (now least) r) ⌝ }
-    ensures { λ x. ⌜ stateWith (now (order .entry)) (now (hints .exit)) (now (palette .exit)) (now (least .entry)) x ≡ handIn (courseOf z (now (tiles .entry)) (now (colours .entry)) (now (counts .entry)) (now (samples .entry))) (now (palette .entry)) (stateWith (now (order .entry)) (now (hints .entry)) (now (palette .entry)) (now (least .entry)) r) ⌝ }
+    ensures { λ x. ⌜ stateWith (now (order .entry)) (now (hints .exit)) (now (palette .exit)) (now (least .entry)) x
+        ≡ handIn (courseOf z (now (tiles .entry)) (now (colours .entry)) (now (counts .entry)) (now (samples .entry))) (now (palette .entry))
+        (stateWith (now (order .entry)) (now (hints .entry)) (now (palette .entry)) (now (least .entry)) r) ⌝ }
 {
     if r.stage == 3 {
         return run_refine::final_draws(z.n, r);
     }
     if r.stage == 5 {
         run_refine::refine_four(z, tiles, colours, counts, palette, hints);
-        return Record {
-            generator: r.generator,
-            stage: 6,
-            rounds: 0,
-            left: 0,
-            made: r.made,
-            error: r.error,
-        };
+        return run_record::placed(r, 6, 0, 0);
     }
-    Record {
-        generator: r.generator,
-        stage: 7,
-        rounds: 0,
-        left: 0,
-        made: r.made,
-        error: r.error,
-    }
+    run_record::placed(r, 7, 0, 0)
 }
 
 // 0, or the number of the first rule that is broken; then all memory stays as it is.
@@ -64,7 +51,9 @@ pub fn hand_in(
     words: &mut [u64],
     reduced: &[f32],
 ) -> u32
-    ensures { λ r. ⌜ outcome r 0 (memory (now (order .entry)) (now (hints .exit)) (now (palette .exit)) (now (least .entry)) (now (words .exit))) ≡ handInCall (courseOf z (now (tiles .entry)) (now (colours .entry)) (now (counts .entry)) (now (samples .entry))) (memory (now (order .entry)) (now (hints .entry)) (now (palette .entry)) (now (least .entry)) (now (words .entry))) (now (reduced .entry)) ⌝ }
+    ensures { λ r. ⌜ outcome r 0 (memory (now (order .entry)) (now (hints .exit)) (now (palette .exit)) (now (least .entry)) (now (words .exit)))
+        ≡ handInCall (courseOf z (now (tiles .entry)) (now (colours .entry)) (now (counts .entry)) (now (samples .entry)))
+        (memory (now (order .entry)) (now (hints .entry)) (now (palette .entry)) (now (least .entry)) (now (words .entry))) (now (reduced .entry)) ⌝ }
 {
     let a = run_check::refuses_hand_in(
         z,
@@ -84,7 +73,7 @@ pub fn hand_in(
     }
     run_memory::copy(reduced, palette);
     let r = run_record::record_of(words);
-    let next = go_on(
+    let next = after_stop(
         z,
         tiles,
         colours,

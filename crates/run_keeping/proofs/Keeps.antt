@@ -19,23 +19,24 @@ use Rattle.palette_tile.specs.Tiles.{Shown, hintsOf}
 use Rattle.quantizer.specs.Course.{Course}
 use Rattle.quantizer.specs.Sums.{zeros}
 use Rattle.stages.specs.declared.Record.{Record}
-use Rattle.stages.specs.State.{stateWith}
+use Rattle.stages.specs.State.{stateWith, placed, noted}
 use Rattle.stages.specs.Stages.{noticed, errorOf, keep, enterReducing}
 use Rattle.run_keeping.specs.Keeping.{keeps, seen}
 
-module _ (K : Course) (h : List ℕ) (p l : List Float) (r : Record) (round : ℕ) (e : Float) (ee : e ≡ mseOf (K .job) p (K .job .S) (K .job .C)) (h2 : List ℕ) (eh : h2 ≡ hintsOf (K .job) p (K .job .S) (K .job .C) h (K .job .T)) (t : Bool) (kept : t ≡ keeps round e (r .error)) where
-  pub kept-by : t ≡ true → (l2 : List Float) → l2 ≡ p → stateWith [] h2 p l2 (record { generator = r .generator; stage = r .stage; rounds = r .rounds; left = r .left; made = r .made; error = toBits binary32 e }) ≡ seen K round (stateWith [] h p l r)
+module _ (K : Course) (h : List ℕ) (p l : List Float) (r : Record) (round : ℕ) (e : Float) (ee : e ≡ mseOf (K .job) p (K .job .S) (K .job .C))
+    (h2 : List ℕ) (eh : h2 ≡ hintsOf (K .job) p (K .job .S) (K .job .C) h (K .job .T)) (t : Bool) (kept : t ≡ keeps round e (r .error)) where
+  pub kept-by : t ≡ true → (l2 : List Float) → l2 ≡ p → (r2 : Record) → r2 ≡ noted r (toBits binary32 e) → stateWith [] h2 p l2 r2 ≡ seen K round (stateWith [] h p l r)
   unfolding seen keep noticed errorOf
-  kept-by y l2 el = rw (← ee, ← kept, y, eh, el)
+  kept-by y l2 el r2 er = rw (← ee, ← kept, y, eh, el, er)
 
   pub passed-by : t ≡ false → stateWith [] h2 p l r ≡ seen K round (stateWith [] h p l r)
   unfolding seen keep noticed errorOf
   passed-by y = rw (← ee, ← kept, y, eh)
 
 pub reduced-by : (K : Course) (p l : List Float) (r : Record) → length l ≡ 3 * (K .job .S * K .job .C) → (p2 l2 : List Float) → p2 ≡ l → l2 ≡ zeros (length l)
-    → stateWith [] [] p2 l2 (record { generator = r .generator; stage = 3; rounds = 0; left = 0; made = r .made; error = 0 }) ≡ enterReducing K (stateWith [] [] p l r)
+    → (r2 : Record) → r2 ≡ noted r 0 → (r3 : Record) → r3 ≡ placed r2 3 0 0 → stateWith [] [] p2 l2 r3 ≡ enterReducing K (stateWith [] [] p l r)
 unfolding enterReducing
-reduced-by K p l r e p2 l2 ep el = rw (ep, el, e)
+reduced-by K p l r e p2 l2 ep el r2 er r3 es = rw (es, er, ep, el, e)
 
 -- ---- the test
 pub kept-first : (round : ℕ) (e : Float) (error : ℕ) → round ≡ 0 → true ≡ keeps round e error

@@ -38,19 +38,14 @@ pub fn look(
     r: Record,
 ) -> Record
     requires { ⌜ Judging (jobOf z (now tiles) (now colours) (now counts)) (now hints) (now palette) (now least) round r ⌝ }
-    ensures { λ x. ⌜ stateWith [] (now (hints .exit)) (now (palette .entry)) (now (least .exit)) x ≡ seen (courseOf z (now (tiles .entry)) (now (colours .entry)) (now (counts .entry)) []) round (stateWith [] (now (hints .entry)) (now (palette .entry)) (now (least .entry)) r) ⌝ }
+    ensures { λ x. ⌜ stateWith [] (now (hints .exit)) (now (palette .entry)) (now (least .exit)) x
+        ≡ seen (courseOf z (now (tiles .entry)) (now (colours .entry)) (now (counts .entry)) []) round
+        (stateWith [] (now (hints .entry)) (now (palette .entry)) (now (least .entry)) r) ⌝ }
 {
     let e = mse_sum::mse(z, tiles, colours, counts, palette, z.s, z.c, hints);
     if is_kept(round, e, r.error) {
         run_memory::copy(palette, least);
-        return Record {
-            generator: r.generator,
-            stage: r.stage,
-            rounds: r.rounds,
-            left: r.left,
-            made: r.made,
-            error: f32::to_bits(e) as u64,
-        };
+        return run_record::noted(r, f32::to_bits(e) as u64);
     }
     r
 }
@@ -69,12 +64,5 @@ pub fn enter_reducing(
 {
     run_memory::copy(least, palette);
     run_memory::zero(least);
-    Record {
-        generator: r.generator,
-        stage: 3,
-        rounds: 0,
-        left: 0,
-        made: r.made,
-        error: 0,
-    }
+    run_record::placed(run_record::noted(r, 0), 3, 0, 0)
 }

@@ -21,26 +21,12 @@ pub fn is_due(r: Record) -> bool
 pub fn open_round(r: Record, stage: u64, round: u64, n: usize) -> Record
     ensures { λ x. ⌜ x ≡ placed r stage round (n / 10) ⌝ }
 {
-    Record {
-        generator: r.generator,
-        stage,
-        rounds: round,
-        left: cycle::base_iterations(n),
-        made: r.made,
-        error: r.error,
-    }
+    run_record::placed(r, stage, round, cycle::base_iterations(n))
 }
 
 // The final draws are one round; the next stop follows.
 pub fn end_final(r: Record) -> Record
     ensures { λ x. ⌜ x ≡ placed r 5 0 0 ⌝ }
 {
-    Record {
-        generator: r.generator,
-        stage: 5,
-        rounds: 0,
-        left: 0,
-        made: r.made,
-        error: r.error,
-    }
+    run_record::placed(r, 5, 0, 0)
 }

@@ -5,7 +5,7 @@ ghost use mathlib.Core.Path.{_≡_};
 ghost use mathlib.Core.Bool.{_&&_};
 ghost use lib.Dec.{ltb};
 ghost use lib.ListN.{length};
-ghost use Rattle.stages.specs.State.{draws, stops};
+ghost use Rattle.stages.specs.State.{placed, noted, draws, stops};
 ghost use Rattle.stages.specs.Record.{stageOf};
 ghost use Rattle.stages.specs.Calls.{recordOf};
 ghost use Rattle.run_record.specs.Sized.{sized, Sized};
@@ -22,6 +22,34 @@ pub fn record_of(words: &[u64]) -> Record
         left: words[3],
         made: words[4],
         error: words[5],
+    }
+}
+
+// The record at another place.
+pub fn placed(r: Record, stage: u64, rounds: u64, left: u64) -> Record
+    ensures { λ x. ⌜ x ≡ placed r stage rounds left ⌝ }
+{
+    Record {
+        generator: r.generator,
+        stage,
+        rounds,
+        left,
+        made: r.made,
+        error: r.error,
+    }
+}
+
+// The record with another error.
+pub fn noted(r: Record, error: u64) -> Record
+    ensures { λ x. ⌜ x ≡ noted r error ⌝ }
+{
+    Record {
+        generator: r.generator,
+        stage: r.stage,
+        rounds: r.rounds,
+        left: r.left,
+        made: r.made,
+        error,
     }
 }
 

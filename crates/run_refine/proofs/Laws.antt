@@ -35,7 +35,7 @@ module _ (J : Job) where
   held-of h p A = record { size = A .all; bound = A .bound }
 
   pub shown-of : (h : List ℕ) (p : List Float) → Refinable J h p → Shown J p (J .S) (J .C)
-  shown-of h p A = all-shown (A .size) (A .small) alone (A .ready) p (held-of h p A)
+  shown-of h p A = all-shown alone (A .ready) p (held-of h p A)
 
   -- the loop, after i refinements of p₀ with the hints h₀
   pub record Refining (h₀ : List ℕ) (p₀ : List Float) (h : List ℕ) (p : List Float) (i : ℕ) : Type 0 where
@@ -52,16 +52,14 @@ module _ (J : Job) where
       → (h2 : List ℕ) (p2 : List Float) → p2 ≡ refined J p → h2 ≡ hintsOf J p (J .S) (J .C) h (J .T) → Refining h₀ p₀ h2 p2 (i + 1)
   again h₀ p₀ h p i A t h2 p2 ep eh =
       let R = A .refinable in
-      let next = refined-held (R .size) (R .small) alone (R .ready) p (held-of h p R) in
+      let next = refined-held alone (R .ready) p (held-of h p R) in
       record {
         most = omega arith;
         refinable = record {
-          size = R .size;
-          small = R .small;
           ready = R .ready;
           all = rw ep (next .size);
           bound = rw ep (next .bound);
-          each = rw eh (hinted (R .size) (R .small) alone (R .ready) p (J .S) (J .C) h (R .each));
+          each = rw eh (hinted alone (R .ready) p (J .S) (J .C) h (R .each));
         };
         palette = ep ∙ ap (refined J) (A .palette) ∙ more-colours i;
         hints = eh ∙ ap (λ (q : List Float). hintsOf J q (J .S) (J .C) h (J .T)) (A .palette)

@@ -30,9 +30,7 @@ module _ (J : Job) where
 
   -- a palette of all its colours and a hint for each tile, of a job that passed
   pub record Refinable (h : List ℕ) (p : List Float) : Type 0 where
-    pub size : ℕ
-    pub small : size ≤ 256
-    pub ready : Ready size J
+    pub ready : Ready J
     pub all : length p ≡ 3 * (S * C)
     pub bound : Bounded p 4
     pub each : length h ≡ T

@@ -13,23 +13,9 @@ pub fn final_draws(n: usize, r: Record) -> Record
 {
     let left = 10 * cycle::base_iterations(n);
     if left == 0 {
-        return Record {
-            generator: r.generator,
-            stage: 5,
-            rounds: 0,
-            left: 0,
-            made: r.made,
-            error: r.error,
-        };
+        return run_record::placed(r, 5, 0, 0);
     }
-    Record {
-        generator: r.generator,
-        stage: 4,
-        rounds: 0,
-        left,
-        made: r.made,
-        error: r.error,
-    }
+    run_record::placed(r, 4, 0, left)
 }
 
 // Four passes of refinement.
@@ -42,7 +28,11 @@ pub fn refine_four(
     hints: &mut [u32],
 )
     requires { ⌜ Refinable (jobOf z (now tiles) (now colours) (now counts)) (now hints) (now palette) ⌝ }
-    ensures { λ _. ⌜ (now (palette .exit) ≡ refinedTimes (jobOf z (now (tiles .entry)) (now (colours .entry)) (now (counts .entry))) 4 (now (palette .entry))) × (now (hints .exit) ≡ hintsTimes (jobOf z (now (tiles .entry)) (now (colours .entry)) (now (counts .entry))) 4 (now (palette .entry)) (now (hints .entry))) ⌝ }
+    ensures { λ _. ⌜
+        (now (palette .exit) ≡ refinedTimes (jobOf z (now (tiles .entry)) (now (colours .entry)) (now (counts .entry))) 4 (now (palette .entry)))
+        ×
+        (now (hints .exit) ≡ hintsTimes (jobOf z (now (tiles .entry)) (now (colours .entry)) (now (counts .entry))) 4 (now (palette .entry))
+        (now (hints .entry))) ⌝ }
 {
     let mut i = 0usize;
     while i < 4 {

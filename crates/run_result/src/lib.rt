@@ -1,7 +1,6 @@
 // The public call that copies the colours of a finished run.
 use job::Sizes;
 ghost use mathlib.Core.Path.{_≡_};
-ghost use Rattle.job.specs.Job.{tileSize};
 ghost use Rattle.quantizer.specs.Course.{courseOf};
 ghost use Rattle.stages.specs.Calls.{memory, copiedTo, resultCall};
 
@@ -19,7 +18,9 @@ pub fn result(
     words: &[u64],
     out: &mut [f32],
 ) -> u32
-    ensures { λ r. ⌜ copiedTo r (now (out .exit)) ≡ resultCall (courseOf z (now (tiles .entry)) (now (colours .entry)) (now (counts .entry)) (now (samples .entry))) (memory (now (order .entry)) (now (hints .entry)) (now (palette .entry)) (now (least .entry)) (now (words .entry))) (now (out .entry)) ⌝ }
+    ensures { λ r. ⌜ copiedTo r (now (out .exit))
+        ≡ resultCall (courseOf z (now (tiles .entry)) (now (colours .entry)) (now (counts .entry)) (now (samples .entry)))
+        (memory (now (order .entry)) (now (hints .entry)) (now (palette .entry)) (now (least .entry)) (now (words .entry))) (now (out .entry)) ⌝ }
 {
     let a = run_check::refuses_result(
         z,

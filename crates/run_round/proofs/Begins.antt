@@ -11,7 +11,7 @@ use Rattle.run_round.specs.First.{firstRound, Beginning}
 
 module _ (K : Course) (s : State) (B : Beginning K s) where
   pub sound : Sound K s
-  sound = subst⁻¹ (Sound K) (B .same) (fresh-sound (B .size) (B .small) K (B .room) (B .passed) (B .seed) (s .hints) (B .each))
+  sound = subst⁻¹ (Sound K) (B .same) (fresh-sound K (B .room) (B .passed) (B .seed) (s .hints) (B .each))
 
   -- what the first round and the settling ask
   pub standing : (x : State) → x ≡ firstRound K s → Standing K x
@@ -20,9 +20,7 @@ module _ (K : Course) (s : State) (B : Beginning K s) where
       let R = B .passed .ready in
       subst⁻¹ (Standing K) e
       (record {
-        size = B .size;
-        small = B .small;
         ready = R;
         place = subst⁻¹ (λ (y : State). Placed K (firstRound K y)) (B .same) (first-placed K (R .sizes .subs) (R .sizes .some) (B .seed) (s .hints));
-        sound = subst⁻¹ (λ (y : State). Sound K (firstRound K y)) (B .same) (first-sound (B .size) (B .small) K (B .room) (B .passed) (B .seed) (s .hints) (B .each));
+        sound = subst⁻¹ (λ (y : State). Sound K (firstRound K y)) (B .same) (first-sound K (B .room) (B .passed) (B .seed) (s .hints) (B .each));
       })

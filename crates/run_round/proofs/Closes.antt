@@ -46,7 +46,7 @@ module _ (K : Course) (s : State) (A : Standing K s) (d : due s ≡ true) where
       record {
         lent = record {
           whole = record {
-            shown = all-shown (A .size) (A .small) K (A .ready) (s .palette) (A .sound .held);
+            shown = all-shown K (A .ready) (s .palette) (A .sound .held);
             each = A .sound .hints;
           };
           room = A .sound .room;
@@ -72,11 +72,9 @@ module _ (K : Course) (s : State) (A : Standing K s) (d : due s ≡ true) where
   standing-on : Standing K (finishRound K s)
   standing-on =
       record {
-        size = A .size;
-        small = A .small;
         ready = A .ready;
         place = finish-placed K (A .ready .sizes .subs) (A .ready .sizes .some) s (A .place) d;
-        sound = finish-sound (A .size) (A .small) K (A .ready) s (A .sound);
+        sound = finish-sound K (A .ready) s (A .sound);
       }
 
 -- ---- the settling loop

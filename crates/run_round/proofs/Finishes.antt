@@ -13,8 +13,8 @@ use Rattle.stages.specs.declared.Record.{Record}
 use Rattle.stages.specs.State.{State, stateWith, placed}
 use Rattle.stages.specs.Stages.{finishRound}
 use Rattle.calls.proofs.Cases.{stage0, stage1, stage2, stage4}
-use Rattle.run_turns.specs.Asked.{Going}
-use Rattle.run_turns.specs.Rounds.{goOn}
+use Rattle.run_turns.specs.Asked.{Turning}
+use Rattle.run_turns.specs.Rounds.{openTurn}
 use Rattle.run_turns.proofs.Turns.{seeded-on, grown-on, replaced-on}
 use Rattle.run_round.specs.Seeds.{Seeking, Sought}
 use Rattle.run_round.specs.Settles.{Ripe, seeds, grows, replaces, finishes, Closing, turnAfter}
@@ -44,8 +44,8 @@ can-seek J h p l r A = record { whole = A .lent .whole; more = more (A .ripe) }
     more (finishes k) z = absurd (omega arith)
 
 module _ (J : Job) (h : List ℕ) (p l : List Float) (r : Record) (A : Closing J h p l r) (from : ℕ) (h2 : List ℕ) (B : Sought J h p r from h2) where
-  pub can-go : r .stage ≢ 4 → (k : ℕ) → k ≡ turnAfter (J .S) (J .C) r → Going J h2 p l k from r
-  can-go n4 k turn = record { lent = record { whole = record { shown = A .lent .whole .shown; each = each (A .ripe) }; room = A .lent .room }; source = B .source; error = low (A .ripe) }
+  pub can-turn : r .stage ≢ 4 → (k : ℕ) → k ≡ turnAfter (J .S) (J .C) r → Turning J h2 p l k from r
+  can-turn n4 k turn = record { lent = record { whole = record { shown = A .lent .whole .shown; each = each (A .ripe) }; room = A .lent .room }; source = B .source; error = low (A .ripe) }
     where
       each : Ripe J r → length h2 ≡ J .T
       each (seeds z m) = still-each J h p r (A .lent .whole) m h2 (B .hinted z)
@@ -67,9 +67,9 @@ module _ (K : Course) (h : List ℕ) (p l : List Float) (r : Record) (A : Closin
       ∙ ap (stateWith [] h p l) e
       ∙ sym (stage4 (r .stage) _ _ _ _ _ z)
 
-  pub gone : r .stage ≢ 4 → (k : ℕ) → k ≡ turnAfter (K .job .S) (K .job .C) r → (x : State) → x ≡ goOn K k from (stateWith [] h2 p l r) → x ≡ finishRound K (stateWith [] h p l r)
+  pub turned : r .stage ≢ 4 → (k : ℕ) → k ≡ turnAfter (K .job .S) (K .job .C) r → (x : State) → x ≡ openTurn K k from (stateWith [] h2 p l r) → x ≡ finishRound K (stateWith [] h p l r)
   unfolding finishRound
-  gone n4 k turn x e = by (A .ripe)
+  turned n4 k turn x e = by (A .ripe)
     where
       subs : 1 ≤ K .job .S
       subs = A .lent .whole .shown .ready .sizes .subs
@@ -77,17 +77,17 @@ module _ (K : Course) (h : List ℕ) (p l : List Float) (r : Record) (A : Closin
       some : 1 ≤ K .job .C
       some = A .lent .whole .shown .ready .sizes .some
 
-      at-turn : (next : ℕ) → turnAfter (K .job .S) (K .job .C) r ≡ next → x ≡ goOn K next from (stateWith [] h2 p l r)
-      at-turn next f = e ∙ ap (λ (i : ℕ). goOn K i from (stateWith [] h2 p l r)) (turn ∙ f)
+      at-turn : (next : ℕ) → turnAfter (K .job .S) (K .job .C) r ≡ next → x ≡ openTurn K next from (stateWith [] h2 p l r)
+      at-turn next f = e ∙ ap (λ (i : ℕ). openTurn K i from (stateWith [] h2 p l r)) (turn ∙ f)
 
       -- the turn, where nothing was sought
-      on : (next : ℕ) → turnAfter (K .job .S) (K .job .C) r ≡ next → r .stage ≢ 0 → x ≡ goOn K next from (stateWith [] h p l r)
-      on next f n = at-turn next f ∙ ap (λ (z : List ℕ). goOn K next from (stateWith [] z p l r)) (B .idle n)
+      on : (next : ℕ) → turnAfter (K .job .S) (K .job .C) r ≡ next → r .stage ≢ 0 → x ≡ openTurn K next from (stateWith [] h p l r)
+      on next f n = at-turn next f ∙ ap (λ (z : List ℕ). openTurn K next from (stateWith [] z p l r)) (B .idle n)
 
       by : Ripe (K .job) r → x ≡ finishRound K (stateWith [] h p l r)
       by (seeds z m) =
           at-turn (r .rounds + 1) (turn-seeding (K .job .S) (K .job .C) r z)
-          ∙ ap (λ (i : ℕ). goOn K (r .rounds + 1) i (stateWith [] h2 p l r)) (B .found z)
+          ∙ ap (λ (i : ℕ). openTurn K (r .rounds + 1) i (stateWith [] h2 p l r)) (B .found z)
           ∙ seeded-on K (stateWith [] h p l r) (stateWith [] h2 p l r) (hinted K h p l r h2 (B .hinted z)) m some
           ∙ sym (stage0 (r .stage) _ _ _ _ _ z)
       by (grows z m) =

@@ -7,8 +7,8 @@ use Rattle.quantizer.specs.Course.{Course, course}
 use Rattle.stages.specs.State.{State}
 use Rattle.stages.specs.Stages.{settle}
 use Rattle.calls.proofs.Sound.{all-shown}
-use Rattle.run_turns.specs.Asked.{Going}
-use Rattle.run_turns.specs.Rounds.{goOn}
+use Rattle.run_turns.specs.Asked.{Turning}
+use Rattle.run_turns.specs.Rounds.{openTurn}
 use Rattle.run_turns.proofs.Turns.{first-turn}
 use Rattle.run_round.specs.Settles.{Standing}
 use Rattle.run_round.proofs.Orders.{ordered, first-any}
@@ -16,13 +16,13 @@ use Rattle.run_round.specs.First.{firstRound, Beginning}
 use Rattle.run_round.proofs.Begins.{sound, standing}
 
 module _ (K : Course) (s : State) (B : Beginning K s) where
-  pub can-open : Going (K .job) (s .hints) (s .palette) (s .least) 0 0 (s .rec)
+  pub can-open : Turning (K .job) (s .hints) (s .palette) (s .least) 0 0 (s .rec)
   can-open =
       let A = sound K s B in
       record {
         lent = record {
           whole = record {
-            shown = all-shown (B .size) (B .small) K (B .passed .ready) (s .palette) (A .held);
+            shown = all-shown K (B .passed .ready) (s .palette) (A .held);
             each = B .each;
           };
           room = A .room;
@@ -31,7 +31,7 @@ module _ (K : Course) (s : State) (B : Beginning K s) where
         error = λ (past : (K .job .S - 1) + (K .job .C - 1) < 0). absurd (omega arith);
       }
 
-  module _ (x : State) (same : x .order ≡ s .order) (e : ordered [] x ≡ goOn (course (K .job) (K .n) []) 0 0 (ordered [] s)) where
+  module _ (x : State) (same : x .order ≡ s .order) (e : ordered [] x ≡ openTurn (course (K .job) (K .n) []) 0 0 (ordered [] s)) where
     opened : x ≡ firstRound K s
     unfolding firstRound
     opened = first-any K s x same (e ∙ first-turn (course (K .job) (K .n) []) (ordered [] s) (B .passed .ready .sizes .subs) (B .passed .ready .sizes .some))

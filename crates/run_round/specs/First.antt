@@ -1,5 +1,5 @@
 -- The first round of a run, and what it asks of the state. Definitions only. Assumes nothing.
-use Prim.Native.Nat.{ℕ, _≤_}
+use Prim.Native.Nat.{ℕ}
 use mathlib.Core.Path.{_≡_}
 use mathlib.Core.Bool.{Bool, cond}
 use lib.Dec.{ltb}
@@ -15,10 +15,8 @@ firstRound K s = cond (ltb 1 (K .job .S)) (openSeeding K 0 0 s) (enterGrowing K 
 
 -- a course that passed, in the state that a seed gives
 pub record Beginning (K : Course) (s : State) : Type 0 where
-  pub size : ℕ
-  pub small : size ≤ 256
   pub room : Bool
-  pub passed : Sampled size (K .job) (K .n) (K .samples) room
+  pub passed : Sampled (K .job) (K .n) (K .samples) room
   pub each : length (s .hints) ≡ K .job .T
   pub seed : ℕ
   pub same : s ≡ fresh K seed (s .hints)

@@ -16,9 +16,7 @@ use Rattle.run_keeping.specs.Closing.{Lent}
 
 -- a job that passed, at a place of its record, with sound memory
 pub record Standing (K : Course) (s : State) : Type 0 where
-  pub size : ℕ
-  pub small : size ≤ 256
-  pub ready : Ready size (K .job)
+  pub ready : Ready (K .job)
   pub place : Placed K s
   pub sound : Sound K s
 

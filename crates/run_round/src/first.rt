@@ -21,9 +21,12 @@ pub fn set_out(
     r: Record,
 ) -> Record
     requires { ⌜ Beginning (courseOf z (now tiles) (now colours) (now counts) (now samples)) (stateWith (now order) (now hints) (now palette) (now least) r) ⌝ }
-    ensures { λ x. ⌜ stateWith (now (order .entry)) (now (hints .exit)) (now (palette .exit)) (now (least .exit)) x ≡ settle (courseOf z (now (tiles .entry)) (now (colours .entry)) (now (counts .entry)) (now (samples .entry))) (firstRound (courseOf z (now (tiles .entry)) (now (colours .entry)) (now (counts .entry)) (now (samples .entry))) (stateWith (now (order .entry)) (now (hints .entry)) (now (palette .entry)) (now (least .entry)) r)) ⌝ }
+    ensures { λ x. ⌜ stateWith (now (order .entry)) (now (hints .exit)) (now (palette .exit)) (now (least .exit)) x
+        ≡ settle (courseOf z (now (tiles .entry)) (now (colours .entry)) (now (counts .entry)) (now (samples .entry)))
+        (firstRound (courseOf z (now (tiles .entry)) (now (colours .entry)) (now (counts .entry)) (now (samples .entry)))
+        (stateWith (now (order .entry)) (now (hints .entry)) (now (palette .entry)) (now (least .entry)) r)) ⌝ }
 {
-    let first = run_turns::go_on(z, tiles, colours, counts, hints, palette, least, 0, 0, r);
+    let first = run_turns::open_turn(z, tiles, colours, counts, hints, palette, least, 0, 0, r);
     crate::settle(
         z,
         tiles,

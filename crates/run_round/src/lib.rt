@@ -41,13 +41,15 @@ fn finish_round(
     r: Record,
 ) -> Record
     requires { ⌜ Closing (jobOf z (now tiles) (now colours) (now counts)) (now hints) (now palette) (now least) r ⌝ }
-    ensures { λ x. ⌜ stateWith [] (now (hints .exit)) (now (palette .exit)) (now (least .exit)) x ≡ finishRound (courseOf z (now (tiles .entry)) (now (colours .entry)) (now (counts .entry)) []) (stateWith [] (now (hints .entry)) (now (palette .entry)) (now (least .entry)) r) ⌝ }
+    ensures { λ x. ⌜ stateWith [] (now (hints .exit)) (now (palette .exit)) (now (least .exit)) x
+        ≡ finishRound (courseOf z (now (tiles .entry)) (now (colours .entry)) (now (counts .entry)) [])
+        (stateWith [] (now (hints .entry)) (now (palette .entry)) (now (least .entry)) r) ⌝ }
 {
     let from = seeding::seek(z, tiles, colours, counts, palette, hints, r);
     if r.stage == 4 {
         return run_next::end_final(r);
     }
-    run_turns::go_on(
+    run_turns::open_turn(
         z,
         tiles,
         colours,
@@ -75,7 +77,9 @@ pub fn settle(
     r: Record,
 ) -> Record
     requires { ⌜ Standing (courseOf z (now tiles) (now colours) (now counts) (now samples)) (stateWith (now order) (now hints) (now palette) (now least) r) ⌝ }
-    ensures { λ x. ⌜ stateWith (now (order .entry)) (now (hints .exit)) (now (palette .exit)) (now (least .exit)) x ≡ settle (courseOf z (now (tiles .entry)) (now (colours .entry)) (now (counts .entry)) (now (samples .entry))) (stateWith (now (order .entry)) (now (hints .entry)) (now (palette .entry)) (now (least .entry)) r) ⌝ }
+    ensures { λ x. ⌜ stateWith (now (order .entry)) (now (hints .exit)) (now (palette .exit)) (now (least .exit)) x
+        ≡ settle (courseOf z (now (tiles .entry)) (now (colours .entry)) (now (counts .entry)) (now (samples .entry)))
+        (stateWith (now (order .entry)) (now (hints .entry)) (now (palette .entry)) (now (least .entry)) r) ⌝ }
 {
     let mut at = r;
     while run_next::is_due(at) {

@@ -1,7 +1,6 @@
 // The public call that starts a run: both palettes nought but for the samples' mean, the first order, and all that needs no draw.
 use job::Sizes;
 ghost use mathlib.Core.Path.{_≡_};
-ghost use Rattle.job.specs.Job.{tileSize};
 ghost use Rattle.quantizer.specs.Course.{courseOf};
 ghost use Rattle.stages.specs.Calls.{memory, outcome, startCall};
 
@@ -19,7 +18,9 @@ pub fn start(
     least: &mut [f32],
     words: &mut [u64],
 ) -> u32
-    ensures { λ r. ⌜ outcome r 0 (memory (now (order .exit)) (now (hints .exit)) (now (palette .exit)) (now (least .exit)) (now (words .exit))) ≡ startCall (courseOf z (now (tiles .entry)) (now (colours .entry)) (now (counts .entry)) (now (samples .entry))) (memory (now (order .entry)) (now (hints .entry)) (now (palette .entry)) (now (least .entry)) (now (words .entry))) seed ⌝ }
+    ensures { λ r. ⌜ outcome r 0 (memory (now (order .exit)) (now (hints .exit)) (now (palette .exit)) (now (least .exit)) (now (words .exit)))
+        ≡ startCall (courseOf z (now (tiles .entry)) (now (colours .entry)) (now (counts .entry)) (now (samples .entry)))
+        (memory (now (order .entry)) (now (hints .entry)) (now (palette .entry)) (now (least .entry)) (now (words .entry))) seed ⌝ }
 {
     let a = run_check::refuses_start(
         z,

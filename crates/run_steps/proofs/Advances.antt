@@ -40,13 +40,13 @@ module _ {K : Course} {a : ℕ} {first : State} {m : ℕ} {s : State} (A : Advan
     pub allotted : t ≡ true → m < a
     allotted h = ltb-true m a (and-l (ltb m a) (draws (s .rec .stage)) (sym e ∙ h))
 
-    pub gone-on : t ≡ true → (z : State) → z ≡ step K s → Advancing K a first (m + 1) z
-    gone-on h z q =
+    pub drawn-more : t ≡ true → (z : State) → z ≡ step K s → Advancing K a first (m + 1) z
+    drawn-more h z q =
         let R = A .running in
         let d = ongoing h .going in
         record {
           from = A .from;
-          running = record { size = R .size; small = R .small; room = R .room; passed = R .passed; fit = subst (Fit K) (sym q) (step-fit (R .size) (R .small) K (R .room) (R .passed) s (R .fit) d) };
+          running = record { room = R .room; passed = R .passed; fit = subst (Fit K) (sym q) (step-fit K (R .room) (R .passed) s (R .fit) d) };
           far = subst (Far going (step K) a first (m + 1)) (sym q) (far-step going (step K) (A .far) (allotted h) d);
         }
 

@@ -19,11 +19,9 @@ drawn-stands K s G =
     let R = G .running in
     let D = R .passed in
     record {
-      size = R .size;
-      small = R .small;
       ready = D .ready;
       place = draw-place K (D .ready .sizes .subs) (D .ready .sizes .some) s (R .fit .rests) (G .going);
-      sound = draw-sound (R .size) (R .small) K (R .room) D s (R .fit .rests .place) (R .fit .sound);
+      sound = draw-sound K (R .room) D s (R .fit .rests .place) (R .fit .sound);
     }
 
 module _ (K : Course) (o h : List ℕ) (p l : List Float) (r : Record) where
@@ -31,7 +29,7 @@ module _ (K : Course) (o h : List ℕ) (p l : List Float) (r : Record) where
   unfolding subsOf haveOf
   draw-asks G =
       let R = G .running in
-      let A = drawable (R .size) (R .small) K (R .room) (R .passed) (stateWith o h p l r) (R .fit .rests) (R .fit .sound) (G .going) in
+      let A = drawable K (R .room) (R .passed) (stateWith o h p l r) (R .fit .rests) (R .fit .sound) (G .going) in
       record { going = A .going; few = A .few; left = A .left }
 
   module _ (o2 h2 : List ℕ) (p2 : List Float) (r2 : Record) (e : stateWith o2 h2 p2 [] r2 ≡ draw K (stateWith o h p [] r)) where

@@ -1,5 +1,4 @@
 -- What the draws of a run ask of its state. Definitions only. Assumes nothing.
-use Prim.Native.Nat.{ℕ, _≤_}
 use mathlib.Core.Path.{_≡_}
 use mathlib.Core.Bool.{Bool, true}
 use Rattle.job.specs.Gives.{Sampled}
@@ -9,10 +8,8 @@ use Rattle.calls.specs.Fit.{Fit}
 
 -- a job with samples that passed, and a state between calls
 pub record Running (K : Course) (s : State) : Type 0 where
-  pub size : ℕ
-  pub small : size ≤ 256
   pub room : Bool
-  pub passed : Sampled size (K .job) (K .n) (K .samples) room
+  pub passed : Sampled (K .job) (K .n) (K .samples) room
   pub fit : Fit K s
 
 -- and a stage that draws

@@ -23,15 +23,13 @@ fn step(
     r: Record,
 ) -> Record
     requires { ⌜ Ongoing (courseOf z (now tiles) (now colours) (now counts) (now samples)) (stateWith (now order) (now hints) (now palette) (now least) r) ⌝ }
-    ensures { λ x. ⌜ stateWith (now (order .exit)) (now (hints .exit)) (now (palette .exit)) (now (least .exit)) x ≡ step (courseOf z (now (tiles .entry)) (now (colours .entry)) (now (counts .entry)) (now (samples .entry))) (stateWith (now (order .entry)) (now (hints .entry)) (now (palette .entry)) (now (least .entry)) r) ⌝ }
+    ensures { λ x. ⌜ stateWith (now (order .exit)) (now (hints .exit)) (now (palette .exit)) (now (least .exit)) x
+        ≡ step (courseOf z (now (tiles .entry)) (now (colours .entry)) (now (counts .entry)) (now (samples .entry)))
+        (stateWith (now (order .entry)) (now (hints .entry)) (now (palette .entry)) (now (least .entry)) r) ⌝ }
 {
     let drawn = run_draw::draw(z, tiles, colours, counts, samples, order, hints, palette, r);
     run_round::settle(
-        z.s,
-        z.c,
-        z.t,
-        z.n,
-        z.weight,
+        z,
         tiles,
         colours,
         counts,
@@ -59,7 +57,13 @@ pub fn advance_work(
     allotment: u64,
 ) -> u64
     requires { ⌜ Running (courseOf z (now tiles) (now colours) (now counts) (now samples)) (stateWith (now order) (now hints) (now palette) (now least) (recordOf (now words))) × (length (now words) ≡ 6) ⌝ }
-    ensures { λ x. ⌜ outcome 0 x (memory (now (order .exit)) (now (hints .exit)) (now (palette .exit)) (now (least .exit)) (now (words .exit))) ≡ outcome 0 (drawsOf (courseOf z (now (tiles .entry)) (now (colours .entry)) (now (counts .entry)) (now (samples .entry))) allotment (stateWith (now (order .entry)) (now (hints .entry)) (now (palette .entry)) (now (least .entry)) (recordOf (now (words .entry))))) (memoryOf (advance (courseOf z (now (tiles .entry)) (now (colours .entry)) (now (counts .entry)) (now (samples .entry))) allotment (stateWith (now (order .entry)) (now (hints .entry)) (now (palette .entry)) (now (least .entry)) (recordOf (now (words .entry)))))) ⌝ }
+    ensures { λ x. ⌜ outcome 0 x (memory (now (order .exit)) (now (hints .exit)) (now (palette .exit)) (now (least .exit)) (now (words .exit)))
+        ≡ outcome 0
+        (drawsOf (courseOf z (now (tiles .entry)) (now (colours .entry)) (now (counts .entry)) (now (samples .entry))) allotment
+        (stateWith (now (order .entry)) (now (hints .entry)) (now (palette .entry)) (now (least .entry)) (recordOf (now (words .entry)))))
+        (memoryOf
+        (advance (courseOf z (now (tiles .entry)) (now (colours .entry)) (now (counts .entry)) (now (samples .entry))) allotment
+        (stateWith (now (order .entry)) (now (hints .entry)) (now (palette .entry)) (now (least .entry)) (recordOf (now (words .entry)))))) ⌝ }
 {
     let mut r = run_record::record_of(words);
     let mut drawn = 0u64;

@@ -15,15 +15,15 @@ use Rattle.stages.specs.declared.Record.{Record}
 use Rattle.stages.specs.State.{State, stateWith, placed}
 use Rattle.stages.specs.Stages.{openGrowing}
 use Rattle.run_keeping.specs.Closing.{Lent, Judging}
-use Rattle.run_turns.specs.Asked.{Opening, Going}
-use Rattle.run_turns.specs.Rounds.{replaceOn, growOn, goOn}
+use Rattle.run_turns.specs.Asked.{Opening, Turning}
+use Rattle.run_turns.specs.Rounds.{replaceOn, growOn, openTurn}
 
 pub can-open : (J : Job) (hints : List ℕ) (pal least : List Float) → Lent J hints pal least → (round : ℕ) → round < J .C - 1 → Opening J pal round hints
 can-open J hints pal least A round t =
     let A1 = A .whole .shown in
     record {
       growing = record {
-        shown = record { size = A1 .size; small = A1 .small; ready = A1 .ready; subs = A1 .subs; most = A1 .most; some = omega arith; present = omega arith; room = A1 .room; near = A1 .near };
+        shown = record { ready = A1 .ready; subs = A1 .subs; most = A1 .most; some = omega arith; present = omega arith; room = A1 .room; near = A1 .near };
         more = omega arith;
         each = A .whole .each;
       };
@@ -42,16 +42,16 @@ module _ (K : Course) (h : List ℕ) (p l : List Float) (r : Record) (round : �
   open-beside =
       ap (λ (s : State). stateWith (s .order) (s .hints) (s .palette) l (s .rec)) e
 
-  pub grown-by : (turn from : ℕ) → K .job .S - 1 ≤ turn → round ≡ turn - (K .job .S - 1) → round < K .job .C - 1 → stateWith [] h2 p2 l r2 ≡ goOn K turn from (stateWith [] h p l r)
-  unfolding goOn growOn
+  pub grown-by : (turn from : ℕ) → K .job .S - 1 ≤ turn → round ≡ turn - (K .job .S - 1) → round < K .job .C - 1 → stateWith [] h2 p2 l r2 ≡ openTurn K turn from (stateWith [] h p l r)
+  unfolding openTurn growOn
   grown-by turn from a z t = rw (le-ltb turn (K .job .S - 1) a, ← z, lt-ltb round (K .job .C - 1) t) open-beside
 
 -- the next stage
-pub grown-past : (K : Course) (s t : State) (turn from : ℕ) → t ≡ replaceOn K (turn - (K .job .S - 1) - (K .job .C - 1)) s → K .job .S - 1 ≤ turn → K .job .C - 1 ≤ turn - (K .job .S - 1) → t ≡ goOn K turn from s
-unfolding goOn growOn
+pub grown-past : (K : Course) (s t : State) (turn from : ℕ) → t ≡ replaceOn K (turn - (K .job .S - 1) - (K .job .C - 1)) s → K .job .S - 1 ≤ turn → K .job .C - 1 ≤ turn - (K .job .S - 1) → t ≡ openTurn K turn from s
+unfolding openTurn growOn
 grown-past K s t turn from e a z = rw (le-ltb turn (K .job .S - 1) a, le-ltb (turn - (K .job .S - 1)) (K .job .C - 1) z) e
 
-pub can-replace : (J : Job) (hints : List ℕ) (pal least : List Float) (turn from : ℕ) (r : Record) → Going J hints pal least turn from r → Judging J hints pal least (turn - (J .S - 1) - (J .C - 1)) r
+pub can-replace : (J : Job) (hints : List ℕ) (pal least : List Float) (turn from : ℕ) (r : Record) → Turning J hints pal least turn from r → Judging J hints pal least (turn - (J .S - 1) - (J .C - 1)) r
 can-replace J hints pal least turn from r A = record { lent = A .lent; error = λ (n : turn - (J .S - 1) - (J .C - 1) ≢ 0). A .error (past n (lt-or-ge ((J .S - 1) + (J .C - 1)) turn)) }
   where
     past : turn - (J .S - 1) - (J .C - 1) ≢ 0 → ((J .S - 1) + (J .C - 1) < turn) ⊎ (turn ≤ (J .S - 1) + (J .C - 1)) → (J .S - 1) + (J .C - 1) < turn

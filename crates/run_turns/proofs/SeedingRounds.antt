@@ -15,8 +15,8 @@ use Rattle.stages.specs.declared.Record.{Record}
 use Rattle.stages.specs.State.{State, stateWith, placed}
 use Rattle.stages.specs.Stages.{openSeeding}
 use Rattle.run_record.specs.Sized.{sized}
-use Rattle.run_turns.specs.Asked.{Doubling, Going}
-use Rattle.run_turns.specs.Rounds.{goOn}
+use Rattle.run_turns.specs.Asked.{Doubling, Turning}
+use Rattle.run_turns.specs.Rounds.{openTurn}
 
 -- the two rows lie within the palette
 pub rows : (s c : ℕ) (p : List Float) (round from : ℕ) → Doubling s c p round from → (1 ≤ c) × ((from * (3 * c) + 3 * c ≤ length p) × ((round + 1) * (3 * c) + 3 * c ≤ length p))
@@ -27,15 +27,15 @@ pub opened-by : (K : Course) (p : List Float) (r : Record) (round from : ℕ) (p
 unfolding openSeeding duplicated
 opened-by K p r round from p2 ep r2 er = rw (ep, er)
 
-pub can-double : (J : Job) (h : List ℕ) (p l : List Float) (turn from : ℕ) (r : Record) → Going J h p l turn from r → turn < J .S - 1 → Doubling (J .S) (J .C) p turn from
+pub can-double : (J : Job) (h : List ℕ) (p l : List Float) (turn from : ℕ) (r : Record) → Turning J h p l turn from r → turn < J .S - 1 → Doubling (J .S) (J .C) p turn from
 can-double J h p l turn from r A t =
     let Z = A .lent .whole .shown .ready .sizes in
     record { size = A .lent .whole .shown .room; some = Z .some; few = Z .few; more = omega arith; source = A .source }
 
 -- opening passes the hints and the second palette by
 pub seeded-by : (K : Course) (h : List ℕ) (p l : List Float) (r : Record) (turn from : ℕ) (p2 : List Float) (r2 : Record)
-    → stateWith [] [] p2 [] r2 ≡ openSeeding (sized (K .job .S) (K .job .C) (K .n)) turn from (stateWith [] [] p [] r) → turn < K .job .S - 1 → stateWith [] h p2 l r2 ≡ goOn K turn from (stateWith [] h p l r)
-unfolding goOn openSeeding duplicated
+    → stateWith [] [] p2 [] r2 ≡ openSeeding (sized (K .job .S) (K .job .C) (K .n)) turn from (stateWith [] [] p [] r) → turn < K .job .S - 1 → stateWith [] h p2 l r2 ≡ openTurn K turn from (stateWith [] h p l r)
+unfolding openTurn openSeeding duplicated
 seeded-by K h p l r turn from p2 r2 e t =
     rw (lt-ltb turn (K .job .S - 1) t)
     (ap (λ (s : State). stateWith (s .order) h (s .palette) l (s .rec)) e)

@@ -12,7 +12,7 @@ use Rattle.quantizer.specs.Seeding.{worstOf}
 use Rattle.stages.specs.State.{State}
 use Rattle.stages.specs.Stages.{noticed, openSeeding, enterReplacing, enterGrowing, closeSeeding, closeGrowing, closeReplacing, judged}
 use Rattle.run_keeping.specs.Keeping.{keeps, seen}
-use Rattle.run_turns.specs.Rounds.{replaceOn, growOn, goOn}
+use Rattle.run_turns.specs.Rounds.{replaceOn, growOn, openTurn}
 
 module _ (K : Course) (s : State) where
   first-replaced : replaceOn K 0 s ≡ enterReplacing K s
@@ -50,36 +50,36 @@ module _ (K : Course) (s : State) where
       rw (le-ltb (K .job .C + s .rec .rounds) (K .job .C - 1) (omega arith), next, later-seen (s .rec .rounds))
 
 -- ---- what follows each round
-pub first-turn : (K : Course) (s : State) → 1 ≤ K .job .S → 1 ≤ K .job .C → goOn K 0 0 s ≡ cond (ltb 1 (K .job .S)) (openSeeding K 0 0 s) (enterGrowing K s)
-unfolding goOn
+pub first-turn : (K : Course) (s : State) → 1 ≤ K .job .S → 1 ≤ K .job .C → openTurn K 0 0 s ≡ cond (ltb 1 (K .job .S)) (openSeeding K 0 0 s) (enterGrowing K s)
+unfolding openTurn
 first-turn K s subs some = by (lt-or-ge 1 (K .job .S))
   where
-    by : (1 < K .job .S) ⊎ (K .job .S ≤ 1) → goOn K 0 0 s ≡ cond (ltb 1 (K .job .S)) (openSeeding K 0 0 s) (enterGrowing K s)
+    by : (1 < K .job .S) ⊎ (K .job .S ≤ 1) → openTurn K 0 0 s ≡ cond (ltb 1 (K .job .S)) (openSeeding K 0 0 s) (enterGrowing K s)
     by (inl t) = rw (lt-ltb 1 (K .job .S) t, lt-ltb 0 (K .job .S - 1) (omega arith))
     by (inr t) =
         let none : 0 - (K .job .S - 1) ≡ 0 = omega arith in
         rw (le-ltb 1 (K .job .S) t, le-ltb 0 (K .job .S - 1) (omega arith)) (ap (λ (k : ℕ). growOn K k s) none ∙ entered K s some)
 
-pub seeded-on : (K : Course) (s x : State) → x ≡ noticed K (s .rec .rounds + 2) 1 s → s .rec .rounds + 2 ≤ K .job .S → 1 ≤ K .job .C → goOn K (s .rec .rounds + 1) (worstOf (K .job) (s .palette) (s .rec .rounds + 2)) x ≡ closeSeeding K s
-unfolding goOn closeSeeding
+pub seeded-on : (K : Course) (s x : State) → x ≡ noticed K (s .rec .rounds + 2) 1 s → s .rec .rounds + 2 ≤ K .job .S → 1 ≤ K .job .C → openTurn K (s .rec .rounds + 1) (worstOf (K .job) (s .palette) (s .rec .rounds + 2)) x ≡ closeSeeding K s
+unfolding openTurn closeSeeding
 seeded-on K s x e few some = by (lt-or-ge (s .rec .rounds + 1) (K .job .S - 1))
   where
     from : ℕ
     from = worstOf (K .job) (s .palette) (s .rec .rounds + 2)
 
-    by : (s .rec .rounds + 1 < K .job .S - 1) ⊎ (K .job .S - 1 ≤ s .rec .rounds + 1) → goOn K (s .rec .rounds + 1) from x ≡ closeSeeding K s
+    by : (s .rec .rounds + 1 < K .job .S - 1) ⊎ (K .job .S - 1 ≤ s .rec .rounds + 1) → openTurn K (s .rec .rounds + 1) from x ≡ closeSeeding K s
     by (inl t) = rw (lt-ltb (s .rec .rounds + 1) (K .job .S - 1) t) (ap (openSeeding K (s .rec .rounds + 1) from) e)
     by (inr t) =
         let none : (s .rec .rounds + 1) - (K .job .S - 1) ≡ 0 = omega arith in
         rw (le-ltb (s .rec .rounds + 1) (K .job .S - 1) t) (ap (λ (k : ℕ). growOn K k x) none ∙ entered K x some ∙ ap (enterGrowing K) e)
 
 module _ (K : Course) (s : State) (from : ℕ) (subs : 1 ≤ K .job .S) where
-  past : (turn later : ℕ) → turn - (K .job .S - 1) ≡ later → K .job .S - 1 ≤ turn → goOn K turn from s ≡ growOn K later s
-  unfolding goOn
+  past : (turn later : ℕ) → turn - (K .job .S - 1) ≡ later → K .job .S - 1 ≤ turn → openTurn K turn from s ≡ growOn K later s
+  unfolding openTurn
   past turn later e t = rw (le-ltb turn (K .job .S - 1) t, e)
 
-  pub grown-on : s .rec .rounds + 2 ≤ K .job .C → goOn K (K .job .S + s .rec .rounds) from s ≡ closeGrowing K s
+  pub grown-on : s .rec .rounds + 2 ≤ K .job .C → openTurn K (K .job .S + s .rec .rounds) from s ≡ closeGrowing K s
   grown-on few = past (K .job .S + s .rec .rounds) (s .rec .rounds + 1) (omega arith) (omega arith) ∙ grown-after K s (omega arith)
 
-  pub replaced-on : 1 ≤ K .job .C → goOn K (K .job .S + K .job .C + s .rec .rounds - 1) from s ≡ closeReplacing K s
+  pub replaced-on : 1 ≤ K .job .C → openTurn K (K .job .S + K .job .C + s .rec .rounds - 1) from s ≡ closeReplacing K s
   replaced-on some = past (K .job .S + K .job .C + s .rec .rounds - 1) (K .job .C + s .rec .rounds) (omega arith) (omega arith) ∙ replaced-after K s some

@@ -23,7 +23,7 @@ pub record Opening (J : Job) (pal : List Float) (round : ℕ) (hints : List ℕ)
   pub few : round ≤ 16
 
 -- a subpalette to copy; and in a round of replacing past the first, an error is kept
-pub record Going (J : Job) (hints : List ℕ) (palette least : List Float) (turn from : ℕ) (r : Record) : Type 0 where
+pub record Turning (J : Job) (hints : List ℕ) (palette least : List Float) (turn from : ℕ) (r : Record) : Type 0 where
   pub lent : Lent J hints palette least
   pub source : from < J .S
   pub error : (J .S - 1) + (J .C - 1) < turn → r .error < 0x7f800000

@@ -16,5 +16,5 @@ unfoldable pub growOn : Course → ℕ → State → State
 growOn K turn s = cond (ltb turn (K .job .C - 1)) (openGrowing K turn s) (replaceOn K (turn - (K .job .C - 1)) s)
 
 -- a round of seeding for each subpalette but the first, then those
-unfoldable pub goOn : Course → ℕ → ℕ → State → State
-goOn K turn from s = cond (ltb turn (K .job .S - 1)) (openSeeding K turn from s) (growOn K (turn - (K .job .S - 1)) s)
+unfoldable pub openTurn : Course → ℕ → ℕ → State → State
+openTurn K turn from s = cond (ltb turn (K .job .S - 1)) (openSeeding K turn from s) (growOn K (turn - (K .job .S - 1)) s)

@@ -13,8 +13,8 @@ ghost use Rattle.quantizer.specs.Course.{courseOf};
 ghost use Rattle.stages.specs.State.{stateWith};
 ghost use Rattle.stages.specs.Stages.{openSeeding, openGrowing};
 ghost use Rattle.run_record.specs.Sized.{sized};
-ghost use Rattle.run_turns.specs.Asked.{Doubling, Opening, Going};
-ghost use Rattle.run_turns.specs.Rounds.{goOn};
+ghost use Rattle.run_turns.specs.Asked.{Doubling, Opening, Turning};
+ghost use Rattle.run_turns.specs.Rounds.{openTurn};
 
 // A subpalette more, a copy of subpalette `from`, and a round of draws begins.
 fn open_seeding(
@@ -46,7 +46,9 @@ fn open_growing(
     r: Record,
 ) -> Record
     requires { ⌜ Opening (jobOf z (now tiles) (now colours) (now counts)) (now palette) round (now hints) ⌝ }
-    ensures { λ x. ⌜ stateWith [] (now (hints .exit)) (now (palette .exit)) [] x ≡ openGrowing (courseOf z (now (tiles .entry)) (now (colours .entry)) (now (counts .entry)) []) round (stateWith [] (now (hints .entry)) (now (palette .entry)) [] r) ⌝ }
+    ensures { λ x. ⌜ stateWith [] (now (hints .exit)) (now (palette .exit)) [] x
+        ≡ openGrowing (courseOf z (now (tiles .entry)) (now (colours .entry)) (now (counts .entry)) []) round
+        (stateWith [] (now (hints .entry)) (now (palette .entry)) [] r) ⌝ }
 {
     let have = round as usize + 1;
     quantizer_grow::grow_palette(z, tiles, colours, counts, palette, have, hints);
@@ -54,7 +56,7 @@ fn open_growing(
 }
 
 // A turn: the next round in that count. One of seeding copies subpalette `from`.
-pub fn go_on(
+pub fn open_turn(
     z: Sizes,
     tiles: &[u32],
     colours: &[f32],
@@ -66,8 +68,10 @@ pub fn go_on(
     from: usize,
     r: Record,
 ) -> Record
-    requires { ⌜ Going (jobOf z (now tiles) (now colours) (now counts)) (now hints) (now palette) (now least) turn from r ⌝ }
-    ensures { λ x. ⌜ stateWith [] (now (hints .exit)) (now (palette .exit)) (now (least .exit)) x ≡ goOn (courseOf z (now (tiles .entry)) (now (colours .entry)) (now (counts .entry)) []) turn from (stateWith [] (now (hints .entry)) (now (palette .entry)) (now (least .entry)) r) ⌝ }
+    requires { ⌜ Turning (jobOf z (now tiles) (now colours) (now counts)) (now hints) (now palette) (now least) turn from r ⌝ }
+    ensures { λ x. ⌜ stateWith [] (now (hints .exit)) (now (palette .exit)) (now (least .exit)) x
+        ≡ openTurn (courseOf z (now (tiles .entry)) (now (colours .entry)) (now (counts .entry)) []) turn from
+        (stateWith [] (now (hints .entry)) (now (palette .entry)) (now (least .entry)) r) ⌝ }
 {
     let seeded = z.s as u64 - 1;
     if turn < seeded {

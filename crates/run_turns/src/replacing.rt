@@ -23,7 +23,9 @@ fn open_replacing(
     r: Record,
 ) -> Record
     requires { ⌜ Whole (jobOf z (now tiles) (now colours) (now counts)) (now hints) (now palette) ⌝ }
-    ensures { λ x. ⌜ stateWith [] (now (hints .exit)) (now (palette .exit)) [] x ≡ openReplacing (courseOf z (now (tiles .entry)) (now (colours .entry)) (now (counts .entry)) []) round (stateWith [] (now (hints .entry)) (now (palette .entry)) [] r) ⌝ }
+    ensures { λ x. ⌜ stateWith [] (now (hints .exit)) (now (palette .exit)) [] x
+        ≡ openReplacing (courseOf z (now (tiles .entry)) (now (colours .entry)) (now (counts .entry)) []) round
+        (stateWith [] (now (hints .entry)) (now (palette .entry)) [] r) ⌝ }
 {
     quantizer_replace::replace_weakest(z, tiles, colours, counts, palette, hints);
     run_next::open_round(r, 2, round, z.n)
@@ -42,7 +44,9 @@ pub fn replace_on(
     r: Record,
 ) -> Record
     requires { ⌜ Judging (jobOf z (now tiles) (now colours) (now counts)) (now hints) (now palette) (now least) round r ⌝ }
-    ensures { λ x. ⌜ stateWith [] (now (hints .exit)) (now (palette .exit)) (now (least .exit)) x ≡ replaceOn (courseOf z (now (tiles .entry)) (now (colours .entry)) (now (counts .entry)) []) round (stateWith [] (now (hints .entry)) (now (palette .entry)) (now (least .entry)) r) ⌝ }
+    ensures { λ x. ⌜ stateWith [] (now (hints .exit)) (now (palette .exit)) (now (least .exit)) x
+        ≡ replaceOn (courseOf z (now (tiles .entry)) (now (colours .entry)) (now (counts .entry)) []) round
+        (stateWith [] (now (hints .entry)) (now (palette .entry)) (now (least .entry)) r) ⌝ }
 {
     let seen = run_keeping::look(z, tiles, colours, counts, hints, palette, least, round, r);
     if round < 10 {

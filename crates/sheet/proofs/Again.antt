@@ -16,7 +16,7 @@ use Rattle.sheet_format.specs.Sheet.{edition1, component, Colour, entry, colour
 use Rattle.sheet_format.proofs.Headed.{Sized, good-says}
 use Rattle.sheet_format.specs.Lists.{floats, patterns, tileCounts, tileFloats, allCounts, allFloats, tableOf}
 use Rattle.sheet_pack.specs.Packed.{coloursOf, tilesFrom, sheetOf}
-use Rattle.sheet.specs.Sheets.{jobOf}
+use Rattle.sheet.specs.Sheets.{jobIn}
 use Rattle.sheet.proofs.Floats.{components-back}
 
 -- ---- a tile that can be written
@@ -104,7 +104,7 @@ module _ (x : Sheet) (h : T (sheet edition1 .good x)) where
   pub content-good : T (times (x .tiles) (tile edition1) .good (x .content))
   content-good = and-r (times (3 * (x .subs * x .each)) component .good (x .palette)) (times (x .tiles) (tile edition1) .good (x .content)) behind
 
-  pub sheet-again : sheetOf (jobOf x) (floats (x .palette)) ≡ x
+  pub sheet-again : sheetOf (jobIn x) (floats (x .palette)) ≡ x
   sheet-again =
       let w : toBits binary32 (ofBits binary32 (x .weight)) ≡ x .weight = weighs-back (x .weight) (sized .narrow) (sized .weight) in
       let p : patterns (floats (x .palette)) ≡ x .palette = components-back (3 * (x .subs * x .each)) (x .palette) palette-good .0 in

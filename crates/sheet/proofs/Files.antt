@@ -79,12 +79,12 @@ stored-front old new n q ho hn ln lq room e =
     (e ∙ ap (sets (bits old) 0) (sym (bits-bytesOf n q lq)) ∙ sym (bits-sets (bytesOf n q) old 0 (omega (arith, length-bytesOf n q))))
 
 -- ---- the file of a job's sheet
-module _ (size : ℕ) (J : Job) (R : Ready size J) (palette : List Float) (L : Lent (J .S) (J .C) palette) where
+module _ (J : Job) (R : Ready J) (palette : List Float) (L : Lent (J .S) (J .C) palette) where
   abbrev wide : ℕ
   wide = sizeOf edition1 (J .S) (J .C) (J .T) (length (J .counts))
 
   printed-long : length (sheet edition1 .print (sheetOf J palette)) ≡ wide
-  printed-long = ap length (sheet-print size J R palette L edition1) ∙ sheet-size size J R palette L
+  printed-long = ap length (sheet-print J R palette L edition1) ∙ sheet-size J R palette L
 
   pub file-long : length (encode (sheet edition1) (sheetOf J palette)) ≡ bytesFor wide
   file-long = go (sheet edition1 .print (sheetOf J palette)) printed-long
@@ -96,7 +96,7 @@ module _ (size : ℕ) (J : Job) (R : Ready size J) (palette : List Float) (L : L
       → bits new ≡ sets (bits old) 0 (sheetBits edition1 (sheetOf J palette) ++ replicate (8 * bytesFor n - n) false)
       → new ≡ sets old 0 (encode (sheet edition1) (sheetOf J palette))
   file-stored old new n en ho hn ln room e =
-      go (sheet edition1 .print (sheetOf J palette)) (printed-long ∙ sym en) (sym (sheet-print size J R palette L edition1))
+      go (sheet edition1 .print (sheetOf J palette)) (printed-long ∙ sym en) (sym (sheet-print J R palette L edition1))
     where
       go : (p : List Bool) → length p ≡ n → sheetBits edition1 (sheetOf J palette) ≡ p
           → new ≡ sets old 0 (bytesOf (bytesFor (length p)) (p ++ replicate (8 * bytesFor (length p) - length p) false))
@@ -126,40 +126,40 @@ module _ (file old : List ℕ) where
       ap₂ {C = WriteOutcome} (λ i v. writeOutcome (Bytes i) v) en e
       ∙ sym (within h ∙ ap (λ (b : Bool). cond b (writeOutcome (Bytes (length file)) (sets old 0 file)) (writeOutcome (Refused 3) old)) (le-leb (length file) (length old) l))
 
-module _ (size : ℕ) (J : Job) (palette : List Float) (old : List ℕ) (a : ℕ) (e : a ≡ plainAnswer size J palette true) where
-  pub job-refused : (a ≡ 0 → ⊥) → writeOutcome (Refused a) old ≡ writeDef size J palette old
+module _ (J : Job) (palette : List Float) (old : List ℕ) (a : ℕ) (e : a ≡ plainAnswer J palette true) where
+  pub job-refused : (a ≡ 0 → ⊥) → writeOutcome (Refused a) old ≡ writeDef J palette old
   unfolding writeDef
   job-refused z =
       ap (λ (i : ℕ). writeOutcome (Refused i) old) e
-      ∙ sym (ap (λ (b : Bool). cond b (storedIn (encode (sheet edition1) (sheetOf J palette)) old) (writeOutcome (Refused (plainAnswer size J palette true)) old)) (ne-eqb (plainAnswer size J palette true) 0 (λ k. z (e ∙ k))))
+      ∙ sym (ap (λ (b : Bool). cond b (storedIn (encode (sheet edition1) (sheetOf J palette)) old) (writeOutcome (Refused (plainAnswer J palette true)) old)) (ne-eqb (plainAnswer J palette true) 0 (λ k. z (e ∙ k))))
 
   module _ (z : a ≡ 0) where
-    pub passed : Plain size J palette true
-    passed = plain-ready size J palette true (sym e ∙ z)
+    pub passed : Plain J palette true
+    passed = plain-ready J palette true (sym e ∙ z)
 
-    by-file : storedIn (encode (sheet edition1) (sheetOf J palette)) old ≡ writeDef size J palette old
+    by-file : storedIn (encode (sheet edition1) (sheetOf J palette)) old ≡ writeDef J palette old
     unfolding writeDef
     by-file =
-        sym (ap (λ (b : Bool). cond b (storedIn (encode (sheet edition1) (sheetOf J palette)) old) (writeOutcome (Refused (plainAnswer size J palette true)) old)) (eq-eqb (plainAnswer size J palette true) 0 (sym e ∙ z)))
+        sym (ap (λ (b : Bool). cond b (storedIn (encode (sheet edition1) (sheetOf J palette)) old) (writeOutcome (Refused (plainAnswer J palette true)) old)) (eq-eqb (plainAnswer J palette true) 0 (sym e ∙ z)))
 
     module _ (n k : ℕ) (en : n ≡ sizeOf edition1 (J .S) (J .C) (J .T) (length (J .counts))) (ek : k ≡ bytesFor n) where
       file-is : k ≡ length (encode (sheet edition1) (sheetOf J palette))
-      file-is = ek ∙ ap bytesFor en ∙ sym (file-long size J (passed .ready) palette (passed .lent))
+      file-is = ek ∙ ap bytesFor en ∙ sym (file-long J (passed .ready) palette (passed .lent))
 
-      too-large : 65536 < k → writeOutcome (Refused 13) old ≡ writeDef size J palette old
+      too-large : 65536 < k → writeOutcome (Refused 13) old ≡ writeDef J palette old
       too-large h = large (encode (sheet edition1) (sheetOf J palette)) old (subst (λ (i : ℕ). 65536 < i) file-is h) ∙ by-file
 
-      roomless-place : k ≤ 65536 → length old < k → writeOutcome (Refused 3) old ≡ writeDef size J palette old
+      roomless-place : k ≤ 65536 → length old < k → writeOutcome (Refused 3) old ≡ writeDef J palette old
       roomless-place h l =
           roomless (encode (sheet edition1) (sheetOf J palette)) old (subst (λ (i : ℕ). i ≤ 65536) file-is h) (subst (λ (i : ℕ). length old < i) file-is l) ∙ by-file
 
-      pub no-place : (r : ℕ) → r ≡ placeFor k (length old) → (r ≡ 0 → ⊥) → writeOutcome (Refused r) old ≡ writeDef size J palette old
-      no-place r er h = unplaced k (length old) r er (λ i. writeOutcome (Refused i) old ≡ writeDef size J palette old) h too-large roomless-place
+      pub no-place : (r : ℕ) → r ≡ placeFor k (length old) → (r ≡ 0 → ⊥) → writeOutcome (Refused r) old ≡ writeDef J palette old
+      no-place r er h = unplaced k (length old) r er (λ i. writeOutcome (Refused i) old ≡ writeDef J palette old) h too-large roomless-place
 
       pub file-written : (new : List ℕ) → k ≤ 65536 → k ≤ length old → Bytewise old → Bytewise new → length new ≡ length old
           → bits new ≡ sets (bits old) 0 (sheetBits edition1 (sheetOf J palette) ++ replicate (8 * bytesFor n - n) false)
-          → writeOutcome (Bytes k) new ≡ writeDef size J palette old
+          → writeOutcome (Bytes k) new ≡ writeDef J palette old
       file-written new h l ho hn ln f =
           stored (encode (sheet edition1) (sheetOf J palette)) old k new (subst (λ (i : ℕ). i ≤ 65536) file-is h) (subst (λ (i : ℕ). i ≤ length old) file-is l) file-is
-          (file-stored size J (passed .ready) palette (passed .lent) old new n en ho hn ln (omega arith) f)
+          (file-stored J (passed .ready) palette (passed .lent) old new n en ho hn ln (omega arith) f)
           ∙ by-file

@@ -18,7 +18,7 @@ use Rattle.ieee.specs.Terms.{zeroF, Within}
 use Rattle.color.specs.Color.{Bounded}
 use Rattle.format.specs.Format.{above, times}
 use Rattle.format.proofs.Tests.{and-in}
-use Rattle.job.specs.Job.{Job, tileSize, firstOf, sizeOf, countsPart, coloursPart}
+use Rattle.job.specs.Job.{Job, job, tileSize, firstOf, sizeOf, countsPart, coloursPart}
 use Rattle.job.specs.Gives.{Ready, Lent}
 use Rattle.job.proofs.Tiles.{counts-length, tile-three, tile-near}
 use Rattle.pattern.specs.Pattern.{weighs}
@@ -26,7 +26,7 @@ use Rattle.sheet_format.specs.Sheet.{edition1, component, Colour, colours, tile
 use Rattle.sheet_format.specs.Lists.{floats, patterns, tileCounts, tileFloats, allCounts, allFloats, tableOf}
 use Rattle.sheet_pack.specs.Packed.{coloursOf, tilesFrom, sheetOf, Counted}
 use Rattle.sheet_pack.proofs.Prints.{length-coloursOf}
-use Rattle.sheet.specs.Sheets.{jobOf}
+use Rattle.sheet.specs.Sheets.{jobIn}
 use Rattle.sheet.proofs.Floats.{Singles, singles-drop, singles-take, bounded-drop, bounded-take, round-trip, components-good, weight-good}
 
 above-good : (k n : ℕ) → 1 ≤ n → n ≤ 2 ^ k → T (above k .good n)
@@ -76,7 +76,7 @@ floats-of (c ∷ cs) xs e s =
     ∙ take-append-drop 3 xs
 
 -- ---- a job of floats of 32 bits that passed its checks
-module _ (J : Job) (R : Ready tileSize J) (F : Singles (J .colours)) where
+module _ (J : Job) (R : Ready J) (sized : J .size ≡ tileSize) (F : Singles (J .colours)) where
   abbrev from : ℕ → ℕ → List (List Colour)
   from i m = tilesFrom (J .tiles) (J .colours) (J .counts) i m
 
@@ -90,12 +90,12 @@ module _ (J : Job) (R : Ready tileSize J) (F : Singles (J .colours)) where
       let xs : List Float = coloursPart (J .tiles) (J .colours) i in
       let x : List Colour = coloursOf cs xs in
       let l : i < J .T = omega arith in
-      let few : length cs ≤ 64 = omega (arith, counts-length tileSize J R i l, R .short i l) in
+      let few : length cs ≤ 64 = omega (arith, counts-length J R i l, R .short i l, sized) in
       and-in (tile edition1 .good x) (times m (tile edition1) .good (from (suc i) m))
       (subst (λ (j : ℕ). T ((ltb j (2 ^ 7) && leb j 64) && colours edition1 j 0 .good x)) (sym (length-coloursOf cs xs))
       (and-in (ltb (length cs) (2 ^ 7) && leb (length cs) 64) (colours edition1 (length cs) 0 .good x)
       (and-in (ltb (length cs) (2 ^ 7)) (leb (length cs) 64) (lt→ltb (length cs) (2 ^ 7) (omega arith)) (le→leb (length cs) 64 few))
-      (colours-good cs xs 0 (tile-three tileSize J R i l) (λ k n. R .low i k l n) (omega (arith, R .full i l)) (singles-part i) (tile-near tileSize J R i l))))
+      (colours-good cs xs 0 (tile-three J R i l) (λ k n. R .low i k l n) (omega (arith, R .full i l, sized)) (singles-part i) (tile-near J R i l))))
       (tiles-good m (suc i) (omega arith))
 
   -- ---- counts, colours and table, one tile after another
@@ -130,7 +130,7 @@ module _ (J : Job) (R : Ready tileSize J) (F : Singles (J .colours)) where
       let k : ℕ = sum (sizeOf (J .tiles)) i in
       let far : 3 * sum (sizeOf (J .tiles)) (suc i) ≡ 3 * k + 3 * n = omega (arith, next i) in
       ap₂ (λ (a b : List Float). a ++ b)
-      (floats-of (countsPart (J .tiles) (J .counts) i) (coloursPart (J .tiles) (J .colours) i) (tile-three tileSize J R i l) (singles-part i) ∙ ap (λ (j : ℕ). take (3 * n) (drop (3 * j) (J .colours))) (R .starts i l))
+      (floats-of (countsPart (J .tiles) (J .counts) i) (coloursPart (J .tiles) (J .colours) i) (tile-three J R i l) (singles-part i) ∙ ap (λ (j : ℕ). take (3 * n) (drop (3 * j) (J .colours))) (R .starts i l))
       (all-floats m (suc i) (omega arith) ∙ ap (λ (j : ℕ). drop j (J .colours)) far ∙ sym (drop-drop (3 * n) (3 * k) (J .colours)))
       ∙ take-append-drop (3 * n) (drop (3 * k) (J .colours))
 
@@ -143,7 +143,7 @@ module _ (J : Job) (R : Ready tileSize J) (F : Singles (J .colours)) where
       let a : suc (2 * i) ≡ 2 * i + 1 = omega arith in
       let b : suc (2 * i + 1) ≡ 2 * suc i = omega arith in
       let long : length (coloursOf (countsPart (J .tiles) (J .counts) i) (coloursPart (J .tiles) (J .colours) i)) ≡ n =
-      length-coloursOf (countsPart (J .tiles) (J .counts) i) (coloursPart (J .tiles) (J .colours) i) ∙ counts-length tileSize J R i l in
+      length-coloursOf (countsPart (J .tiles) (J .counts) i) (coloursPart (J .tiles) (J .colours) i) ∙ counts-length J R i l in
       ap (λ (j : ℕ). k ∷ j ∷ tableOf (k + j) (from (suc i) m)) long
       ∙ ap₂ {C = List ℕ} (λ j r. j ∷ n ∷ r) (sym (R .starts i l)) (ap (λ (j : ℕ). tableOf j (from (suc i) m)) (sym (next i)) ∙ all-table m (suc i) (omega arith))
       ∙ sym (drop-cons (J .tiles) (2 * i) 0 (omega (arith, R .table))
@@ -151,13 +151,14 @@ module _ (J : Job) (R : Ready tileSize J) (F : Singles (J .colours)) where
 
   -- ---- the whole
   module _ (F32 : T (fits binary32 (J .weight))) (palette : List Float) (L : Lent (J .S) (J .C) palette) (P : Singles palette) where
-    pub job-back : jobOf (sheetOf J palette) ≡ J
+    pub job-back : jobIn (sheetOf J palette) ≡ J
     job-back =
         let tiles : tableOf 0 (from 0 (J .T)) ≡ J .tiles = ap (λ (j : ℕ). tableOf j (from 0 (J .T))) (sym none) ∙ all-table (J .T) 0 (zero-add (J .T)) in
         let colours : allFloats (from 0 (J .T)) ≡ J .colours = all-floats (J .T) 0 (zero-add (J .T)) ∙ ap (λ (j : ℕ). drop (3 * j) (J .colours)) none in
         let counts : allCounts (from 0 (J .T)) ≡ J .counts = all-counts (J .T) 0 (zero-add (J .T)) ∙ ap (λ (j : ℕ). drop j (J .counts)) none in
-        ap₂ {C = Job} (λ w t. record { S = J .S; C = J .C; T = J .T; weight = w; tiles = t; colours = allFloats (from 0 (J .T)); counts = allCounts (from 0 (J .T)) }) (ofBits-toBits binary32 (J .weight) F32) tiles
-        ∙ ap₂ {C = Job} (λ f c. record { S = J .S; C = J .C; T = J .T; weight = J .weight; tiles = J .tiles; colours = f; counts = c }) colours counts
+        ap₂ {C = Job} (λ w t. job tileSize (J .S) (J .C) (J .T) w t (allFloats (from 0 (J .T))) (allCounts (from 0 (J .T)))) (ofBits-toBits binary32 (J .weight) F32) tiles
+        ∙ ap₂ {C = Job} (λ f c. job tileSize (J .S) (J .C) (J .T) (J .weight) (J .tiles) f c) colours counts
+        ∙ ap {B = Job} (λ n. job n (J .S) (J .C) (J .T) (J .weight) (J .tiles) (J .colours) (J .counts)) (sym sized)
 
     pub palette-back : floats (sheetOf J palette .palette) ≡ palette
     palette-back = round-trip palette P

@@ -9,5 +9,5 @@ use Rattle.sheet.specs.Sheets.{Room, ReadOutcome, readDef, WriteOutcome,
 pub only-reading : (bytes : List ℕ) (h : Room) (x y : ReadOutcome) → x ≡ readDef bytes h → y ≡ readDef bytes h → x ≡ y
 only-reading bytes h x y e f = e ∙ sym f
 
-pub only-writing : (size : ℕ) (J : Job) (palette : List Float) (found : List ℕ) (x y : WriteOutcome) → x ≡ writeDef size J palette found → y ≡ writeDef size J palette found → x ≡ y
-only-writing size J palette found x y e f = e ∙ sym f
+pub only-writing : (J : Job) (palette : List Float) (found : List ℕ) (x y : WriteOutcome) → x ≡ writeDef J palette found → y ≡ writeDef J palette found → x ≡ y
+only-writing J palette found x y e f = e ∙ sym f

@@ -11,6 +11,8 @@ use lib.Ieee.{Float, binary32, ofBits}
 use borrow.Author.Tests.{leb-true, not-true, not-false}
 use Rattle.lists.proofs.Tests.{and-l, and-r}
 use Rattle.format.specs.Format.{times, Answer, refused, accepted}
+use Rattle.job.specs.declared.Sizes.{Sizes}
+use Rattle.job.specs.Job.{sizesOf}
 use Rattle.sheet_format.specs.Sheet.{edition1, component, Colour, Sheet, tile, readSheet}
 use Rattle.sheet_format.specs.Lists.{floats, allCounts, allFloats, tableOf}
 use Rattle.sheet_check.specs.declared.Checked.{Checked}
@@ -63,14 +65,14 @@ module _ (s : List ℕ) (h : Room) (r : Bool) (e : r ≡ roomy (length (h .tiles
         go (refused m) k f = ap (λ (i : ℕ). readOutcome (reading.Refused i) h) (same n m f) ∙ by-sheet (refused m) k
         go (accepted x) k f = absurd (sound-not n (x .subs) (x .each) (x .tiles) (x .weight) f)
 
-    pub accepted-out : (a b t w : ℕ) (weight : Float) (tb : List ℕ) (cs : List ℕ) (f : List Float) (p : List Float) → Accepted s a b t w → weight ≡ ofBits binary32 w
+    pub accepted-out : (a b t w : ℕ) (z : Sizes) (tb : List ℕ) (cs : List ℕ) (f : List Float) (p : List Float) → Accepted s a b t w → z ≡ sizesOf a b t 0 (ofBits binary32 w)
         → p ≡ sets (h .palette) 0 (floats (listAt (times (3 * (a * b)) component) s 86))
         → tb ≡ sets (h .tiles) 0 (tableOf 0 (listAt (times t (tile edition1)) s (86 + 3 * (a * b) * 32)))
         → cs ≡ sets (h .counts) 0 (allCounts (listAt (times t (tile edition1)) s (86 + 3 * (a * b) * 32)))
         → f ≡ sets (h .colours) 0 (allFloats (listAt (times t (tile edition1)) s (86 + 3 * (a * b) * 32)))
-        → readOutcome (reading.Sheet a b t weight) (room tb f cs p) ≡ readDef s h
-    accepted-out a b t w weight tb cs f p A ew ep et ec ef =
+        → readOutcome (reading.Sheet z) (room tb f cs p) ≡ readDef s h
+    accepted-out a b t w z tb cs f p A ew ep et ec ef =
         let L : List (List Colour) = listAt (times t (tile edition1)) s (86 + 3 * (a * b) * 32) in
-        ap₂ {C = ReadOutcome} (λ i j. readOutcome (reading.Sheet a b t i) j) ew
+        ap₂ {C = ReadOutcome} (λ i j. readOutcome (reading.Sheet i) j) ew
         (ap₂ {C = Room} (λ i j. room i j cs p) et ef ∙ ap₂ {C = Room} (λ i j. room (sets (h .tiles) 0 (tableOf 0 L)) (sets (h .colours) 0 (allFloats L)) i j) ec ep)
         ∙ by-sheet _ (A .is)

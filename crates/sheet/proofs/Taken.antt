@@ -18,7 +18,8 @@ use Rattle.ieee.specs.Terms.{zeroF, Within}
 use Rattle.color.specs.Color.{Bounded}
 use Rattle.format.specs.Format.{above, times}
 use Rattle.format.proofs.Tests.{and-l, and-r}
-use Rattle.job.specs.Checks.{firstNot, among, within, weightFits, tileTest, tileFits, tilesFit, countTest, countFits, partFits, tileCountsFit, countsFit, componentFits, firstBad, componentsFit, plainRules, plainAnswer}
+use Rattle.job.specs.Checks.{firstNot, tileSized, among, within, weightFits, tileTest, tileFits, tilesFit, countTest, countFits, partFits, tileCountsFit, countsFit, componentFits, firstBad, componentsFit, nearRules, tables, plainRules, plainAnswer}
+use Rattle.job.specs.Rules.{Passed}
 use Rattle.job.proofs.First.{first-none}
 use Rattle.job.proofs.Passing.{pass-all}
 use Rattle.job.specs.Job.{tileSize, mostTileColours, firstOf, sizeOf, countsPart, nought, two, sixteen}
@@ -26,7 +27,7 @@ use Rattle.pattern.proofs.Patterns.{weighs-is}
 use Rattle.sheet_format.specs.Sheet.{edition1, component, Colour, entry, colours, tile, Sheet, sheet}
 use Rattle.sheet_format.proofs.Headed.{above-says}
 use Rattle.sheet_format.specs.Lists.{floats, tileCounts, tileFloats, allCounts, allFloats, tableOf, total}
-use Rattle.sheet.specs.Sheets.{jobOf}
+use Rattle.sheet.specs.Sheets.{jobIn}
 use Rattle.sheet.proofs.Floats.{components-back}
 use Rattle.sheet.proofs.Kept.{sum-front}
 use Rattle.sheet.proofs.Again.{tile-says, counts-here, table-left, counts-left, colours-left, sized, palette-good, content-good}
@@ -202,9 +203,13 @@ tiles-say (suc m) (x ∷ v) h =
 pub content-counts : (x : Sheet) → T (sheet edition1 .good x) → total (x .content) ≡ length (allCounts (x .content))
 content-counts x h = tiles-say (x .tiles) (x .content) (content-good x h) .counts
 
+within-range : (n most : ℕ) → (0 < n) × (n ≤ most) → among n most ≡ true
+unfolding among
+within-range n most h = and-i (leb 1 n) (leb n most) (le-leb 1 n (h .0)) (le-leb n most (h .1))
+
 -- ---- a sheet that can be written, of few enough colours
-pub taken : (x : Sheet) → T (sheet edition1 .good x) → total (x .content) ≤ mostTileColours → plainAnswer tileSize (jobOf x) (floats (x .palette)) true ≡ 0
-unfolding plainAnswer among countsFit tileCountsFit
+pub taken : (x : Sheet) → T (sheet edition1 .good x) → total (x .content) ≤ mostTileColours → plainAnswer (jobIn x) (floats (x .palette)) true ≡ 0
+unfolding plainAnswer tileSized countsFit tileCountsFit
 taken x h fit =
     let H = sized x h in
     let A = tiles-say (x .tiles) (x .content) (content-good x h) in
@@ -220,40 +225,13 @@ taken x h fit =
     let z : 0 + i ≡ i = omega arith in
     let g = at i (x .tiles) 0 0 v (content-good x h) refl refl refl l in
     ap (partFits tileSize) (ap (countsPart (tableOf 0 v) (allCounts v)) (sym z) ∙ g .0) ∙ part-fits (getD v i []) (g .1) in
-    sym (pass-all (plainRules tileSize (jobOf x) (floats (x .palette)) true) (
-      and-i (leb 1 (x .subs)) (leb (x .subs) 16) (le-leb 1 (x .subs) (H .subs .0)) (le-leb (x .subs) 16 (H .subs .1)),
-      (
-        and-i (leb 1 (x .each)) (leb (x .each) 16) (le-leb 1 (x .each) (H .each .0)) (le-leb (x .each) 16 (H .each .1)),
-        (
-          and-i (leb 1 (x .tiles)) (leb (x .tiles) 1024) (le-leb 1 (x .tiles) (H .tiles .0)) (le-leb (x .tiles) 1024 (H .tiles .1)),
-          (
-            eq-eqb (length (tableOf 0 v)) (2 * x .tiles) (length-tableOf 0 v ∙ ap (λ (i : ℕ). 2 * i) (A .number)),
-            (
-              eq-eqb (length (allFloats v)) (3 * length (allCounts v)) (A .thrice),
-              (
-                eq-eqb (length (floats (x .palette))) (3 * (x .subs * x .each)) (P .2),
-                (
-                  refl,
-                  (
-                    weighty (ofBits binary32 (x .weight)) (W .0) (W .1),
-                    (
-                      le-leb (length (allCounts v)) mostTileColours (omega (arith, A .counts)),
-                      (
-                        table-fits v (x .tiles) (length (allCounts v)) (A .number) (A .counts) few,
-                        (
-                          parts-fit,
-                          (
-                            near (floats (x .palette)) (P .3),
-                            (near (allFloats v) (A .small), tt),
-                          ),
-                        ),
-                      ),
-                    ),
-                  ),
-                ),
-              ),
-            ),
-          ),
-        ),
-      ),
-    ))
+    let near-rules : Passed (nearRules (floats (x .palette)) (allFloats v)) = (near (floats (x .palette)) (P .3), (near (allFloats v) (A .small), tt)) in
+    let table-rules : Passed (tables (jobIn x) ++ nearRules (floats (x .palette)) (allFloats v)) = (
+      weighty (ofBits binary32 (x .weight)) (W .0) (W .1),
+      (le-leb (length (allCounts v)) mostTileColours (omega (arith, A .counts)), (table-fits v (x .tiles) (length (allCounts v)) (A .number) (A .counts) few, (parts-fit, near-rules))),
+    ) in
+    let three = eq-eqb (length (allFloats v)) (3 * length (allCounts v)) (A .thrice) in
+    let sized = eq-eqb (length (floats (x .palette))) (3 * (x .subs * x .each)) (P .2) in
+    let listed = eq-eqb (length (tableOf 0 v)) (2 * x .tiles) (length-tableOf 0 v ∙ ap (λ (i : ℕ). 2 * i) (A .number)) in
+    sym (pass-all (plainRules (jobIn x) (floats (x .palette)) true)
+    (refl, (within-range (x .subs) 16 (H .subs), (within-range (x .each) 16 (H .each), (within-range (x .tiles) 1024 (H .tiles), (listed, (three, (sized, (refl, table-rules)))))))))

@@ -7,7 +7,8 @@ use lib.ListN.{length}
 use lib.Seq.{sets}
 use lib.Ieee.{Float, binary32, ofBits}
 use Rattle.format.specs.Format.{Answer, refused, accepted, encode}
-use Rattle.job.specs.Job.{Job, job}
+use Rattle.job.specs.declared.Sizes.{Sizes}
+use Rattle.job.specs.Job.{Job, sizesOf, jobOf}
 use Rattle.job.specs.Checks.{plainAnswer}
 use Rattle.sheet_format.specs.Sheet.{Sheet, edition1, sheet, readSheet}
 use Rattle.sheet_format.specs.Lists.{floats, allCounts, allFloats, tableOf}
@@ -18,9 +19,12 @@ use Rattle.sheet.specs.declared.Reading.the-variants as reading
 use Rattle.sheet.specs.declared.Writing.{Writing}
 use Rattle.sheet.specs.declared.Writing.the-variants as writing
 
--- the job that a sheet holds
-abbrev pub jobOf : Sheet → Job
-jobOf x = job (x .subs) (x .each) (x .tiles) (ofBits binary32 (x .weight)) (tableOf 0 (x .content)) (allFloats (x .content)) (allCounts (x .content))
+-- the numbers of the job that a sheet holds, and the job
+abbrev pub sizesIn : Sheet → Sizes
+sizesIn x = sizesOf (x .subs) (x .each) (x .tiles) 0 (ofBits binary32 (x .weight))
+
+abbrev pub jobIn : Sheet → Job
+jobIn x = jobOf (sizesIn x) (tableOf 0 (x .content)) (allFloats (x .content)) (allCounts (x .content))
 
 -- ---- reading
 -- the memory that a reading is lent
@@ -43,11 +47,11 @@ readOutcome r h = record { answer = r; after = h }
 -- a sheet's lists stand in the first places; what isn't filled stays
 abbrev pub filled : Sheet → Room → Room
 filled x h =
-    room (sets (h .tiles) 0 (jobOf x .tiles)) (sets (h .colours) 0 (jobOf x .colours)) (sets (h .counts) 0 (jobOf x .counts)) (sets (h .palette) 0 (floats (x .palette)))
+    room (sets (h .tiles) 0 (jobIn x .tiles)) (sets (h .colours) 0 (jobIn x .colours)) (sets (h .counts) 0 (jobIn x .counts)) (sets (h .palette) 0 (floats (x .palette)))
 
 abbrev pub readInto : Answer Sheet → Room → ReadOutcome
 readInto (refused n) h = readOutcome (reading.Refused n) h
-readInto (accepted x) h = readOutcome (reading.Sheet (jobOf x .S) (jobOf x .C) (jobOf x .T) (jobOf x .weight)) (filled x h)
+readInto (accepted x) h = readOutcome (reading.Sheet (sizesIn x)) (filled x h)
 
 -- 3 for room comes first
 unfoldable pub readDef : List ℕ → Room → ReadOutcome
@@ -70,6 +74,7 @@ storedIn file found =
     (writeOutcome (writing.Refused 13) found)
 
 -- the job's own refusals come first
-unfoldable pub writeDef : ℕ → Job → List Float → List ℕ → WriteOutcome
-writeDef size J palette found =
-    cond (eqb (plainAnswer size J palette true) 0) (storedIn (encode (sheet edition1) (sheetOf J palette)) found) (writeOutcome (writing.Refused (plainAnswer size J palette true)) found)
+unfoldable pub writeDef : Job → List Float → List ℕ → WriteOutcome
+writeDef J palette found =
+    let number = plainAnswer J palette true in
+    cond (eqb number 0) (storedIn (encode (sheet edition1) (sheetOf J palette)) found) (writeOutcome (writing.Refused number) found)

@@ -2,18 +2,13 @@
 // Assumes nothing.
 use job::Sizes;
 ghost use mathlib.Core.Path.{_≡_};
-ghost use Rattle.job.specs.Job.{jobOf, tileSize};
+ghost use Rattle.job.specs.Job.{jobOf};
 ghost use Rattle.sheet.specs.Sheets.{room, readOutcome, readDef, writeOutcome, writeDef};
 
 // What a reading finds: a refusal's number, or the numbers of a job whose lists are filled in.
 pub enum Reading {
     Refused(u32),
-    Sheet {
-        s: usize,
-        c: usize,
-        t: usize,
-        weight: f32,
-    },
+    Sheet(Sizes),
 }
 
 // A sheet into lent slices: two numbers a tile, three a colour. What isn't filled stays.
@@ -47,12 +42,8 @@ pub fn read(
                 counts,
                 colours,
             );
-            Reading::Sheet {
-                s: subs as usize,
-                c: each as usize,
-                t: t as usize,
-                weight: pattern::weight(weight),
-            }
+            let heavy = pattern::weight(weight);
+            Reading::Sheet(job::sizes_of(subs as usize, each as usize, t as usize, 0, heavy))
         }
     }
 }
@@ -72,7 +63,7 @@ pub fn write(
     palette: &[f32],
     dst: &mut [u8],
 ) -> Writing
-    ensures { λ r. ⌜ writeOutcome r (now (dst .exit)) ≡ writeDef tileSize (jobOf z (now (tiles .entry)) (now (colours .entry)) (now (counts .entry))) (now (palette .entry)) (now (dst .entry)) ⌝ }
+    ensures { λ r. ⌜ writeOutcome r (now (dst .exit)) ≡ writeDef (jobOf z (now (tiles .entry)) (now (colours .entry)) (now (counts .entry))) (now (palette .entry)) (now (dst .entry)) ⌝ }
 {
     let number = job_check::check_job(z, tiles, colours, counts, palette, true);
     if number != 0 {

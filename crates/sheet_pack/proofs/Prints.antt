@@ -70,13 +70,13 @@ module _ (E : Edition) where
       (colours-print cs xs (length (coloursOf cs xs)) 0 (sym (length-coloursOf cs xs)) (e ∙ ap (λ (n : ℕ). 3 * n) (sym (length-coloursOf cs xs))))
 
 -- ---- a job that passed its checks
-module _ (size : ℕ) (J : Job) (R : Ready size J) where
+module _ (J : Job) (R : Ready J) where
   tiles-print : (E : Edition) (m i : ℕ) → i + m ≡ J .T
       → times m (tile E) .print (tilesFrom (J .tiles) (J .colours) (J .counts) i m) ≡ tilesBits E (tilesFrom (J .tiles) (J .colours) (J .counts) i m)
   tiles-print E zero i e = refl
   tiles-print E (suc m) i e =
       ap₂ (λ (x y : List Bool). x ++ y)
-      (tile-print E (countsPart (J .tiles) (J .counts) i) (coloursPart (J .tiles) (J .colours) i) (tile-three size J R i (omega arith)))
+      (tile-print E (countsPart (J .tiles) (J .counts) i) (coloursPart (J .tiles) (J .colours) i) (tile-three J R i (omega arith)))
       (tiles-print E m (suc i) (omega arith))
 
   -- those from tile i on, with the bits of the colours before it
@@ -94,8 +94,8 @@ module _ (size : ℕ) (J : Job) (R : Ready size J) where
         length-append (bitsOf 7 (length x) ++ coloursBits edition1 x) r,
         length-append (bitsOf 7 (length x)) (coloursBits edition1 x),
         length-bitsOf 7 (length x),
-        length-coloursBits cs xs (tile-three size J R i (omega arith)),
-        counts-length size J R i (omega arith),
+        length-coloursBits cs xs (tile-three J R i (omega arith)),
+        counts-length J R i (omega arith),
         tiles-size m (suc i) (omega arith),
       )
 

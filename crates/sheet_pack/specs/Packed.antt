@@ -1,12 +1,11 @@
 -- The sheet of a job, and the bits of a sheet's parts as they are written. Definitions only. Assumes nothing.
-use Prim.Native.Nat.{ℕ, zero, suc, pred, _+_, _≤_, _<_}
+use Prim.Native.Nat.{ℕ, zero, suc, pred, _≤_, _<_}
 use mathlib.Core.Bool.{Bool}
 use mathlib.Core.List.{List, [], _∷_, _++_}
 use lib.ListN.{length, getD, take, drop}
 use lib.Ieee.{Float, binary32, toBits}
 use Rattle.bits.specs.Bits.{bitsOf}
-use Rattle.job.specs.Job.{Job, job, tileSize, coloursPart, countsPart}
-use Rattle.job.specs.Gives.{Ready}
+use Rattle.job.specs.Job.{Job, coloursPart, countsPart}
 use Rattle.sheet_format.specs.Sheet.{Edition, opening, Colour, Sheet}
 use Rattle.sheet_format.specs.Lists.{patterns}
 
@@ -59,7 +58,3 @@ module _ (E : Edition) where
 -- ---- what is asked
 abbrev pub Counted : List ℕ → Type 0
 Counted cs = (k : ℕ) → k < length cs → 1 ≤ getD cs k 0
-
--- t tiles of some job that passed its checks
-abbrev pub Tabled : ℕ → List ℕ → List Float → List ℕ → Type 0
-Tabled t tiles colours counts = (s : ℕ) × (c : ℕ) × (w : Float) × Ready tileSize (job s c t w tiles colours counts)

@@ -1,13 +1,16 @@
 // The sheet writer's fields, in the format's order: of a job that passed its checks, into bytes that have room. Assumes nothing.
+use job::Sizes;
 ghost use mathlib.Core.Path.{_≡_};
 ghost use Prim.Native.Nat.{_+_, _*_, _≤_, _<_};
 ghost use lib.ListN.{length};
 ghost use lib.Seq.{sets};
 ghost use Rattle.bits.specs.Bits.{bits};
 ghost use Rattle.color.specs.Color.{Bounded};
+ghost use Rattle.job.specs.Job.{jobOf};
+ghost use Rattle.job.specs.Gives.{Ready};
 ghost use Rattle.sheet_format.specs.Sheet.{headSize, edition1};
 ghost use Rattle.sheet_format.specs.Lists.{patterns};
-ghost use Rattle.sheet_pack.specs.Packed.{words, coloursBits, tileBits, tilesBits, headBits, coloursOf, tilesFrom, Counted, Tabled};
+ghost use Rattle.sheet_pack.specs.Packed.{words, coloursBits, tileBits, tilesBits, headBits, coloursOf, tilesFrom, Counted};
 
 // Components as fields from bit p.
 pub fn pack_components(dst: &mut [u8], p: usize, src: &[f32])
@@ -49,21 +52,21 @@ pub fn pack_tile(dst: &mut [u8], p: usize, counts: &[u32], colours: &[f32])
     pack_colours(dst, p + 7, counts, colours);
 }
 
-// The t tiles of a job from bit p.
+// The tiles of a job from bit p.
 pub fn pack_tiles(
     dst: &mut [u8],
     p: usize,
-    t: usize,
+    z: Sizes,
     tiles: &[u32],
     colours: &[f32],
     counts: &[u32],
 )
-    requires { ⌜ (p + (7 * t + 102 * length (now counts)) ≤ 8 * length (now dst)) × (p + (7 * t + 102 * length (now counts)) ≤ 524288) × Tabled t (now tiles) (now colours) (now counts) ⌝ }
-    ensures { λ r. ⌜ bits (now (dst .exit)) ≡ sets (bits (now (dst .entry))) p (tilesBits edition1 (tilesFrom (now (tiles .entry)) (now (colours .entry)) (now (counts .entry)) 0 t)) ⌝ }
+    requires { ⌜ (p + (7 * z .t + 102 * length (now counts)) ≤ 8 * length (now dst)) × (p + (7 * z .t + 102 * length (now counts)) ≤ 524288) × Ready (jobOf z (now tiles) (now colours) (now counts)) ⌝ }
+    ensures { λ r. ⌜ bits (now (dst .exit)) ≡ sets (bits (now (dst .entry))) p (tilesBits edition1 (tilesFrom (now (tiles .entry)) (now (colours .entry)) (now (counts .entry)) 0 (z .t))) ⌝ }
 {
     let mut q = p;
     let mut i = 0;
-    while i < t {
+    while i < z.t {
         let part = job::counts_part(tiles, counts, i);
         pack_tile(dst, q, part, job::tile_part(tiles, colours, i));
         q += 7 + 102 * part.len();

@@ -10,7 +10,7 @@ use lib.Seq.{sets}
 use lib.Ieee.{Float}
 use borrow.Author.Tests.{le-leb, eq-eqb}
 use Rattle.format.specs.Format.{encode}
-use Rattle.job.specs.Job.{Job, tileSize}
+use Rattle.job.specs.Job.{Job}
 use Rattle.job.specs.Checks.{plainAnswer}
 use Rattle.job.proofs.Ready.{plain-ready}
 use Rattle.sheet_format.specs.Sheet.{edition1, sheet}
@@ -19,19 +19,19 @@ use Rattle.sheet.proofs.Files.{file-long}
 use Rattle.sheet.specs.declared.Writing.{Writing}
 use Rattle.sheet.specs.declared.Writing.the-variants.{Refused, Bytes}
 use Rattle.sheet.specs.Sheets.{WriteOutcome, writeOutcome, storedIn, writeDef}
-use Rattle.sheet_parts.specs.Begins.{Writable}
+use Rattle.sheet_parts.specs.Front.{Writable}
 use Rattle.fit_lines.specs.Lines.{Stored}
 
 -- the file of a job is as long with every palette
-pub same-long : (J : Job) (p q : List Float) → plainAnswer tileSize J p true ≡ 0 → plainAnswer tileSize J q true ≡ 0
+pub same-long : (J : Job) (p q : List Float) → plainAnswer J p true ≡ 0 → plainAnswer J q true ≡ 0
     → length (encode (sheet edition1) (sheetOf J q)) ≡ length (encode (sheet edition1) (sheetOf J p))
 same-long J p q h g =
-    let P = plain-ready tileSize J p true h in
-    let Q = plain-ready tileSize J q true g in
-    file-long tileSize J (Q .ready) q (Q .lent) ∙ sym (file-long tileSize J (P .ready) p (P .lent))
+    let P = plain-ready J p true h in
+    let Q = plain-ready J q true g in
+    file-long J (Q .ready) q (Q .lent) ∙ sym (file-long J (P .ready) p (P .lent))
 
 -- a palette that passes can be written where another could
-pub still-writable : (J : Job) (p q : List Float) → Writable J p → plainAnswer tileSize J q true ≡ 0 → Writable J q
+pub still-writable : (J : Job) (p q : List Float) → Writable J p → plainAnswer J q true ≡ 0 → Writable J q
 still-writable J p q W h = record { passed = h; small = omega (arith, same-long J p q (W .passed) h, W .small) }
 
 -- ---- the writer
@@ -39,14 +39,14 @@ module _ (J : Job) (p : List Float) (out : List ℕ) (W : Writable J p) (room : 
   abbrev file : List ℕ
   file = encode (sheet edition1) (sheetOf J p)
 
-  by-writer : writeDef tileSize J p out ≡ writeOutcome (Bytes (length file)) (sets out 0 file)
+  by-writer : writeDef J p out ≡ writeOutcome (Bytes (length file)) (sets out 0 file)
   unfolding writeDef storedIn
   by-writer =
-      ap (λ (t : Bool). cond t (storedIn file out) (writeOutcome (Refused (plainAnswer tileSize J p true)) out)) (eq-eqb (plainAnswer tileSize J p true) 0 (W .passed))
+      ap (λ (t : Bool). cond t (storedIn file out) (writeOutcome (Refused (plainAnswer J p true)) out)) (eq-eqb (plainAnswer J p true) 0 (W .passed))
       ∙ ap (λ (t : Bool). cond t (cond (leb (length file) (length out)) (writeOutcome (Bytes (length file)) (sets out 0 file)) (writeOutcome (Refused 3) out)) (writeOutcome (Refused 13) out)) (le-leb (length file) 65536 (W .small))
       ∙ ap (λ (t : Bool). cond t (writeOutcome (Bytes (length file)) (sets out 0 file)) (writeOutcome (Refused 3) out)) (le-leb (length file) (length out) (omega (arith, W .small)))
 
-  module _ (r : Writing) (after : List ℕ) (e : writeOutcome r after ≡ writeDef tileSize J p out) where
+  module _ (r : Writing) (after : List ℕ) (e : writeOutcome r after ≡ writeDef J p out) where
     answer : r ≡ Bytes (length file)
     answer = ap (λ (o : WriteOutcome). o .answer) (e ∙ by-writer)
 

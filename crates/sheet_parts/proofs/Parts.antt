@@ -1,79 +1,47 @@
--- The lists of a job that slices begin with: the parts of those lengths are the lists. Assumes nothing.
-use mathlib.Core.Path.{_≡_, sym, ap, ap₂, _∙_, subst₂}
+-- Parts of slices from the front. Assumes nothing.
+use mathlib.Core.Path.{_≡_, sym, ap, ap₂, _∙_, subst, subst⁻¹}
 use Prim.Native.Nat.{ℕ, suc, _+_, _-_, _*_, _≤_, _<_}
 use native.Mathlib.Omega.{arith}
 use mathlib.Core.List.{List}
 use lib.ListN.{length, getD, take}
-use lib.Seq.{getD-take, length-take-le}
 use lib.Ieee.{Float}
+use lib.Seq.{sets, getD-take, length-take-le}
 use Rattle.lists.specs.Every.{sum}
-use Rattle.job.specs.Job.{Job, job, firstOf, sizeOf}
-use Rattle.sheet_parts.specs.Begins.{Begins}
-
-module _ (s c t : ℕ) (w : Float) (tiles : List ℕ) (colours : List Float) (counts : List ℕ) (palette : List Float) (tb : List ℕ) (f : List Float) (cs : List ℕ) (p : List Float)
-    (B : Begins tiles colours counts palette (job s c t w tb f cs) p) where
-  pub some-tile : 1 ≤ t
-  some-tile = B .shown .ready .sizes .tiled
-
-  pub few-tiles : t ≤ 1024
-  few-tiles = B .shown .ready .sizes .tiles
-
-  pub exact-tiles : take (2 * t) tiles ≡ tb
-  exact-tiles = ap (λ (n : ℕ). take n tiles) (sym (B .shown .ready .table)) ∙ B .tiled .1
-
-  pub tiles-long : 2 * t ≤ length tiles
-  tiles-long = omega (arith, B .shown .ready .table, B .tiled .0)
-
-  same-at : (j : ℕ) → j < 2 * t → getD tiles j 0 ≡ getD tb j 0
-  same-at j l = sym (getD-take (2 * t) tiles j 0 l) ∙ ap (λ (x : List ℕ). getD x j 0) exact-tiles
-
-  last-sum : (k : ℕ) → suc k ≡ t → firstOf tiles k + sizeOf tiles k ≡ length cs
-  unfolding sum
-  last-sum k e =
-      ap₂ (λ (a b : ℕ). a + b) (same-at (2 * k) (omega arith) ∙ B .shown .ready .starts k (omega arith)) (same-at (2 * k + 1) (omega arith))
-      ∙ ap (sum (sizeOf tb)) e ∙ B .shown .ready .whole
-
-  pub number : firstOf tiles (t - 1) + sizeOf tiles (t - 1) ≡ length cs
-  number = last-sum (t - 1) (omega (arith, some-tile))
-
-  module _ (n : ℕ) (e : n ≡ firstOf tiles (t - 1) + sizeOf tiles (t - 1)) where
-    pub exact-number : n ≡ length cs
-    exact-number = e ∙ number
-
-    pub exact-counts : take n counts ≡ cs
-    exact-counts = ap (λ (k : ℕ). take k counts) exact-number ∙ B .counted .1
-
-    pub counts-long : n ≤ length counts
-    counts-long = omega (arith, exact-number, B .counted .0)
-
-    pub few-colours : n ≤ 16384
-    few-colours = omega (arith, exact-number, B .shown .ready .total)
-
-    three : 3 * n ≡ length f
-    three = omega (arith, exact-number, B .shown .ready .three)
-
-    pub exact-colours : take (3 * n) colours ≡ f
-    exact-colours = ap (λ (k : ℕ). take k colours) three ∙ B .coloured .1
-
-    pub colours-long : 3 * n ≤ length colours
-    colours-long = omega (arith, three, B .coloured .0)
-
-    pub exact-palette : take (3 * (s * c)) palette ≡ p
-    exact-palette = ap (λ (k : ℕ). take k palette) (sym (B .shown .room)) ∙ B .given .1
-
-    pub palette-long : 3 * (s * c) ≤ length palette
-    palette-long = omega (arith, B .shown .room, B .given .0)
-
-    exact-job : job s c t w (take (2 * t) tiles) (take (3 * n) colours) (take n counts) ≡ job s c t w tb f cs
-    exact-job = ap₂ {C = Job} (λ a b. job s c t w a b (take n counts)) exact-tiles exact-colours ∙ ap {B = Job} (λ a. job s c t w tb f a) exact-counts
-
-    -- what holds of the parts holds of the lists, and the other way round
-    pub parts-say : (P : Job → List Float → Type 0) → P (job s c t w (take (2 * t) tiles) (take (3 * n) colours) (take n counts)) (take (3 * (s * c)) palette) → P (job s c t w tb f cs) p
-    parts-say P x = subst₂ P exact-job exact-palette x
-
-    pub lists-say : (P : Job → List Float → Type 0) → P (job s c t w tb f cs) p → P (job s c t w (take (2 * t) tiles) (take (3 * n) colours) (take n counts)) (take (3 * (s * c)) palette)
-    lists-say P x = subst₂ P (sym exact-job) (sym exact-palette) x
+use Rattle.job.specs.declared.Sizes.{Sizes}
+use Rattle.job.specs.Job.{Job, jobOf, firstOf, sizeOf}
+use Rattle.job.specs.Gives.{Ready}
+use Rattle.sheet.proofs.Inverse.{sets-front}
+use Rattle.sheet_parts.specs.Front.{coloursTo, frontJob}
 
 -- a part from the front has the length that was asked for
 pub front-long : {A : Type 0} (n : ℕ) (l : List A) → n ≤ length l → n ≡ length (take n l)
 front-long n l h = sym (length-take-le n l h)
+
+-- a list that was written to the front is the part of its length
+pub written-front : {A : Type 0} (n : ℕ) (x l : List A) → length x ≡ n → length x ≤ length l → take n (sets l 0 x) ≡ x
+written-front n x l e h = ap (λ (k : ℕ). take k (sets l 0 x)) (sym e) ∙ sets-front x l h
+
+-- where a slice begins with a job's table, its last tile ends with the job's last colour
+module _ (J : Job) (R : Ready J) (tiles : List ℕ) (e : take (2 * J .T) tiles ≡ J .tiles) where
+  same-at : (j : ℕ) → j < 2 * J .T → getD tiles j 0 ≡ getD (J .tiles) j 0
+  same-at j l = sym (getD-take (2 * J .T) tiles j 0 l) ∙ ap (λ (x : List ℕ). getD x j 0) e
+
+  last-sum : (k : ℕ) → suc k ≡ J .T → firstOf tiles k + sizeOf tiles k ≡ length (J .counts)
+  unfolding sum
+  last-sum k f =
+      ap₂ (λ (a b : ℕ). a + b) (same-at (2 * k) (omega arith) ∙ R .starts k (omega arith)) (same-at (2 * k + 1) (omega arith))
+      ∙ ap (sum (sizeOf (J .tiles))) f ∙ R .whole
+
+  pub number : coloursTo tiles (J .T) ≡ length (J .counts)
+  number = last-sum (J .T - 1) (omega (arith, R .sizes .tiled))
+
+-- what holds of the job in the first places holds of the parts that a program lends, whose number of colours is n
+module _ (z : Sizes) (tiles : List ℕ) (colours : List Float) (counts : List ℕ) (n : ℕ) (e : n ≡ coloursTo tiles (z .t)) (P : Job → Type 0) where
+  abbrev by-number : ℕ → Type 0
+  by-number k = P (jobOf z (take (2 * z .t) tiles) (take (3 * k) colours) (take k counts))
+
+  pub parts-hold : P (frontJob z tiles colours counts) → P (jobOf z (take (2 * z .t) tiles) (take (3 * n) colours) (take n counts))
+  parts-hold x = subst⁻¹ by-number e x
+
+  pub front-holds : P (jobOf z (take (2 * z .t) tiles) (take (3 * n) colours) (take n counts)) → P (frontJob z tiles colours counts)
+  front-holds x = subst by-number e x

@@ -1,30 +1,34 @@
--- What a reading into room for any sheet says: the refusal, or a job that the slices then begin with. Assumes nothing.
-use mathlib.Core.Path.{_≡_, refl, sym, ap, ap₂, _∙_, subst}
-use Prim.Native.Nat.{ℕ, suc, _≤_, _<_}
+-- What a reading into room for any sheet says: the refusal, or a job that then stands in the first places. Assumes nothing.
+use mathlib.Core.Path.{_≡_, refl, sym, ap, ap₂, _∙_, subst, subst₂}
+use Prim.Native.Nat.{ℕ, suc, _*_, _≤_, _<_}
 use native.Mathlib.Omega.{arith}
 use mathlib.Core.Bool.{Bool, true, cond, _&&_}
 use mathlib.Core.List.{List, [], _∷_}
 use lib.Dec.{T, ltb, lt→ltb}
 use lib.Pow.{areBytes}
-use lib.ListN.{length, getD}
-use lib.Seq.{length-sets}
+use lib.ListN.{length, getD, take}
+use lib.Seq.{sets, length-sets}
 use lib.Ieee.{Float}
 use borrow.Author.Tests.{le-leb}
 use Rattle.format.specs.Format.{Answer, refused, accepted, encode}
 use Rattle.format.proofs.Tests.{and-in}
-use Rattle.job.specs.Job.{Job, job, tileSize}
+use Rattle.job.specs.declared.Sizes.{Sizes}
+use Rattle.job.specs.Job.{Job, jobOf}
+use Rattle.job.specs.Gives.{Plain}
 use Rattle.job.proofs.Ready.{plain-ready}
+use Rattle.palette_tile.specs.Tiles.{Shown}
 use Rattle.fits.proofs.Shown.{shown}
 use Rattle.sheet_format.specs.Sheet.{Sheet, edition1, sheet, readSheet}
 use Rattle.sheet_format.specs.Lists.{floats}
 use Rattle.sheet.specs.declared.Reading.{Reading}
 use Rattle.sheet.specs.declared.Reading.the-variants as reading
-use Rattle.sheet.specs.Sheets.{jobOf, Room, room, ReadOutcome, readOutcome, roomy, filled, readInto, readDef}
-use Rattle.sheet.proofs.Inverse.{sets-front, accepted-few, accepted-job, written-read}
+use Rattle.sheet.specs.Sheets.{sizesIn, jobIn, Room, room, ReadOutcome, readOutcome, roomy, filled, readInto, readDef}
+use Rattle.sheet.proofs.Inverse.{accepted-few, accepted-job, written-read}
 use Rattle.sheet.proofs.Again.{sheet-again}
 use Rattle.sheet.proofs.Accepted.{within-limit}
 use Rattle.sheet_pack.specs.Packed.{sheetOf}
-use Rattle.sheet_parts.specs.Begins.{Writable, Begins}
+use Rattle.sheet_parts.specs.Front.{Writable, coloursTo, frontJob, frontPalette, Front}
+use Rattle.sheet_parts.proofs.Parts.{written-front, number}
 
 pub are-bytes : (s : List ℕ) → ((i : ℕ) → getD s i 0 < 256) → T (areBytes s)
 are-bytes [] b = tt
@@ -37,102 +41,121 @@ pub record Lengths (h : Room) : Type 0 where
   pub counts : 5140 ≡ length (h .counts)
   pub palette : 768 ≡ length (h .palette)
 
+pub lengths : {tiles : List ℕ} {colours : List Float} {counts : List ℕ} {palette : List Float}
+    → 2048 ≡ length tiles → 15420 ≡ length colours → 5140 ≡ length counts → 768 ≡ length palette → Lengths (room tiles colours counts palette)
+lengths t c n p = record { tiles = t; colours = c; counts = n; palette = p }
+
 -- the file of the job that a sheet holds is that sheet's
-pub file-again : (b : List ℕ) (x : Sheet) → T (areBytes b) → readSheet edition1 b ≡ accepted x → encode (sheet edition1) (sheetOf (jobOf x) (floats (x .palette))) ≡ b
+pub file-again : (b : List ℕ) (x : Sheet) → T (areBytes b) → readSheet edition1 b ≡ accepted x → encode (sheet edition1) (sheetOf (jobIn x) (floats (x .palette))) ≡ b
 file-again b x h e = let r = written-read b x h e in ap (encode (sheet edition1)) (sheet-again x (r .1)) ∙ r .0
 
 -- and it can be written
-pub writable : (b : List ℕ) (x : Sheet) → T (areBytes b) → readSheet edition1 b ≡ accepted x → Writable (jobOf x) (floats (x .palette))
+pub writable : (b : List ℕ) (x : Sheet) → T (areBytes b) → readSheet edition1 b ≡ accepted x → Writable (jobIn x) (floats (x .palette))
 writable b x h e = record { passed = accepted-job b x h e; small = subst (λ (l : List ℕ). length l ≤ 65536) (sym (file-again b x h e)) (within-limit b x e .0) }
 
--- the sheet that was read, and its job by the sizes and the weight answered
-pub record Given (b : List ℕ) (after : Room) (s c t : ℕ) (w : Float) : Type 0 where
+-- the sheet that was read, by the numbers answered: its job and its palette stand in the first places
+pub record Given (b : List ℕ) (after : Room) (z : Sizes) : Type 0 where
   pub found : Sheet
   pub is : readSheet edition1 b ≡ accepted found
-  pub named : jobOf found ≡ job s c t w (jobOf found .tiles) (jobOf found .colours) (jobOf found .counts)
-  pub begins : Begins (after .tiles) (after .colours) (after .counts) (after .palette) (job s c t w (jobOf found .tiles) (jobOf found .colours) (jobOf found .counts)) (floats (found .palette))
+  pub job : frontJob z (after .tiles) (after .colours) (after .counts) ≡ jobIn found
+  pub palette : frontPalette z (after .palette) ≡ floats (found .palette)
+  pub front : Front z (after .tiles) (after .colours) (after .counts) (after .palette)
 
-module _ (b : List ℕ) (h : Room) (L : Lengths h) (r : Reading) (after : Room) (e : readOutcome r after ≡ readDef b h) where
-  enough : roomy (length (h .tiles)) (length (h .colours)) (length (h .counts)) (length (h .palette)) ≡ true
-  unfolding roomy
-  enough =
-      ap₂ (λ (x y : Bool). x && y) (le-leb 768 (length (h .palette)) (omega (arith, L .palette)))
-      (ap₂ (λ (x y : Bool). x && y) (le-leb 2048 (length (h .tiles)) (omega (arith, L .tiles)))
-      (ap₂ (λ (x y : Bool). x && y) (le-leb 5140 (length (h .counts)) (omega (arith, L .counts))) (le-leb 15420 (length (h .colours)) (omega (arith, L .colours)))))
+module _ (b : List ℕ) (h : Room) (L : Lengths h) where
+  -- a sheet that was accepted, in the room that it fills
+  module _ (bytes : T (areBytes b)) (x : Sheet) (e : readSheet edition1 b ≡ accepted x) where
+    abbrev J : Job
+    J = jobIn x
 
-  by-sheet : readOutcome r after ≡ readInto (readSheet edition1 b) h
-  unfolding readDef
-  by-sheet = e ∙ ap (λ (t : Bool). readInto (cond t (readSheet edition1 b) (refused 3)) h) enough
+    abbrev p : List Float
+    p = floats (x .palette)
 
-  pub refused-says : (n : ℕ) → r ≡ reading.Refused n → readSheet edition1 b ≡ refused n
-  refused-says n f = go (readSheet edition1 b) refl by-sheet
-    where
-      same : (n m : ℕ) → _≡_ {A = Reading} (reading.Refused n) (reading.Refused m) → n ≡ m
-      same n m k = cc
+    P : Plain J p true
+    P = plain-ready J p true (accepted-job b x bytes e)
 
-      never : (n s c t : ℕ) (w : Float) → _≡_ {A = Reading} (reading.Refused n) (reading.Sheet s c t w) → ⊥
-      never n s c t w k = let z : _≡_ {A = ℕ} 0 1 = cc in omega arith
+    abbrev n : ℕ
+    n = coloursTo (filled x h .tiles) (J .T)
 
-      go : (x : Answer Sheet) → readSheet edition1 b ≡ x → readOutcome r after ≡ readInto x h → readSheet edition1 b ≡ refused n
-      go (refused m) k g = k ∙ ap refused (sym (same n m (sym f ∙ ap (λ (o : ReadOutcome). o .answer) g)))
-      go (accepted x) k g = absurd (never n (jobOf x .S) (jobOf x .C) (jobOf x .T) (jobOf x .weight) (sym f ∙ ap (λ (o : ReadOutcome). o .answer) g))
+    table-fits : length (J .tiles) ≤ length (h .tiles)
+    table-fits = omega (arith, L .tiles, P .ready .table, P .ready .sizes .tiles)
 
-  -- a sheet that was accepted, and its job's sizes and weight
-  record Read (s c t : ℕ) (w : Float) : Type 0 where
-    pub sheet : Sheet
-    pub is : readSheet edition1 b ≡ accepted sheet
-    pub sizes : (jobOf sheet .S ≡ s) × (jobOf sheet .C ≡ c) × (jobOf sheet .T ≡ t) × (jobOf sheet .weight ≡ w)
-    pub lists : after ≡ filled sheet h
+    tiles-is : take (2 * J .T) (filled x h .tiles) ≡ J .tiles
+    tiles-is = written-front (2 * J .T) (J .tiles) (h .tiles) (P .ready .table) table-fits
 
-  sheet-says : (s c t : ℕ) (w : Float) → r ≡ reading.Sheet s c t w → Read s c t w
-  sheet-says s c t w f = go (readSheet edition1 b) refl by-sheet
-    where
-      same : (s c t : ℕ) (w : Float) (i j k : ℕ) (v : Float) → _≡_ {A = Reading} (reading.Sheet s c t w) (reading.Sheet i j k v) → (i ≡ s) × (j ≡ c) × (k ≡ t) × (v ≡ w)
-      same s c t w i j k v m = (cc, cc, cc, cc)
+    number-is : n ≡ length (J .counts)
+    number-is = number J (P .ready) (filled x h .tiles) tiles-is
 
-      never : (n : ℕ) → _≡_ {A = Reading} (reading.Sheet s c t w) (reading.Refused n) → ⊥
-      never n k = let z : _≡_ {A = ℕ} 0 1 = cc in omega arith
+    colours-fit : length (J .colours) ≤ length (h .colours)
+    colours-fit = omega (arith, L .colours, P .ready .three, accepted-few b x bytes e)
 
-      go : (x : Answer Sheet) → readSheet edition1 b ≡ x → readOutcome r after ≡ readInto x h → Read s c t w
-      go (refused m) k g = absurd (never m (sym f ∙ ap (λ (o : ReadOutcome). o .answer) g))
-      go (accepted x) k g = record {
-        sheet = x;
-        is = k;
-        sizes = same s c t w (jobOf x .S) (jobOf x .C) (jobOf x .T) (jobOf x .weight) (sym f ∙ ap (λ (o : ReadOutcome). o .answer) g);
-        lists = ap (λ (o : ReadOutcome). o .after) g;
-      }
+    colours-is : take (3 * n) (filled x h .colours) ≡ J .colours
+    colours-is = written-front (3 * n) (J .colours) (h .colours) (P .ready .three ∙ ap (λ (k : ℕ). 3 * k) (sym number-is)) colours-fit
 
-  module _ (bytes : T (areBytes b)) where
-    begins : (x : Sheet) → readSheet edition1 b ≡ accepted x → after ≡ filled x h → Begins (after .tiles) (after .colours) (after .counts) (after .palette) (jobOf x) (floats (x .palette))
-    begins x k a =
-        let J : Job = jobOf x in
-        let p : List Float = floats (x .palette) in
-        let P = plain-ready tileSize J p true (accepted-job b x bytes k) in
-        let few = accepted-few b x bytes k in
-        let lt : length (J .tiles) ≤ length (h .tiles) = omega (arith, L .tiles, P .ready .table, P .ready .sizes .tiles) in
-        let lf : length (J .colours) ≤ length (h .colours) = omega (arith, L .colours, P .ready .three) in
-        let lc : length (J .counts) ≤ length (h .counts) = omega (arith, L .counts) in
-        let lp : length p ≤ length (h .palette) = omega (arith, L .palette, P .lent .room, P .ready .sizes .cells) in
-        subst (λ (o : Room). Begins (o .tiles) (o .colours) (o .counts) (o .palette) J p) (sym a)
-        (record {
-          writable = writable b x bytes k;
-          shown = shown tileSize J p true (omega arith) P;
-          tiled = (omega (arith, length-sets (h .tiles) 0 (J .tiles)), sets-front (J .tiles) (h .tiles) lt);
-          coloured = (omega (arith, length-sets (h .colours) 0 (J .colours)), sets-front (J .colours) (h .colours) lf);
-          counted = (omega (arith, length-sets (h .counts) 0 (J .counts)), sets-front (J .counts) (h .counts) lc);
-          given = (omega (arith, length-sets (h .palette) 0 p), sets-front p (h .palette) lp);
-        })
+    counts-fit : length (J .counts) ≤ length (h .counts)
+    counts-fit = omega (arith, L .counts, accepted-few b x bytes e)
 
-    pub given : (s c t : ℕ) (w : Float) → r ≡ reading.Sheet s c t w → Given b after s c t w
-    given s c t w f =
-        let R = sheet-says s c t w f in
-        let x : Sheet = R .sheet in
-        let e : jobOf x ≡ job s c t w (jobOf x .tiles) (jobOf x .colours) (jobOf x .counts) =
-        ap₂ {C = Job} (λ i j. job i j (jobOf x .T) (jobOf x .weight) (jobOf x .tiles) (jobOf x .colours) (jobOf x .counts)) (R .sizes .0) (R .sizes .1)
-        ∙ ap₂ {C = Job} (λ i j. job s c i j (jobOf x .tiles) (jobOf x .colours) (jobOf x .counts)) (R .sizes .2) (R .sizes .3) in
-        record {
-          found = x;
-          is = R .is;
-          named = e;
-          begins = subst (λ (J : Job). Begins (after .tiles) (after .colours) (after .counts) (after .palette) J (floats (x .palette))) e (begins x (R .is) (R .lists));
-        }
+    counts-is : take n (filled x h .counts) ≡ J .counts
+    counts-is = written-front n (J .counts) (h .counts) (sym number-is) counts-fit
+
+    palette-fits : length p ≤ length (h .palette)
+    palette-fits = omega (arith, L .palette, P .lent .room, P .ready .sizes .cells)
+
+    palette-is : frontPalette (sizesIn x) (filled x h .palette) ≡ p
+    palette-is = written-front (3 * (J .S * J .C)) p (h .palette) (P .lent .room) palette-fits
+
+    job-is : frontJob (sizesIn x) (filled x h .tiles) (filled x h .colours) (filled x h .counts) ≡ J
+    job-is =
+        ap₂ {C = Job} (λ i j. jobOf (sizesIn x) i j (take n (filled x h .counts))) tiles-is colours-is
+        ∙ ap {B = Job} (λ i. jobOf (sizesIn x) (J .tiles) (J .colours) i) counts-is
+
+    in-front : Front (sizesIn x) (filled x h .tiles) (filled x h .colours) (filled x h .counts) (filled x h .palette)
+    in-front = record {
+      writable = subst₂ Writable (sym job-is) (sym palette-is) (writable b x bytes e);
+      shown = subst₂ (λ (K : Job) (q : List Float). Shown K q (J .S) (J .C)) (sym job-is) (sym palette-is) (shown J p true P);
+      few = omega (arith, number-is, P .ready .total);
+      tiled = omega (arith, length-sets (h .tiles) 0 (J .tiles), table-fits, P .ready .table);
+      coloured = omega (arith, length-sets (h .colours) 0 (J .colours), colours-fit, P .ready .three, number-is);
+      counted = omega (arith, length-sets (h .counts) 0 (J .counts), counts-fit, number-is);
+      given = omega (arith, length-sets (h .palette) 0 p, palette-fits, P .lent .room);
+    }
+
+    filled-says : Given b (filled x h) (sizesIn x)
+    filled-says = record { found = x; is = e; job = job-is; palette = palette-is; front = in-front }
+
+  -- ---- by what the reader answered
+  module _ (r : Reading) (after : Room) (e : readOutcome r after ≡ readDef b h) where
+    enough : roomy (length (h .tiles)) (length (h .colours)) (length (h .counts)) (length (h .palette)) ≡ true
+    unfolding roomy
+    enough =
+        ap₂ (λ (x y : Bool). x && y) (le-leb 768 (length (h .palette)) (omega (arith, L .palette)))
+        (ap₂ (λ (x y : Bool). x && y) (le-leb 2048 (length (h .tiles)) (omega (arith, L .tiles)))
+        (ap₂ (λ (x y : Bool). x && y) (le-leb 5140 (length (h .counts)) (omega (arith, L .counts))) (le-leb 15420 (length (h .colours)) (omega (arith, L .colours)))))
+
+    by-sheet : readOutcome r after ≡ readInto (readSheet edition1 b) h
+    unfolding readDef
+    by-sheet = e ∙ ap (λ (t : Bool). readInto (cond t (readSheet edition1 b) (refused 3)) h) enough
+
+    apart : (n : ℕ) (z : Sizes) → _≡_ {A = Reading} (reading.Refused n) (reading.Sheet z) → ⊥
+    apart n z k = let f : _≡_ {A = ℕ} 0 1 = cc in omega arith
+
+    pub refused-says : (n : ℕ) → r ≡ reading.Refused n → readSheet edition1 b ≡ refused n
+    refused-says n f = by (readSheet edition1 b) refl by-sheet
+      where
+        same : (n m : ℕ) → _≡_ {A = Reading} (reading.Refused n) (reading.Refused m) → n ≡ m
+        same n m k = cc
+
+        by : (x : Answer Sheet) → readSheet edition1 b ≡ x → readOutcome r after ≡ readInto x h → readSheet edition1 b ≡ refused n
+        by (refused m) k g = k ∙ ap refused (sym (same n m (sym f ∙ ap (λ (o : ReadOutcome). o .answer) g)))
+        by (accepted x) k g = absurd (apart n (sizesIn x) (sym f ∙ ap (λ (o : ReadOutcome). o .answer) g))
+
+    pub sheet-says : T (areBytes b) → (z : Sizes) → r ≡ reading.Sheet z → Given b after z
+    sheet-says bytes z f = by (readSheet edition1 b) refl by-sheet
+      where
+        same : (z y : Sizes) → _≡_ {A = Reading} (reading.Sheet z) (reading.Sheet y) → z ≡ y
+        same z y k = cc
+
+        by : (x : Answer Sheet) → readSheet edition1 b ≡ x → readOutcome r after ≡ readInto x h → Given b after z
+        by (refused m) k g = absurd (apart m z (sym (ap (λ (o : ReadOutcome). o .answer) g) ∙ f))
+        by (accepted x) k g =
+            subst₂ (Given b) (sym (ap (λ (o : ReadOutcome). o .after) g)) (sym (same z (sizesIn x) (sym f ∙ ap (λ (o : ReadOutcome). o .answer) g)))
+            (filled-says bytes x k)

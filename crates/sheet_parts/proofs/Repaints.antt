@@ -1,6 +1,6 @@
 -- A sheet that was read, with another palette that passes: it is a sheet that the reader accepts, the same but for its palette. Assumes nothing.
 use Prim.Native.Nat.{ℕ, zero, suc}
-use mathlib.Core.Path.{_≡_, ap, subst⁻¹, _∙_}
+use mathlib.Core.Path.{_≡_, refl, ap, subst⁻¹, _∙_}
 use mathlib.Core.Bool.{true}
 use mathlib.Core.List.{List, [], _∷_}
 use lib.Dec.{T}
@@ -10,7 +10,6 @@ use lib.Ieee.{Float, binary32, fits}
 use lib.Ieee.Fits.{nan-fits}
 use lib.Ieee.Bits.{ofBits-fits}
 use Rattle.format.specs.Format.{accepted, encode}
-use Rattle.job.specs.Job.{tileSize}
 use Rattle.job.specs.Checks.{plainAnswer}
 use Rattle.job.specs.Gives.{Plain}
 use Rattle.job.proofs.Ready.{plain-ready}
@@ -18,7 +17,7 @@ use Rattle.color.specs.Color.{Bounded}
 use Rattle.sheet_format.specs.Sheet.{Colour, Sheet, edition1, sheet, readSheet}
 use Rattle.sheet_format.specs.Lists.{floats, tileFloats, allFloats}
 use Rattle.sheet_pack.specs.Packed.{sheetOf}
-use Rattle.sheet.specs.Sheets.{jobOf}
+use Rattle.sheet.specs.Sheets.{jobIn}
 use Rattle.sheet.proofs.Floats.{Singles, singles-append}
 use Rattle.sheet.proofs.Kept.{job-back, palette-back, sheet-good}
 use Rattle.sheet.proofs.Again.{sheet-again}
@@ -41,34 +40,34 @@ singles-all [] = singles-floats []
 singles-all (x ∷ v) = singles-append (tileFloats x) (allFloats v) (singles-tile x) (singles-all v)
 
 -- ---- the sheet repainted
-module _ (b : List ℕ) (x : Sheet) (h : T (areBytes b)) (e : readSheet edition1 b ≡ accepted x) (q : List Float) (Q : Singles q) (ok : plainAnswer tileSize (jobOf x) q true ≡ 0) where
-  passed : Plain tileSize (jobOf x) q true
-  passed = plain-ready tileSize (jobOf x) q true ok
+module _ (b : List ℕ) (x : Sheet) (h : T (areBytes b)) (e : readSheet edition1 b ≡ accepted x) (q : List Float) (Q : Singles q) (ok : plainAnswer (jobIn x) q true ≡ 0) where
+  passed : Plain (jobIn x) q true
+  passed = plain-ready (jobIn x) q true ok
 
-  weighed : T (fits binary32 (jobOf x .weight))
+  weighed : T (fits binary32 (jobIn x .weight))
   weighed = ofBits-fits binary32 (x .weight)
 
-  pub read-repainted : readSheet edition1 (encode (sheet edition1) (sheetOf (jobOf x) q)) ≡ accepted (sheetOf (jobOf x) q)
+  pub read-repainted : readSheet edition1 (encode (sheet edition1) (sheetOf (jobIn x) q)) ≡ accepted (sheetOf (jobIn x) q)
   read-repainted =
-      read-written (sheetOf (jobOf x) q) (sheet-good (jobOf x) (passed .ready) (singles-all (x .content)) weighed q (passed .lent) Q)
-      (still-writable (jobOf x) (floats (x .palette)) q (writable b x h e) ok .small)
+      read-written (sheetOf (jobIn x) q) (sheet-good (jobIn x) (passed .ready) refl (singles-all (x .content)) weighed q (passed .lent) Q)
+      (still-writable (jobIn x) (floats (x .palette)) q (writable b x h e) ok .small)
 
   -- patterns and tiles are those that were read, the job is the same, and the palette the other
-  pub same-weight : sheetOf (jobOf x) q .weight ≡ x .weight
+  pub same-weight : sheetOf (jobIn x) q .weight ≡ x .weight
   same-weight = ap (λ (y : Sheet). y .weight) (sheet-again x (written-read b x h e .1))
 
-  pub same-content : sheetOf (jobOf x) q .content ≡ x .content
+  pub same-content : sheetOf (jobIn x) q .content ≡ x .content
   same-content = ap (λ (y : Sheet). y .content) (sheet-again x (written-read b x h e .1))
 
-  pub same-job : jobOf (sheetOf (jobOf x) q) ≡ jobOf x
-  same-job = job-back (jobOf x) (passed .ready) (singles-all (x .content)) weighed q (passed .lent) Q
+  pub same-job : jobIn (sheetOf (jobIn x) q) ≡ jobIn x
+  same-job = job-back (jobIn x) (passed .ready) refl (singles-all (x .content)) weighed q (passed .lent) Q
 
-  pub its-palette : floats (sheetOf (jobOf x) q .palette) ≡ q
-  its-palette = palette-back (jobOf x) (passed .ready) (singles-all (x .content)) weighed q (passed .lent) Q
+  pub its-palette : floats (sheetOf (jobIn x) q .palette) ≡ q
+  its-palette = palette-back (jobIn x) (passed .ready) refl (singles-all (x .content)) weighed q (passed .lent) Q
 
-  pub its-bound : Bounded (floats (sheetOf (jobOf x) q .palette)) 2
+  pub its-bound : Bounded (floats (sheetOf (jobIn x) q .palette)) 2
   its-bound = subst⁻¹ (λ (v : List Float). Bounded v 2) its-palette (passed .lent .near)
 
   -- in as many bytes
-  pub repainted-long : length (encode (sheet edition1) (sheetOf (jobOf x) q)) ≡ length b
-  repainted-long = same-long (jobOf x) (floats (x .palette)) q (writable b x h e .passed) ok ∙ ap length (file-again b x h e)
+  pub repainted-long : length (encode (sheet edition1) (sheetOf (jobIn x) q)) ≡ length b
+  repainted-long = same-long (jobIn x) (floats (x .palette)) q (writable b x h e .passed) ok ∙ ap length (file-again b x h e)

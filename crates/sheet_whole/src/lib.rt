@@ -8,7 +8,7 @@ ghost use lib.ListN.{length, replicate};
 ghost use lib.Seq.{sets};
 ghost use Rattle.bits.specs.Bits.{bits};
 ghost use Rattle.format.specs.Format.{bytesFor};
-ghost use Rattle.job.specs.Job.{jobOf, tileSize};
+ghost use Rattle.job.specs.Job.{jobOf};
 ghost use Rattle.job.specs.Gives.{Ready, Lent};
 ghost use Rattle.sheet_format.specs.Sheet.{edition1, sizeOf};
 ghost use Rattle.sheet_pack.specs.Packed.{sheetBits, sheetOf};
@@ -23,13 +23,13 @@ pub fn pack_sheet(
     dst: &mut [u8],
     size: usize,
 )
-    requires { ⌜ Ready tileSize (jobOf z (now tiles) (now colours) (now counts)) × Lent (z .s) (z .c) (now palette) × (size ≡ sizeOf edition1 (z .s) (z .c) (z .t) (length (now counts))) × (bytesFor size ≤ length (now dst)) × (bytesFor size ≤ 65536) ⌝ }
+    requires { ⌜ Ready (jobOf z (now tiles) (now colours) (now counts)) × Lent (z .s) (z .c) (now palette) × (size ≡ sizeOf edition1 (z .s) (z .c) (z .t) (length (now counts))) × (bytesFor size ≤ length (now dst)) × (bytesFor size ≤ 65536) ⌝ }
     ensures { λ r. ⌜ bits (now (dst .exit)) ≡ sets (bits (now (dst .entry))) 0 (sheetBits edition1 (sheetOf (jobOf z (now (tiles .entry)) (now (colours .entry)) (now (counts .entry))) (now (palette .entry))) ++ replicate (8 * bytesFor size - size) false) ⌝ }
 {
     let p = sheet_format::HEAD_BITS + 32 * palette.len();
     let spare = 8 * format::bytes_for(size) - size;
     sheet_pack::pack_head(dst, z.s, z.c, z.t, f32::to_bits(z.weight));
     sheet_pack::pack_components(dst, sheet_format::HEAD_BITS, palette);
-    sheet_pack::pack_tiles(dst, p, z.t, tiles, colours, counts);
+    sheet_pack::pack_tiles(dst, p, z, tiles, colours, counts);
     bits_put::put(dst, size, spare, 0);
 }

@@ -1,15 +1,8 @@
 // What `train` takes beside a run: room for the memory of a run over any sheet, and colours cut to -2..2. Assumes nothing.
 ghost use mathlib.Core.Path.{_≡_};
-ghost use Prim.Native.Nat.{ℕ, _≤_};
-ghost use lib.ListN.{length, take, getD};
+ghost use Prim.Native.Nat.{_≤_};
+ghost use lib.ListN.{length, take};
 ghost use Rattle.training.specs.Training.{cutOne, cut};
-
-// A hint of 0 for each tile.
-pub fn no_hints() -> [u32; 1024]
-    ensures { λ r. ⌜ (1024 ≡ length r) × ((k : ℕ) → getD r k 0 ≡ 0) ⌝ }
-{
-    [0; 1024]
-}
 
 // Room for the order and for the samples of any sheet. The contracts give only the lengths.
 pub fn order_room() -> [u32; 16384]

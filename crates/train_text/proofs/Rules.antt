@@ -9,7 +9,7 @@ use lib.ListN.{length, getD}
 use lib.Ieee.{Float}
 use borrow.Author.Tests.{eq-eqb, le-leb, lt-ltb}
 use Rattle.lists.proofs.Tests.{and-i}
-use Rattle.job.specs.Job.{Job, tileSize, mostSamples, two}
+use Rattle.job.specs.Job.{Job, mostSamples, two}
 use Rattle.job.specs.Rules.{Passed, numbered}
 use Rattle.job.proofs.Passing.{all-pass, pass-all}
 use Rattle.job.specs.Checks.{componentsFit, sampleTest, sampleFits, samplesFit, plainRules, plainAnswer}
@@ -23,34 +23,34 @@ use Rattle.train_samples.specs.Samples.{units, samplesTo, unitsTo, Countable}
 use Rattle.train_samples.proofs.Numbers.{length-samples}
 use Rattle.train_samples.proofs.Named.{sample-named}
 
-module _ (J : Job) (p : List Float) (h : plainAnswer tileSize J p true ≡ 0) where
-  passed : Passed (plainRules tileSize J p true)
+module _ (J : Job) (p : List Float) (h : plainAnswer J p true ≡ 0) where
+  passed : Passed (plainRules J p true)
   unfolding plainAnswer numbered
-  passed = all-pass (plainRules tileSize J p true) refl h
+  passed = all-pass (plainRules J p true) refl h
 
-  ready : Ready tileSize J
-  ready = plain-ready tileSize J p true h .ready
+  ready : Ready J
+  ready = plain-ready J p true h .ready
 
   pub palette-long : length p ≡ 3 * (J .S * J .C)
-  palette-long = plain-ready tileSize J p true h .lent .room
+  palette-long = plain-ready J p true h .lent .room
 
   -- its tiles can be counted
   pub countable : Countable (J .tiles) (J .counts) (J .T)
   countable = record {
     few = ready .sizes .tiles;
-    placed = λ i l. counts-placed tileSize J ready i l;
-    short = λ i l. omega (arith, ready .short i l, counts-length tileSize J ready i l);
+    placed = λ i l. counts-placed J ready i l;
+    short = λ i l. omega (arith, ready .short i l, counts-length J ready i l);
     full = λ i l. unfold units in ready .full i l;
   }
 
   -- with another palette
-  pub repainted : (x : List Float) → length x ≡ 3 * (J .S * J .C) → componentsFit two x ≡ true → plainAnswer tileSize J x true ≡ 0
+  pub repainted : (x : List Float) → length x ≡ 3 * (J .S * J .C) → componentsFit two x ≡ true → plainAnswer J x true ≡ 0
   unfolding plainAnswer
   repainted x long fit =
       let q = passed .1 .1 .1 in
       let r = q .1 .1 .1 .1 in
       let v = r .1 .1 .1 .1 in
-      sym (pass-all (plainRules tileSize J x true)
+      sym (pass-all (plainRules J x true)
       (passed .0, (passed .1 .0, (passed .1 .1 .0, (q .0, (q .1 .0, (eq-eqb (length x) (3 * (J .S * J .C)) long, (refl, (r .0, (r .1 .0, (r .1 .1 .0, (r .1 .1 .1 .0, (fit, (v .1 .0, tt))))))))))))))
 
   -- with its samples
@@ -64,7 +64,7 @@ module _ (J : Job) (p : List Float) (h : plainAnswer tileSize J p true ≡ 0) wh
       and-i (ltb (getD (samplesTo (J .tiles) (J .counts) (J .T)) (2 * i) 0) (J .T)) _ (lt-ltb _ (J .T) (s .0)) (lt-ltb _ _ (s .1)))
 
   pub run-passed : 1 ≤ unitsTo (J .tiles) (J .counts) (J .T) → unitsTo (J .tiles) (J .counts) (J .T) ≤ mostSamples
-      → Passed (jobRules tileSize (course J (unitsTo (J .tiles) (J .counts) (J .T)) (samplesTo (J .tiles) (J .counts) (J .T))) true)
+      → Passed (jobRules (course J (unitsTo (J .tiles) (J .counts) (J .T)) (samplesTo (J .tiles) (J .counts) (J .T))) true)
   unfolding n
   run-passed some few =
       let q = passed .1 .1 .1 in

@@ -8,7 +8,7 @@ use mathlib.Core.List.{List}
 use lib.ListN.{length}
 use lib.Ieee.{Float}
 use borrow.Author.Tests.{eq-eqb}
-use Rattle.job.specs.Job.{tileSize, two}
+use Rattle.job.specs.Job.{two}
 use Rattle.job.specs.Rules.{Passed}
 use Rattle.job.specs.Checks.{componentsFit}
 use Rattle.job.specs.Gives.{Sampled}
@@ -19,7 +19,7 @@ use Rattle.stages.specs.Calls.{Memory, stateOf, memoryOf, Outcome, coloursRoom,
 use Rattle.calls.proofs.Cases.{decide}
 use Rattle.calls.specs.Fit.{Fit}
 use Rattle.calls.proofs.Fit.{start-fit, advance-fit}
-use Rattle.calls.proofs.Accepted.{few-pixels, job-passed, holds}
+use Rattle.calls.proofs.Accepted.{job-passed, holds}
 use Rattle.calls.specs.Accepted.{Roomy}
 use Rattle.calls.proofs.Answers.{start-closed, advance-opened, advance-closed, handIn-closed}
 use Rattle.calls.proofs.Next.{held-state, done, refused, handIn-leaves}
@@ -27,9 +27,9 @@ use Rattle.training.specs.Training.{cut, all, goOn, handCut, turn, train
 use Rattle.training.proofs.Cuts.{length-cut, cut-fits}
 use Rattle.training.proofs.Stops.{handed-late, handed-refined, handed-last, to-reduction, to-drawn, stays}
 
-module _ (K : Course) (P : Passed (jobRules tileSize K true)) where
-  D : Sampled tileSize (K .job) (K .n) (K .samples) true
-  D = job-passed tileSize K true P
+module _ (K : Course) (P : Passed (jobRules K true)) where
+  D : Sampled (K .job) (K .n) (K .samples) true
+  D = job-passed K true P
 
   -- a memory that holds a state that every call accepts
   record Holds (m : Memory) (s : State) : Type 0 where
@@ -39,39 +39,39 @@ module _ (K : Course) (P : Passed (jobRules tileSize K true)) where
   started : (m : Memory) → Roomy K m → Holds (startCall K m 0 .after) (start K 0 (m .hints))
   unfolding startCall
   started m r = record {
-    is = ap (λ (x : Outcome). x .after) (done (startAnswer K m) m 0 (start K 0 (m .hints)) (start-closed tileSize K m P r));
-    fit = start-fit tileSize few-pixels K true D 0 (m .hints) (r .hints);
+    is = ap (λ (x : Outcome). x .after) (done (startAnswer K m) m 0 (start K 0 (m .hints)) (start-closed K m P r));
+    fit = start-fit K true D 0 (m .hints) (r .hints);
   }
 
   -- an advance. At a stop it is refused, and there the definition makes no draw
   gone : {m : Memory} {s : State} → Holds m s → Holds (goCall K m) (goOn K s)
   unfolding goOn
-  gone {m} {s} H = record { is = ap (goCall K) (H .is) ∙ by (decide (draws (s .rec .stage))); fit = advance-fit tileSize few-pixels K true D all s (H .fit) }
+  gone {m} {s} H = record { is = ap (goCall K) (H .is) ∙ by (decide (draws (s .rec .stage))); fit = advance-fit K true D all s (H .fit) }
     where
       by : (draws (s .rec .stage) ≡ true) ⊎ (draws (s .rec .stage) ≡ false) → goCall K (memoryOf s) ≡ memoryOf (advance K all s)
       by (inl d) =
           unfold advanceCall in
-          ap (λ (x : Outcome). x .after) (done (advanceAnswer K (memoryOf s)) (memoryOf s) _ (advance K all (stateOf (memoryOf s))) (advance-closed tileSize K (memoryOf s) (holds tileSize K s P (H .fit)) (rw (held-state s) d)))
+          ap (λ (x : Outcome). x .after) (done (advanceAnswer K (memoryOf s)) (memoryOf s) _ (advance K all (stateOf (memoryOf s))) (advance-closed K (memoryOf s) (holds K s P (H .fit)) (rw (held-state s) d)))
           ∙ ap (λ (z : State). memoryOf (advance K all z)) (held-state s)
       by (inr d) =
           unfold advanceCall in
-          ap (λ (x : Outcome). x .after) (refused (advanceAnswer K (memoryOf s)) (memoryOf s) _ (advance K all (stateOf (memoryOf s))) (λ e. true≢false (sym (rw (held-state s) at (advance-opened tileSize K (memoryOf s) e .1)) ∙ d)))
+          ap (λ (x : Outcome). x .after) (refused (advanceAnswer K (memoryOf s)) (memoryOf s) _ (advance K all (stateOf (memoryOf s))) (λ e. true≢false (sym (rw (held-state s) at (advance-opened K (memoryOf s) e .1)) ∙ d)))
           ∙ ap memoryOf (sym (stays K s d))
 
   -- a hand-in at a stop
   handed : {m : Memory} {s : State} → Holds m s → stops (s .rec .stage) ≡ true → Holds (stopCall K m) (handCut K s)
   unfolding handCut
-  handed {m} {s} H d = record { is = ap (stopCall K) (H .is) ∙ left; fit = subst (Fit K) (ap stateOf left ∙ held-state (handIn K (cut (s .palette)) s)) (handIn-leaves tileSize few-pixels K (memoryOf s) (cut (memoryOf s .palette)) taken .fit) }
+  handed {m} {s} H d = record { is = ap (stopCall K) (H .is) ∙ left; fit = subst (Fit K) (ap stateOf left ∙ held-state (handIn K (cut (s .palette)) s)) (handIn-leaves K (memoryOf s) (cut (memoryOf s .palette)) taken .fit) }
     where
       same : memoryOf s .palette ≡ s .palette
       same = unfold memoryOf in refl
 
-      long : coloursRoom tileSize K (cut (memoryOf s .palette)) ≡ true
+      long : coloursRoom K (cut (memoryOf s .palette)) ≡ true
       long = unfold coloursRoom in eq-eqb _ _ (length-cut (memoryOf s .palette) ∙ ap length same ∙ H .fit .sound .held .size)
 
       taken : handInAnswer K (memoryOf s) (cut (memoryOf s .palette)) ≡ 0
       taken =
-          handIn-closed tileSize K (memoryOf s) (cut (memoryOf s .palette)) (holds tileSize K s P (H .fit)) (rw (held-state s) d) long
+          handIn-closed K (memoryOf s) (cut (memoryOf s .palette)) (holds K s P (H .fit)) (rw (held-state s) d) long
           (cut-fits (memoryOf s .palette) (rw same (H .fit .sound .held .bound)))
 
       left : stopCall K (memoryOf s) ≡ memoryOf (handIn K (cut (s .palette)) s)

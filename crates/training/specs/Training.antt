@@ -4,7 +4,7 @@ use Prim.Native.Nat.{ℕ, zero, suc}
 use mathlib.Core.Bool.{cond}
 use mathlib.Core.List.{List, map}
 use lib.Ieee.{Float, lt, neg}
-use Rattle.job.specs.Job.{two, tileSize}
+use Rattle.job.specs.Job.{two}
 use Rattle.quantizer.specs.Course.{Course}
 use Rattle.stages.specs.State.{State}
 use Rattle.stages.specs.Stages.{start, advance, handIn}

@@ -9,10 +9,10 @@ check-assign-requires : tie.Need-check-assign-requires
 check-assign-requires c κs = search needs
 
 returns : tie.Need-returns
-returns c = stop _ _ _ _ _ (c .before .check-assign .ensures) (c .if1 .taken)
+returns c = stop _ _ _ _ (c .before .check-assign .ensures) (c .if1 .taken)
 
 assign-tiles-requires : tie.Need-assign-tiles-requires
-assign-tiles-requires c κs = go _ _ _ _ _ (c .before .before .before .check-assign .ensures) (c .before .before .if1 .left) (omega arith)
+assign-tiles-requires c κs = go _ _ _ _ (c .before .before .before .check-assign .ensures) (c .before .before .if1 .left)
 
 same-length : tie.Need-same-length
 same-length c = search needs
@@ -21,7 +21,7 @@ same-length-2 : tie.Need-same-length-2
 same-length-2 c = search needs
 
 returns-2 : tie.Need-returns-2
-returns-2 c = done _ _ _ _ _ (c .before .before .before .before .before .before .before .before .check-assign .ensures) (c .before .before .before .before .before .before .before .if1 .left) _ (c .before .before .before .before .assign-tiles .ensures)
+returns-2 c = done _ _ _ _ (c .before .before .before .before .before .before .before .before .check-assign .ensures) (c .before .before .before .before .before .before .before .if1 .left) _ (c .before .before .before .before .assign-tiles .ensures)
 
 pub assign-spec : {M : Type 1} → statement M
 assign-spec =

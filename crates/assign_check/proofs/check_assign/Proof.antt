@@ -11,7 +11,7 @@ check-job-requires : tie.Need-check-job-requires
 check-job-requires c κs = search needs
 
 returns : tie.Need-returns
-returns c = checked _ _ _ _ _ _ _ (c .before .has-room .ensures) (c .check-job .ensures)
+returns c = checked _ _ _ _ _ _ (c .before .has-room .ensures) (c .check-job .ensures)
 
 pub check-assign-spec : {M : Type 1} → statement M
 check-assign-spec = tie.close (tie.spec has-room-requires check-job-requires returns)

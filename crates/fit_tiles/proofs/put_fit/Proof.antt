@@ -20,33 +20,42 @@ slice-aggregate-put-tiles : tie.Need-slice-aggregate-put-tiles
 slice-aggregate-put-tiles c = search needs
 
 put-tiles-requires : tie.Need-put-tiles-requires
-put-tiles-requires c κs = (
-  c .before .before .before .before .before .before .before .before .before .before .before .before .before .pre .0,
-  c .before .before .before .before .before .before .before .before .before .before .before .before .before .pre .1,
-  c .before .before .before .before .before .before .before .before .before .before .before .before .before .pre .0 .ready .sizes .few,
-  zero-at 16,
-  omega (arith, c .before .before .before .before .before .put-head .ensures .place, head-most (c .before .before .before .before .before .before .before .before .before .before .before .before .before .args .t) (c .before .before .before .before .before .before .before .before .before .before .before .before .before .args .s), c .before .before .before .before .before .before .before .before .before .before .before .before .before .pre .0 .ready .sizes .tiles, c .before .before .before .before .before .put-head .kept .0),
-)
+put-tiles-requires c κs =
+    let after-put-head = c .before .before .before .before .before in
+    let lent = after-put-head .before .before .before .before .before .before .before in
+    let start = lent .before .before .before in
+    let a = start .args in (
+      start .pre .0,
+      start .pre .1,
+      start .pre .0 .ready .sizes .few,
+      zero-at 16,
+      omega (arith, after-put-head .put-head .ensures .place, head-most (a .z .t) (a .z .s), start .pre .0 .ready .sizes .tiles, after-put-head .put-head .kept .0),
+    )
 
 slice-aggregate-put-loads : tie.Need-slice-aggregate-put-loads
 slice-aggregate-put-loads c = search needs
 
 put-loads-requires : tie.Need-put-loads-requires
-put-loads-requires c κs = (
-  omega (arith, c .before .before .before .before .before .before .before .put-tiles .kept .1 .1 .1 .1 .1 .1 .1 .1 .1 .0, c .before .before .before .before .before .before .before .before .before .before .before .before .before .before .before .before .before .before .before .before .before .pre .0 .ready .sizes .few),
-  c .before .before .before .before .before .before .before .before .before .before .before .before .before .before .before .before .before .before .before .before .before .pre .0 .ready .sizes .few,
-  omega (
-    arith,
-    c .before .before .before .before .before .before .before .before .before .before .before .before .before .put-head .ensures .place,
-    head-most (c .before .before .before .before .before .before .before .before .before .before .before .before .before .before .before .before .before .before .before .before .before .args .t) (c .before .before .before .before .before .before .before .before .before .before .before .before .before .before .before .before .before .before .before .before .before .args .s),
-    c .before .before .before .before .before .before .before .put-tiles .ensures .0 .place,
-    tile-lines-most (jobOf (c .before .before .before .before .before .before .before .before .before .before .before .before .before .before .before .before .before .before .before .before .before .args .z) (c .before .before .before .before .before .before .before .before .before .before .before .before .before .before .before .before .before .before .before .before .before .args .tiles .now) (c .before .before .before .before .before .before .before .before .before .before .before .before .before .before .before .before .before .before .before .before .before .args .colours .now) (c .before .before .before .before .before .before .before .before .before .before .before .before .before .before .before .before .before .before .before .before .before .args .counts .now)) (c .before .before .before .before .before .before .before .before .before .before .before .before .before .before .before .before .before .before .before .before .before .args .palette .now) (c .before .before .before .before .before .before .before .before .before .before .before .before .before .before .before .before .before .before .before .before .before .args .t),
-    c .before .before .before .before .before .before .before .before .before .before .before .before .before .before .before .before .before .before .before .before .before .pre .0 .ready .sizes .tiles,
-    c .before .before .before .before .before .before .before .before .before .before .before .before .before .before .before .before .before .before .before .before .before .pre .0 .ready .sizes .few,
-    c .before .before .before .before .before .before .before .before .before .before .before .before .before .put-head .kept .0,
-    c .before .before .before .before .before .before .before .put-tiles .kept .1 .1 .1 .1 .1 .1 .1 .1 .1 .1 .0,
-  ),
-)
+put-loads-requires c κs =
+    let after-put-tiles = c .before .before .before .before .before .before .before in
+    let after-put-head = after-put-tiles .before .before .before .before .before .before in
+    let lent = after-put-head .before .before .before .before .before .before .before in
+    let start = lent .before .before .before in
+    let a = start .args in (
+      omega (arith, after-put-tiles .put-tiles .kept .1 .1 .1 .1 .1 .1 .0, start .pre .0 .ready .sizes .few),
+      start .pre .0 .ready .sizes .few,
+      omega (
+        arith,
+        after-put-head .put-head .ensures .place,
+        head-most (a .z .t) (a .z .s),
+        after-put-tiles .put-tiles .ensures .0 .place,
+        tile-lines-most (jobOf (a .z) (a .tiles .now) (a .colours .now) (a .counts .now)) (a .palette .now) (a .z .t),
+        start .pre .0 .ready .sizes .tiles,
+        start .pre .0 .ready .sizes .few,
+        after-put-head .put-head .kept .0,
+        after-put-tiles .put-tiles .kept .1 .1 .1 .1 .1 .1 .1 .0,
+      ),
+    )
 
 same-length : tie.Need-same-length
 same-length c = search needs
@@ -56,8 +65,16 @@ same-length-2 c = search needs
 
 returns : tie.Need-returns
 returns c =
-    all-stored (jobOf (c .before .before .before .before .before .before .before .before .before .before .before .before .before .before .before .before .before .before .before .before .before .before .before .before .args .z) (c .before .before .before .before .before .before .before .before .before .before .before .before .before .before .before .before .before .before .before .before .before .before .before .before .args .tiles .now) (c .before .before .before .before .before .before .before .before .before .before .before .before .before .before .before .before .before .before .before .before .before .before .before .before .args .colours .now) (c .before .before .before .before .before .before .before .before .before .before .before .before .before .before .before .before .before .before .before .before .before .before .before .before .args .counts .now)) (c .before .before .before .before .before .before .before .before .before .before .before .before .before .before .before .before .before .before .before .before .before .before .before .before .args .palette .now) (c .before .before .before .before .before .before .before .before .before .before .put-tiles .last .1 .1 .1 .1 .1 .1 .1 .1 .1 .0) _ _ _ _ (c .before .before .before .before .before .before .before .before .before .before .before .before .before .before .before .before .put-head .result) (c .before .before .before .before .before .before .before .before .before .before .put-tiles .result) (c .before .before .put-loads .result)
-    (c .before .before .before .before .before .before .before .before .before .before .before .before .before .before .before .before .put-head .ensures) (c .before .before .before .before .before .before .before .before .before .before .put-tiles .ensures .0) (c .before .before .put-loads .ensures) (c .before .before .before .before .before .before .before .before .before .before .put-tiles .ensures .1)
+    let after-put-loads = c .before .before in
+    let after-hints = after-put-loads .before .before .before .before .before .before .before in
+    let after-put-tiles = after-hints .before in
+    let after-put-head = after-put-tiles .before .before .before .before .before .before in
+    let lent = after-put-head .before .before .before .before .before .before .before in
+    let start = lent .before .before .before in
+    let a = start .args in
+    all-stored (jobOf (a .z) (a .tiles .now) (a .colours .now) (a .counts .now)) (a .palette .now) (after-put-tiles .put-tiles .last .1 .1 .1 .1 .1 .1 .0) _ _ _ _
+    (after-put-head .put-head .result) (after-put-tiles .put-tiles .result) (after-put-loads .put-loads .result)
+    (after-put-head .put-head .ensures) (after-put-tiles .put-tiles .ensures .0) (after-put-loads .put-loads .ensures) (after-put-tiles .put-tiles .ensures .1)
 
 pub put-fit-spec : {M : Type 1} → statement M
 put-fit-spec =

@@ -40,11 +40,17 @@ loop-less c = omega arith
 
 loop-again : tie.Need-loop-again Inv-loop μ-loop
 loop-again c =
-    let room = load-most (c .before .before .before .before .before .before .loop .k) (getD (c .before .before .before .before .before .before .before .before .before .args .loads .now) (c .before .before .before .before .before .before .loop .k) 0) in (
+    let after-put-load = c .before .before in
+    let at-loop = after-put-load .before .before .before .before in
+    let start = at-loop .before .before .before in
+    let turn = at-loop .loop in
+    let a = start .args in
+    let room = load-most (turn .k) (getD (a .loads .now) (turn .k) 0) in (
       omega arith,
-      c .before .before .put-load .kept .0 ∙ c .before .before .before .before .before .before .loop .inv .1,
-      omega (arith, c .before .before .put-load .ensures .place),
-      loads-more _ (c .before .before .before .before .before .before .before .before .before .args .out .now) (c .before .before .before .before .before .before .loop .out) (c .before .before .put-load .last .0) (c .before .before .before .before .before .before .before .before .before .args .at) (c .before .before .before .before .before .before .loop .q) (c .before .before .put-load .result) (c .before .before .before .before .before .before .loop .k) (c .before .before .before .before .before .before .loop .inv .3) (c .before .before .put-load .ensures),
+      after-put-load .put-load .kept .0 ∙ turn .inv .1,
+      omega (arith, after-put-load .put-load .ensures .place),
+      loads-more _ (a .out .now) (turn .out) (after-put-load .put-load .last .0) (a .at) (turn .q) (after-put-load .put-load .result) (turn .k) (turn .inv .3)
+          (after-put-load .put-load .ensures),
     )
 
 same-length : tie.Need-same-length Inv-loop μ-loop
@@ -52,8 +58,12 @@ same-length c = omega arith
 
 returns : tie.Need-returns Inv-loop μ-loop
 returns c =
-    let e : c .before .loop .k ≡ c .before .before .before .before .args .s = omega arith in
-    subst (λ (k : ℕ). Stored (c .before .before .before .before .args .out .now) (c .before .loop .out) (c .before .before .before .before .args .at) (c .before .loop .q) (loadLines (λ j. getD (c .before .before .before .before .args .loads .now) j 0) k)) e (c .before .loop .inv .3)
+    let at-loop = c .before in
+    let start = at-loop .before .before .before in
+    let turn = at-loop .loop in
+    let a = start .args in
+    let e : turn .k ≡ a .s = omega arith in
+    subst (λ (k : ℕ). Stored (a .out .now) (turn .out) (a .at) (turn .q) (loadLines (λ j. getD (a .loads .now) j 0) k)) e (turn .inv .3)
 
 pub put-loads-spec : {M : Type 1} → statement M
 put-loads-spec =

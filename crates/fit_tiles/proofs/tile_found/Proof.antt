@@ -16,27 +16,58 @@ is-empty-requires : tie.Need-is-empty-requires
 is-empty-requires c κs = search needs
 
 returns : tie.Need-returns
-returns c = empty-sub (jobOf (c .before .before .before .before .before .before .before .args .z) (c .before .before .before .before .before .before .before .args .tiles .now) (c .before .before .before .before .before .before .before .args .colours .now) (c .before .before .before .before .before .before .before .args .counts .now)) (c .before .before .before .before .before .before .before .args .palette .now) (c .before .before .before .before .before .before .before .args .i) (c .before .is-empty .result) (c .before .is-empty .ensures) (c .if1 .taken)
+returns c =
+    let a = c .before .before .before .before .before .before .before .args in
+    empty-sub (jobOf (a .z) (a .tiles .now) (a .colours .now) (a .counts .now)) (a .palette .now) (a .i) (c .before .is-empty .result)
+    (c .before .is-empty .ensures) (c .if1 .taken)
 
 tile-fit-requires : tie.Need-tile-fit-requires
-tile-fit-requires c κs = record {
-  paired = c .before .before .before .before .before .before .before .before .pre;
-  full = not-empty (sizeOf (c .before .before .before .before .before .before .before .before .args .tiles .now) (c .before .before .before .before .before .before .before .before .args .i)) (c .before .before .is-empty .result) (c .before .before .is-empty .ensures) (c .before .if1 .left);
-}
+tile-fit-requires c κs =
+    let past-if1 = c .before in
+    let after-is-empty = past-if1 .before in
+    let start = after-is-empty .before .before .before .before .before .before in
+    let a = start .args in
+    record {
+      paired = start .pre;
+      full = not-empty (sizeOf (a .tiles .now) (a .i)) (after-is-empty .is-empty .result) (after-is-empty .is-empty .ensures) (past-if1 .if1 .left);
+    }
 
-cast-t15 : tie.Need-cast-t15
-cast-t15 c = omega (arith, ap (λ (b : Near). b .index) (c .before .before .before .tile-fit .ensures .0), winner-below (jobOf (c .before .before .before .before .before .before .before .before .before .before .before .before .args .z) (c .before .before .before .before .before .before .before .before .before .before .before .before .args .tiles .now) (c .before .before .before .before .before .before .before .before .before .before .before .before .args .colours .now) (c .before .before .before .before .before .before .before .before .before .before .before .before .args .counts .now)) (c .before .before .before .before .before .before .before .before .before .before .before .before .args .palette .now) (c .before .before .before .before .before .before .before .before .before .before .before .before .args .s) (c .before .before .before .before .before .before .before .before .before .before .before .before .args .c) (c .before .before .before .before .before .before .before .before .before .before .before .before .pre .shown) (c .before .before .before .before .before .before .before .before .before .before .before .before .args .i), c .before .before .before .before .before .before .before .before .before .before .before .before .pre .shown .ready .sizes .few)
+cast-sub : tie.Need-cast-sub
+cast-sub c =
+    let after-tile-fit = c .before .before .before in
+    let after-is-empty = after-tile-fit .before .before .before in
+    let start = after-is-empty .before .before .before .before .before .before in
+    let a = start .args in
+    omega (
+      arith,
+      ap (λ (b : Near). b .index) (after-tile-fit .tile-fit .ensures .0),
+      winner-below (jobOf (a .z) (a .tiles .now) (a .colours .now) (a .counts .now))
+          (a .palette .now) (a .z .s) (a .z .c) (start .pre .shown) (a .i),
+      start .pre .shown .ready .sizes .few,
+    )
 
-float-to-bits-t16 : tie.Need-float-to-bits-t16
-float-to-bits-t16 c = subst⁻¹ (λ (x : Float). T (not (isNan x))) (ap (λ (b : Near). b .dist) (c .before .before .before .before .tile-fit .ensures .0)) (dist-real (jobOf (c .before .before .before .before .before .before .before .before .before .before .before .before .before .args .z) (c .before .before .before .before .before .before .before .before .before .before .before .before .before .args .tiles .now) (c .before .before .before .before .before .before .before .before .before .before .before .before .before .args .colours .now) (c .before .before .before .before .before .before .before .before .before .before .before .before .before .args .counts .now)) (c .before .before .before .before .before .before .before .before .before .before .before .before .before .args .palette .now) (c .before .before .before .before .before .before .before .before .before .before .before .before .before .pre .shown) (c .before .before .before .before .before .before .before .before .before .before .before .before .before .args .i) (c .before .before .before .before .before .before .before .before .before .before .before .before .before .pre .tile))
+float-to-bits-bits : tie.Need-float-to-bits-bits
+float-to-bits-bits c =
+    let after-tile-fit = c .before .before .before .before in
+    let after-is-empty = after-tile-fit .before .before .before in
+    let start = after-is-empty .before .before .before .before .before .before in
+    let a = start .args in
+    subst⁻¹ (λ (x : Float). T (not (isNan x))) (ap (λ (b : Near). b .dist) (after-tile-fit .tile-fit .ensures .0))
+    (dist-real (jobOf (a .z) (a .tiles .now) (a .colours .now) (a .counts .now)) (a .palette .now) (start .pre .shown) (a .i) (start .pre .tile))
 
 same-length : tie.Need-same-length
 same-length c = search needs
 
 returns-2 : tie.Need-returns-2
 returns-2 c =
-    full-sub (jobOf (c .before .before .before .before .before .before .before .before .before .before .before .before .before .args .z) (c .before .before .before .before .before .before .before .before .before .before .before .before .before .args .tiles .now) (c .before .before .before .before .before .before .before .before .before .before .before .before .before .args .colours .now) (c .before .before .before .before .before .before .before .before .before .before .before .before .before .args .counts .now)) (c .before .before .before .before .before .before .before .before .before .before .before .before .before .args .palette .now) (c .before .before .before .before .before .before .before .before .before .before .before .before .before .args .i) (c .before .before .before .before .before .before .before .is-empty .result) (c .before .before .before .before .tile-fit .result .index) (c .before .before .before .before .tile-fit .result .dist) (c .before .before .before .before .before .before .before .is-empty .ensures) (c .before .before .before .before .before .before .if1 .left)
-    (ap (λ (b : Near). b .index) (c .before .before .before .before .tile-fit .ensures .0)) (ap (λ (b : Near). b .dist) (c .before .before .before .before .tile-fit .ensures .0))
+    let after-tile-fit = c .before .before .before .before in
+    let past-if1 = after-tile-fit .before .before in
+    let after-is-empty = past-if1 .before in
+    let start = after-is-empty .before .before .before .before .before .before in
+    let a = start .args in
+    full-sub (jobOf (a .z) (a .tiles .now) (a .colours .now) (a .counts .now)) (a .palette .now) (a .i) (after-is-empty .is-empty .result)
+    (after-tile-fit .tile-fit .result .index) (after-tile-fit .tile-fit .result .dist) (after-is-empty .is-empty .ensures) (past-if1 .if1 .left)
+    (ap (λ (b : Near). b .index) (after-tile-fit .tile-fit .ensures .0)) (ap (λ (b : Near). b .dist) (after-tile-fit .tile-fit .ensures .0))
 
 pub tile-found-spec : {M : Type 1} → statement M
 tile-found-spec =
@@ -45,7 +76,7 @@ tile-found-spec =
     is-empty-requires
     returns
     tile-fit-requires
-    cast-t15
-    float-to-bits-t16
+    cast-sub
+    float-to-bits-bits
     same-length
     returns-2)

@@ -18,10 +18,10 @@ counts-part-requires : tie.Need-counts-part-requires
 counts-part-requires c κs = owner-counts _ _ _ _ _ (c .before .before .before .before .before .before .before .before .before .before .pre)
 
 mul-for-each-match-two : tie.Need-mul-for-each-match-two
-mul-for-each-match-two c = omega (arith, owner-row _ _ _ _ _ (c .before .before .before .before .before .before .before .before .before .before .before .pre) _ (c .before .before .before .nearest-palette-of .ensures))
+mul-for-each-match-two c = omega (arith, owner-row _ _ _ _ _ (c .before .before .before .before .before .before .before .before .before .before .before .before .pre) _ (c .before .before .before .before .nearest-palette-of .ensures))
 
 for-each-match-two-requires : tie.Need-for-each-match-two-requires
-for-each-match-two-requires c κs = owner-matched _ _ _ _ _ (c .before .before .before .before .before .before .before .before .before .before .before .before .before .pre) _ (c .before .before .before .before .before .nearest-palette-of .ensures) _ _ _ (c .before .before .before .before .part .ensures) (c .before .before .before .tile-part .ensures) (c .before .before .counts-part .ensures)
+for-each-match-two-requires c κs = owner-matched _ _ _ _ _ (c .before .before .before .before .before .before .before .before .before .before .before .before .before .before .pre) _ (c .before .before .before .before .before .before .nearest-palette-of .ensures) _ _ _ (c .before .before .before .before .before .part .ensures) (c .before .before .before .before .tile-part .ensures) (c .before .before .before .counts-part .ensures)
 
 same-length : tie.Need-same-length
 same-length c = search needs
@@ -30,7 +30,7 @@ same-length-2 : tie.Need-same-length-2
 same-length-2 c = search needs
 
 returns : tie.Need-returns
-returns c = owner-done _ _ _ _ _ (c .before .before .before .before .before .before .before .before .before .before .before .before .before .before .before .before .before .before .pre) _ (c .before .before .before .before .before .before .before .before .before .before .nearest-palette-of .ensures) _ _ _ (c .before .before .before .before .before .before .before .before .before .part .ensures) (c .before .before .before .before .before .before .before .before .tile-part .ensures) (c .before .before .before .before .before .before .before .counts-part .ensures) _ (c .before .before .before .before .for-each-match-two .ensures)
+returns c = owner-done _ _ _ _ _ (c .before .before .before .before .before .before .before .before .before .before .before .before .before .before .before .before .before .before .before .pre) _ (c .before .before .before .before .before .before .before .before .before .before .before .nearest-palette-of .ensures) _ _ _ (c .before .before .before .before .before .before .before .before .before .before .part .ensures) (c .before .before .before .before .before .before .before .before .before .tile-part .ensures) (c .before .before .before .before .before .before .before .before .counts-part .ensures) _ (c .before .before .before .before .for-each-match-two .ensures)
 
 pub color-step-spec : {M : Type 1} → statement M
 color-step-spec =

@@ -1,30 +1,30 @@
 -- `quantizer_gather::gather_all` meets its contract. The loop's invariant: the sums, the counts and the hints are those after the first i tiles.
 -- Assumes nothing.
 use Prim.Native.Nat.{_-_}
+use mathlib.Core.Path.{refl}
 use native.Mathlib.Omega.{arith}
 use Rattle.job.specs.Job.{jobOf}
-use Rattle.quantizer.specs.Refining.{gather}
-use Rattle.quantizer_gather.proofs.Turns.{Going, going-start, going-length, going-whole, going-turn, going-more, going-end}
+use Rattle.palette_tile.specs.Tiles.{winner, hintStep}
+use Rattle.palette_tile.proofs.Walks.{Walked, walked-start, walked-more, walked-end}
+use Rattle.palette_tile.proofs.Hints.{walked-hints, walked-paired}
+use Rattle.quantizer.specs.Refining.{gather, nothing, gatherStep}
+use Rattle.quantizer_gather.proofs.Turns.{walked-gathered, walked-whole}
 use Rattle.quantizer_gather.proofs.gather_all.Statement.{statement}
 use Rattle.quantizer_gather.proofs.gather_all.Tie as tie
 
 abbrev Inv-loop : tie.InvT-loop
-Inv-loop z tiles colours counts pal hints₀ sums₀ cnts₀ i₀ hints sums cnts i = Going (jobOf z tiles colours counts) pal hints₀ hints (gather sums cnts) i
+Inv-loop z tiles colours counts pal hints₀ sums₀ cnts₀ i₀ hints sums cnts i =
+    let J = jobOf z tiles colours counts in
+    Walked (J .T) (λ k. gatherStep J pal (winner J pal (J .S) (J .C) k) k) nothing (gather sums cnts) i × Walked (J .T) (hintStep J pal (J .S) (J .C)) hints₀ hints i
 
 abbrev μ-loop : tie.MeasureT-loop
-μ-loop s c t weight tiles colours counts pal hints₀ sums₀ cnts₀ i₀ hints sums cnts i = t - i
+μ-loop z tiles colours counts pal hints₀ sums₀ cnts₀ i₀ hints sums cnts i = z .t - i
 
 loop-holds : tie.Need-loop-holds Inv-loop μ-loop
-loop-holds c =
-    let z = c .before .before .before .before .before .before .before in
-    going-start _ _ (z .pre .0) _ (z .pre .1 .0) _ (z .pre .1 .1)
+loop-holds c = (walked-start (c .before .before .before .before .before .before .before .pre .1 .1), walked-start refl)
 
 gather-step-requires : tie.Need-gather-step-requires Inv-loop μ-loop
-gather-step-requires c κs =
-    let i = c .before .before .before in
-    let v = i .before in
-    let z = v .before .before .before .before .before .before .before .before in
-    going-turn _ _ (z .pre .0) _ (z .pre .1 .0) _ _ _ (v .loop .inv) (i .loop-test .taken)
+gather-step-requires c κs = record { paired = walked-paired _ _ _ _ (c .before .before .before .before .before .loop .inv .1) (c .before .before .before .before .before .before .before .before .before .before .before .before .before .pre .0) (c .before .before .before .before .before .before .before .before .before .before .before .before .before .pre .1 .0) (c .before .before .before .if1 .taken); gathered = walked-gathered _ _ (c .before .before .before .before .before .before .before .before .before .before .before .before .before .pre .0) (c .before .before .before .before .before .loop .inv .0) }
 
 add-i : tie.Need-add-i Inv-loop μ-loop
 add-i c = omega arith
@@ -33,36 +33,19 @@ loop-less : tie.Need-loop-less Inv-loop μ-loop
 loop-less c = omega arith
 
 loop-again : tie.Need-loop-again Inv-loop μ-loop
-loop-again c =
-    let g = c .before .before .before .before .before .before in
-    let i = g .before .before .before .before in
-    let v = i .before in
-    let z = v .before .before .before .before .before .before .before .before in
-    going-more _ _ (z .pre .0) _ (z .pre .1 .0) _ _ _ (v .loop .inv) (i .loop-test .taken) _ _ (g .gather-step .ensures .0) (g .gather-step .ensures .1)
+loop-again c = (walked-more (c .before .before .before .before .before .before .before .before .before .before .before .before .loop .inv .0) (c .before .before .before .before .before .before .before .before .before .before .if1 .taken) (c .before .before .before .before .before .before .gather-step .ensures .0), walked-more (c .before .before .before .before .before .before .before .before .before .before .before .before .loop .inv .1) (c .before .before .before .before .before .before .before .before .before .before .if1 .taken) (c .before .before .before .before .before .before .gather-step .ensures .1))
 
 same-length : tie.Need-same-length Inv-loop μ-loop
-same-length c =
-    let v = c .before in
-    let z = v .before .before .before .before .before .before .before .before in
-    going-length _ _ (z .pre .0) _ (z .pre .1 .0) _ _ _ (v .loop .inv)
+same-length c = walked-hints _ _ _ _ (c .before .before .loop .inv .1)
 
 same-length-2 : tie.Need-same-length-2 Inv-loop μ-loop
-same-length-2 c =
-    let v = c .before in
-    let z = v .before .before .before .before .before .before .before .before in
-    going-whole _ _ (z .pre .0) _ (z .pre .1 .0) _ _ _ (v .loop .inv) _ (z .pre .1 .1) .0
+same-length-2 c = walked-whole _ _ (c .before .before .before .before .before .before .before .before .before .before .pre .0) (c .before .before .loop .inv .0) _ (c .before .before .before .before .before .before .before .before .before .before .pre .1 .1) .0
 
 same-length-3 : tie.Need-same-length-3 Inv-loop μ-loop
-same-length-3 c =
-    let v = c .before in
-    let z = v .before .before .before .before .before .before .before .before in
-    going-whole _ _ (z .pre .0) _ (z .pre .1 .0) _ _ _ (v .loop .inv) _ (z .pre .1 .1) .1
+same-length-3 c = walked-whole _ _ (c .before .before .before .before .before .before .before .before .before .before .pre .0) (c .before .before .loop .inv .0) _ (c .before .before .before .before .before .before .before .before .before .before .pre .1 .1) .1
 
 returns : tie.Need-returns Inv-loop μ-loop
-returns c =
-    let v = c .before in
-    let z = v .before .before .before .before .before .before .before .before in
-    going-end _ _ (z .pre .0) _ (z .pre .1 .0) _ _ _ (v .loop .inv) (c .loop-test .left)
+returns c = (walked-end (c .before .before .loop .inv .0) (c .if1 .left), walked-end (c .before .before .loop .inv .1) (c .if1 .left))
 
 pub gather-all-spec : {M : Type 1} → statement M
 gather-all-spec =

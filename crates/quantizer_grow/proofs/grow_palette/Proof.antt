@@ -11,7 +11,7 @@ abbrev Inv-loop : tie.InvT-loop
 Inv-loop z tiles colours counts pal₀ have hints total-color-distances i₀ pal i = Splitting (jobOf z tiles colours counts) pal₀ have pal i
 
 abbrev μ-loop : tie.MeasureT-loop
-μ-loop s c t weight tiles colours counts pal₀ have hints total-color-distances i₀ pal i = s - i
+μ-loop z tiles colours counts pal₀ have hints total-color-distances i₀ pal i = z .s - i
 
 slice-aggregate-color-distances : tie.Need-slice-aggregate-color-distances Inv-loop μ-loop
 slice-aggregate-color-distances c = search needs
@@ -26,7 +26,7 @@ slice-aggregate-split-color : tie.Need-slice-aggregate-split-color Inv-loop μ-l
 slice-aggregate-split-color c = search needs
 
 split-color-requires : tie.Need-split-color-requires Inv-loop μ-loop
-split-color-requires c κs = splitting-split _ _ _ _ (c .before .before .before .before .before .before .before .before .before .before .before .before .before .before .before .before .pre) _ _ (c .before .before .before .loop .inv) _ (c .before .before .before .before .before .before .before .color-distances .ensures .0) (c .before .before .loop-test .taken)
+split-color-requires c κs = splitting-split _ _ _ _ (c .before .before .before .before .before .before .before .before .before .before .before .before .before .before .before .before .before .pre) _ _ (c .before .before .before .before .loop .inv) _ (c .before .before .before .before .before .before .before .before .color-distances .ensures .0) (c .before .before .if1 .taken)
 
 add-i : tie.Need-add-i Inv-loop μ-loop
 add-i c = omega arith
@@ -35,16 +35,16 @@ loop-less : tie.Need-loop-less Inv-loop μ-loop
 loop-less c = omega arith
 
 loop-again : tie.Need-loop-again Inv-loop μ-loop
-loop-again c = splitting-more _ _ _ _ (c .before .before .before .before .before .before .before .before .before .before .before .before .before .before .before .before .before .before .before .pre) _ _ (c .before .before .before .before .before .before .loop .inv) _ (c .before .before .before .before .before .before .before .before .before .before .color-distances .ensures .0) (c .before .before .before .before .before .loop-test .taken) _ (c .before .before .split-color .ensures)
+loop-again c = splitting-more _ _ _ _ (c .before .before .before .before .before .before .before .before .before .before .before .before .before .before .before .before .before .before .before .before .pre) _ _ (c .before .before .before .before .before .before .before .loop .inv) _ (c .before .before .before .before .before .before .before .before .before .before .before .color-distances .ensures .0) (c .before .before .before .before .before .if1 .taken) _ (c .before .before .split-color .ensures)
 
 same-length : tie.Need-same-length Inv-loop μ-loop
-same-length c = splitting-length _ _ _ _ (c .before .before .before .before .before .before .before .before .before .before .before .before .before .before .pre) _ _ (c .before .loop .inv)
+same-length c = splitting-length _ _ _ _ (c .before .before .before .before .before .before .before .before .before .before .before .before .before .before .before .pre) _ _ (c .before .before .loop .inv)
 
 same-length-2 : tie.Need-same-length-2 Inv-loop μ-loop
 same-length-2 c = search needs
 
 returns : tie.Need-returns Inv-loop μ-loop
-returns c = (splitting-end _ _ _ _ (c .before .before .before .before .before .before .before .before .before .before .before .before .before .before .pre) _ _ (c .before .loop .inv) (c .loop-test .left), c .before .before .before .before .before .color-distances .ensures .1)
+returns c = (splitting-end _ _ _ _ (c .before .before .before .before .before .before .before .before .before .before .before .before .before .before .before .pre) _ _ (c .before .before .loop .inv) (c .if1 .left), c .before .before .before .before .before .before .color-distances .ensures .1)
 
 pub grow-palette-spec : {M : Type 1} → statement M
 grow-palette-spec =

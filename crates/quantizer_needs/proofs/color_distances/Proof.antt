@@ -1,27 +1,34 @@
 -- `quantizer_needs::color_distances` meets its contract. The loop's invariant: the sums and the hints are those after the first i tiles. Assumes nothing.
 use Prim.Native.Nat.{_-_}
-use mathlib.Core.Path.{sym, ap, _∙_}
+use mathlib.Core.Path.{refl, sym, ap, _∙_}
 use native.Mathlib.Omega.{arith}
 use lib.ListN.{length}
 use Rattle.job.specs.Job.{jobOf}
-use Rattle.quantizer_needs.proofs.Turns.{Needing, no-turn, needing-start, needing-length, needing-wide, needing-turn, needing-more, needing-end}
+use Rattle.palette_tile.specs.Tiles.{winner, hintStep}
+use Rattle.palette_tile.proofs.Walks.{Walked, walked-start, walked-more}
+use Rattle.palette_tile.proofs.Hints.{walked-hints, walked-paired}
+use Rattle.quantizer.specs.Sums.{zeros, places}
+use Rattle.quantizer.specs.Growing.{needStep}
+use Rattle.quantizer_needs.proofs.Turns.{none-fitted, needs-wide, all-fitted}
 use Rattle.quantizer_needs.proofs.color_distances.Statement.{statement}
 use Rattle.quantizer_needs.proofs.color_distances.Tie as tie
 
 abbrev Inv-loop : tie.InvT-loop
-Inv-loop z tiles colours counts pal have hints₀ total₀ i₀ hints total i = Needing (jobOf z tiles colours counts) pal have hints₀ hints total i
+Inv-loop z tiles colours counts pal have hints₀ total₀ i₀ hints total i =
+    let J = jobOf z tiles colours counts in
+    Walked (J .T) (λ k. needStep J pal have (winner J pal (J .S) have k) k) (zeros places) total i × Walked (J .T) (hintStep J pal (J .S) have) hints₀ hints i
 
 abbrev μ-loop : tie.MeasureT-loop
-μ-loop s c t weight tiles colours counts pal have hints₀ total₀ i₀ hints total i = t - i
+μ-loop z tiles colours counts pal have hints₀ total₀ i₀ hints total i = z .t - i
 
 returns : tie.Need-returns Inv-loop μ-loop
-returns c = no-turn _ _ _ _ (c .before .before .before .before .before .before .before .pre .0) (c .if1 .taken) _ (c .before .before .before .before .before .before .before .pre .1)
+returns c = none-fitted _ _ _ (c .if1 .taken) _ _ (c .before .before .before .before .before .before .before .pre .1)
 
 loop-holds : tie.Need-loop-holds Inv-loop μ-loop
-loop-holds c = needing-start _ _ _ _ (c .before .before .before .before .before .before .before .pre .0) _ (c .before .before .before .before .before .before .before .pre .1)
+loop-holds c = (walked-start (c .before .before .before .before .before .before .before .pre .1), walked-start refl)
 
 tile-step-requires : tie.Need-tile-step-requires Inv-loop μ-loop
-tile-step-requires c κs = needing-turn _ _ _ _ (c .before .before .before .before .before .before .before .before .before .before .before .pre .0) _ _ _ (c .before .before .before .loop .inv) (c .before .before .loop-test .taken)
+tile-step-requires c κs = record { paired = walked-paired _ _ _ _ (c .before .before .before .before .loop .inv .1) (c .before .before .before .before .before .before .before .before .before .before .before .before .pre .0 .shown) (c .before .before .before .before .before .before .before .before .before .before .before .before .pre .0 .each) (c .before .before .if2 .taken); wide = needs-wide _ _ _ (c .before .before .before .before .loop .inv .0) }
 
 add-i : tie.Need-add-i Inv-loop μ-loop
 add-i c = omega arith
@@ -30,16 +37,16 @@ loop-less : tie.Need-loop-less Inv-loop μ-loop
 loop-less c = omega arith
 
 loop-again : tie.Need-loop-again Inv-loop μ-loop
-loop-again c = needing-more _ _ _ _ (c .before .before .before .before .before .before .before .before .before .before .before .before .before .before .before .before .pre .0) _ _ _ (c .before .before .before .before .before .before .before .before .loop .inv) (c .before .before .before .before .before .before .before .loop-test .taken) _ _ (c .before .before .before .before .tile-step .ensures .0) (c .before .before .before .before .tile-step .ensures .1)
+loop-again c = (walked-more (c .before .before .before .before .before .before .before .before .before .loop .inv .0) (c .before .before .before .before .before .before .before .if2 .taken) (c .before .before .before .before .tile-step .ensures .0), walked-more (c .before .before .before .before .before .before .before .before .before .loop .inv .1) (c .before .before .before .before .before .before .before .if2 .taken) (c .before .before .before .before .tile-step .ensures .1))
 
 same-length : tie.Need-same-length Inv-loop μ-loop
-same-length c = needing-length _ _ _ _ (c .before .before .before .before .before .before .before .before .before .pre .0) _ _ _ (c .before .loop .inv)
+same-length c = walked-hints _ _ _ _ (c .before .before .loop .inv .1)
 
 same-length-2 : tie.Need-same-length-2 Inv-loop μ-loop
-same-length-2 c = needing-wide _ _ _ _ (c .before .before .before .before .before .before .before .before .before .pre .0) _ _ _ (c .before .loop .inv) ∙ sym (ap length (c .before .before .before .before .before .before .before .before .before .pre .1))
+same-length-2 c = needs-wide _ _ _ (c .before .before .loop .inv .0) ∙ sym (ap length (c .before .before .before .before .before .before .before .before .before .before .pre .1))
 
 returns-2 : tie.Need-returns-2 Inv-loop μ-loop
-returns-2 c = needing-end _ _ _ _ (c .before .before .before .before .before .before .before .before .before .pre .0) _ _ _ (c .before .loop .inv) (c .before .before .if1 .left) (c .loop-test .left)
+returns-2 c = all-fitted _ _ _ (c .before .before .loop .inv .0) (c .before .before .loop .inv .1) (c .before .before .before .if1 .left) (c .if2 .left)
 
 pub color-distances-spec : {M : Type 1} → statement M
 color-distances-spec =

@@ -1,7 +1,10 @@
 -- `quantizer_needs::tile_step` meets its contract: an empty tile is left, another's matches go to its winner's sums. Assumes nothing.
 use native.Mathlib.Omega.{arith}
-use Rattle.quantizer_needs.proofs.Turns.{turn-colours, turn-counts, turn-none, turn-fitted, turn-part, turn-row, turn-matched, turn-done}
 use borrow.Author.Needs.{needs}
+use Rattle.palette_tile.proofs.Asks.{colours-asked, counts-asked}
+use Rattle.palette_tile.proofs.Turns.{turn-fitted, fit-part}
+use Rattle.quantizer.proofs.Indexes.{fit-row}
+use Rattle.quantizer_needs.proofs.Turns.{turn-none, turn-matched, turn-done}
 use Rattle.quantizer_needs.proofs.tile_step.Statement.{statement}
 use Rattle.quantizer_needs.proofs.tile_step.Tie as tie
 
@@ -12,22 +15,22 @@ returns : tie.Need-returns
 returns c = turn-none _ _ _ _ _ _ (c .before .before .before .before .before .before .before .before .pre) _ (c .before .is-empty .ensures) (c .if1 .taken)
 
 tile-fit-requires : tie.Need-tile-fit-requires
-tile-fit-requires c κs = turn-fitted _ _ _ _ _ _ (c .before .before .before .before .before .before .before .before .before .pre) _ (c .before .before .is-empty .ensures) (c .before .if1 .left)
+tile-fit-requires c κs = turn-fitted _ _ _ _ _ _ (c .before .before .before .before .before .before .before .before .before .pre .paired) _ (c .before .before .is-empty .ensures) (c .before .if1 .left)
 
 part-requires : tie.Need-part-requires
-part-requires c κs = turn-part _ _ _ _ _ _ (c .before .before .before .before .before .before .before .before .before .before .before .before .pre) _ (c .before .before .before .before .before .is-empty .ensures) (c .before .before .before .before .if1 .left) _ (c .before .before .tile-fit .ensures .0)
+part-requires c κs = fit-part _ _ _ _ _ _ (c .before .before .tile-fit .ensures .0) (c .before .before .before .before .before .before .before .before .before .before .before .before .pre .paired .shown)
 
 tile-part-requires : tie.Need-tile-part-requires
-tile-part-requires c κs = turn-colours _ _ _ _ _ _ (c .before .before .before .before .before .before .before .before .before .before .before .before .before .pre)
+tile-part-requires c κs = colours-asked _ _ _ _ _ _ (c .before .before .before .before .before .before .before .before .before .before .before .before .before .pre .paired)
 
 counts-part-requires : tie.Need-counts-part-requires
-counts-part-requires c κs = turn-counts _ _ _ _ _ _ (c .before .before .before .before .before .before .before .before .before .before .before .before .before .before .pre)
+counts-part-requires c κs = counts-asked _ _ _ _ _ _ (c .before .before .before .before .before .before .before .before .before .before .before .before .before .before .pre .paired)
 
 mul-for-each-match : tie.Need-mul-for-each-match
-mul-for-each-match c = omega (arith, turn-row _ _ _ _ _ _ (c .before .before .before .before .before .before .before .before .before .before .before .before .before .before .before .pre) _ (c .before .before .before .before .before .before .before .before .is-empty .ensures) (c .before .before .before .before .before .before .before .if1 .left) _ (c .before .before .before .before .before .tile-fit .ensures .0))
+mul-for-each-match c = omega (arith, fit-row _ _ _ _ (c .before .before .before .before .before .before .before .before .before .before .before .before .before .before .before .before .pre .paired .shown) _ _ (c .before .before .before .before .before .before .tile-fit .ensures .0))
 
 for-each-match-requires : tie.Need-for-each-match-requires
-for-each-match-requires c κs = turn-matched _ _ _ _ _ _ (c .before .before .before .before .before .before .before .before .before .before .before .before .before .before .before .before .pre) _ (c .before .before .before .before .before .before .before .before .before .is-empty .ensures) (c .before .before .before .before .before .before .before .before .if1 .left) _ (c .before .before .before .before .before .before .tile-fit .ensures .0) _ _ _ (c .before .before .before .part .ensures) (c .before .before .tile-part .ensures) (c .before .counts-part .ensures)
+for-each-match-requires c κs = turn-matched _ _ _ _ _ _ (c .before .before .before .before .before .before .before .before .before .before .before .before .before .before .before .before .before .pre) _ (c .before .before .before .before .before .before .before .tile-fit .ensures .0) _ _ _ (c .before .before .before .before .part .ensures) (c .before .before .before .tile-part .ensures) (c .before .before .counts-part .ensures)
 
 same-length : tie.Need-same-length
 same-length c = search needs
@@ -36,7 +39,7 @@ same-length-2 : tie.Need-same-length-2
 same-length-2 c = search needs
 
 returns-2 : tie.Need-returns-2
-returns-2 c = turn-done _ _ _ _ _ _ (c .before .before .before .before .before .before .before .before .before .before .before .before .before .before .before .before .before .before .before .pre) _ (c .before .before .before .before .before .before .before .before .before .before .before .before .is-empty .ensures) (c .before .before .before .before .before .before .before .before .before .before .before .if1 .left) _ (c .before .before .before .before .before .before .before .before .before .tile-fit .ensures .0) _ _ _ (c .before .before .before .before .before .before .part .ensures) (c .before .before .before .before .before .tile-part .ensures) (c .before .before .before .before .counts-part .ensures) _ (c .before .before .for-each-match .ensures) _ (c .before .before .before .before .before .before .before .before .before .tile-fit .ensures .1)
+returns-2 c = turn-done _ _ _ _ _ _ (c .before .before .before .before .before .before .before .before .before .before .before .before .before .before .before .before .before .before .before .before .pre) _ (c .before .before .before .before .before .before .before .before .before .before .tile-fit .ensures .0) _ _ _ (c .before .before .before .before .before .before .before .part .ensures) (c .before .before .before .before .before .before .tile-part .ensures) (c .before .before .before .before .before .counts-part .ensures) _ (c .before .before .before .before .before .before .before .before .before .before .before .before .before .is-empty .ensures) (c .before .before .before .before .before .before .before .before .before .before .before .before .if1 .left) _ _ (c .before .before .for-each-match .ensures) (c .before .before .before .before .before .before .before .before .before .before .tile-fit .ensures .1)
 
 pub tile-step-spec : {M : Type 1} → statement M
 tile-step-spec =

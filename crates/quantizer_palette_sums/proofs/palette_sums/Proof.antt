@@ -13,7 +13,7 @@ abbrev Inv-loop : tie.InvT-loop
 Inv-loop z tiles colours counts pal hints₀ total₀ removed₀ i₀ hints total removed i = Pairing (jobOf z tiles colours counts) pal hints₀ hints (shares total removed) i
 
 abbrev μ-loop : tie.MeasureT-loop
-μ-loop s c t weight tiles colours counts pal hints₀ total₀ removed₀ i₀ hints total removed i = t - i
+μ-loop z tiles colours counts pal hints₀ total₀ removed₀ i₀ hints total removed i = z .t - i
 
 loop-holds : tie.Need-loop-holds Inv-loop μ-loop
 loop-holds c = pairing-start _ _ (c .before .before .before .before .before .before .before .pre .0) _ (c .before .before .before .before .before .before .before .pre .1 .0) _ _ (c .before .before .before .before .before .before .before .pre .1 .1 .0) (c .before .before .before .before .before .before .before .pre .1 .1 .1)
@@ -21,14 +21,14 @@ loop-holds c = pairing-start _ _ (c .before .before .before .before .before .bef
 tile-two-requires : tie.Need-tile-two-requires Inv-loop μ-loop
 tile-two-requires c κs =
     let i = c .before in
-    let v = i .before in
+    let v = i .before .before in
     let z = v .before .before .before .before .before .before .before .before in
-    pairing-paired _ _ (z .pre .0) _ (z .pre .1 .0) _ _ _ (v .loop .inv) (i .loop-test .taken)
+    pairing-paired _ _ (z .pre .0) _ (z .pre .1 .0) _ _ _ (v .loop .inv) (i .if1 .taken)
 
 add-two-requires : tie.Need-add-two-requires Inv-loop μ-loop
 add-two-requires c κs =
     let g = c .before .before .before .before in
-    let v = g .before .before .before in
+    let v = g .before .before .before .before in
     let z = v .before .before .before .before .before .before .before .before in
     pairing-room _ _ (z .pre .0) _ (z .pre .1 .0) _ _ _ (v .loop .inv) _ (g .tile-two .ensures .0)
 
@@ -43,21 +43,21 @@ loop-again c =
     let h = c .before .before .before .before in
     let g = h .before .before .before .before .before in
     let i = g .before .before in
-    let v = i .before in
+    let v = i .before .before in
     let z = v .before .before .before .before .before .before .before .before in
-    pairing-more _ _ (z .pre .0) _ (z .pre .1 .0) _ _ _ (v .loop .inv) _ (g .tile-two .ensures .0) (i .loop-test .taken) _ _ (h .add-two .ensures) (g .tile-two .ensures .1)
+    pairing-more _ _ (z .pre .0) _ (z .pre .1 .0) _ _ _ (v .loop .inv) _ (g .tile-two .ensures .0) (i .if1 .taken) _ _ (h .add-two .ensures) (g .tile-two .ensures .1)
 
 same-length : tie.Need-same-length Inv-loop μ-loop
-same-length c = pairing-length _ _ (c .before .before .before .before .before .before .before .before .before .pre .0) _ (c .before .before .before .before .before .before .before .before .before .pre .1 .0) _ _ _ (c .before .loop .inv)
+same-length c = pairing-length _ _ (c .before .before .before .before .before .before .before .before .before .before .pre .0) _ (c .before .before .before .before .before .before .before .before .before .before .pre .1 .0) _ _ _ (c .before .before .loop .inv)
 
 same-length-2 : tie.Need-same-length-2 Inv-loop μ-loop
-same-length-2 c = pairing-wide _ _ (c .before .before .before .before .before .before .before .before .before .pre .0) _ (c .before .before .before .before .before .before .before .before .before .pre .1 .0) _ _ _ (c .before .loop .inv) .had ∙ sym (ap length (c .before .before .before .before .before .before .before .before .before .pre .1 .1 .0))
+same-length-2 c = pairing-wide _ _ (c .before .before .before .before .before .before .before .before .before .before .pre .0) _ (c .before .before .before .before .before .before .before .before .before .before .pre .1 .0) _ _ _ (c .before .before .loop .inv) .had ∙ sym (ap length (c .before .before .before .before .before .before .before .before .before .before .pre .1 .1 .0))
 
 same-length-3 : tie.Need-same-length-3 Inv-loop μ-loop
-same-length-3 c = pairing-wide _ _ (c .before .before .before .before .before .before .before .before .before .pre .0) _ (c .before .before .before .before .before .before .before .before .before .pre .1 .0) _ _ _ (c .before .loop .inv) .lost ∙ sym (ap length (c .before .before .before .before .before .before .before .before .before .pre .1 .1 .1))
+same-length-3 c = pairing-wide _ _ (c .before .before .before .before .before .before .before .before .before .before .pre .0) _ (c .before .before .before .before .before .before .before .before .before .before .pre .1 .0) _ _ _ (c .before .before .loop .inv) .lost ∙ sym (ap length (c .before .before .before .before .before .before .before .before .before .before .pre .1 .1 .1))
 
 returns : tie.Need-returns Inv-loop μ-loop
-returns c = pairing-end _ _ (c .before .before .before .before .before .before .before .before .before .pre .0) _ (c .before .before .before .before .before .before .before .before .before .pre .1 .0) _ _ _ (c .before .loop .inv) (c .loop-test .left)
+returns c = pairing-end _ _ (c .before .before .before .before .before .before .before .before .before .before .pre .0) _ (c .before .before .before .before .before .before .before .before .before .before .pre .1 .0) _ _ _ (c .before .before .loop .inv) (c .if1 .left)
 
 pub palette-sums-spec : {M : Type 1} → statement M
 palette-sums-spec =

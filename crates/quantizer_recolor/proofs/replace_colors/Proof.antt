@@ -12,10 +12,10 @@ abbrev Inv-loop : tie.InvT-loop
 Inv-loop z tiles colours counts pal₀ hints total-color-mse second-color-mse i₀ pal i = Recolouring (jobOf z tiles colours counts) pal₀ pal (shares total-color-mse second-color-mse) i
 
 abbrev μ-loop : tie.MeasureT-loop
-μ-loop s c t weight tiles colours counts pal₀ hints total-color-mse second-color-mse i₀ pal i = s - i
+μ-loop z tiles colours counts pal₀ hints total-color-mse second-color-mse i₀ pal i = z .s - i
 
 returns : tie.Need-returns Inv-loop μ-loop
-returns c = one-colour _ _ _ (c .before .before .before .before .before .before .pre) (c .if1 .taken)
+returns c = one-colour _ _ _ (c .before .before .before .before .before .before .before .pre) (c .if1 .taken)
 
 slice-aggregate-color-sums : tie.Need-slice-aggregate-color-sums Inv-loop μ-loop
 slice-aggregate-color-sums c = search needs
@@ -27,7 +27,7 @@ color-sums-requires : tie.Need-color-sums-requires Inv-loop μ-loop
 color-sums-requires c κs = search needs
 
 loop-holds : tie.Need-loop-holds Inv-loop μ-loop
-loop-holds c = recolouring-start _ _ _ (c .before .before .before .before .before .before .before .before .before .before .before .before .pre) _
+loop-holds c = recolouring-start _ _ _ (c .before .before .before .before .before .before .before .before .before .before .before .before .before .pre) _
 
 slice-aggregate-replace-color : tie.Need-slice-aggregate-replace-color Inv-loop μ-loop
 slice-aggregate-replace-color c = search needs
@@ -36,7 +36,7 @@ slice-aggregate-replace-color-2 : tie.Need-slice-aggregate-replace-color-2 Inv-l
 slice-aggregate-replace-color-2 c = search needs
 
 replace-color-requires : tie.Need-replace-color-requires Inv-loop μ-loop
-replace-color-requires c κs = recolouring-row _ _ _ (c .before .before .before .before .before .before .before .before .before .before .before .before .before .before .before .before .before .pre) _ (c .before .before .before .before .before .before .before .color-sums .ensures) _ _ (c .before .before .before .before .loop .inv) (c .before .before .before .loop-test .taken)
+replace-color-requires c κs = recolouring-row _ _ _ (c .before .before .before .before .before .before .before .before .before .before .before .before .before .before .before .before .before .before .before .pre) _ (c .before .before .before .before .before .before .before .before .color-sums .ensures) _ _ (c .before .before .before .before .before .loop .inv) (c .before .before .before .if2 .taken)
 
 add-i : tie.Need-add-i Inv-loop μ-loop
 add-i c = omega arith
@@ -45,13 +45,13 @@ loop-less : tie.Need-loop-less Inv-loop μ-loop
 loop-less c = omega arith
 
 loop-again : tie.Need-loop-again Inv-loop μ-loop
-loop-again c = recolouring-more _ _ _ (c .before .before .before .before .before .before .before .before .before .before .before .before .before .before .before .before .before .before .before .before .pre) _ (c .before .before .before .before .before .before .before .before .before .before .color-sums .ensures) _ _ (c .before .before .before .before .before .before .before .loop .inv) (c .before .before .before .before .before .before .loop-test .taken) _ (c .before .before .replace-color .ensures)
+loop-again c = recolouring-more _ _ _ (c .before .before .before .before .before .before .before .before .before .before .before .before .before .before .before .before .before .before .before .before .before .before .pre) _ (c .before .before .before .before .before .before .before .before .before .before .before .color-sums .ensures) _ _ (c .before .before .before .before .before .before .before .before .loop .inv) (c .before .before .before .before .before .before .if2 .taken) _ (c .before .before .replace-color .ensures)
 
 same-length : tie.Need-same-length Inv-loop μ-loop
-same-length c = recolouring-length _ _ _ (c .before .before .before .before .before .before .before .before .before .before .before .before .before .before .pre) _ (c .before .before .before .before .color-sums .ensures) _ _ (c .before .loop .inv)
+same-length c = recolouring-length _ _ _ (c .before .before .before .before .before .before .before .before .before .before .before .before .before .before .before .before .pre) _ (c .before .before .before .before .before .color-sums .ensures) _ _ (c .before .before .loop .inv)
 
 returns-2 : tie.Need-returns-2 Inv-loop μ-loop
-returns-2 c = recolouring-end _ _ _ (c .before .before .before .before .before .before .before .before .before .before .before .before .before .before .pre) _ (c .before .before .before .before .color-sums .ensures) _ _ (c .before .loop .inv) (c .before .before .before .before .before .before .before .before .if1 .left) (c .loop-test .left)
+returns-2 c = recolouring-end _ _ _ (c .before .before .before .before .before .before .before .before .before .before .before .before .before .before .before .before .pre) _ (c .before .before .before .before .before .color-sums .ensures) _ _ (c .before .before .loop .inv) (c .before .before .before .before .before .before .before .before .before .if1 .left) (c .if2 .left)
 
 pub replace-colors-spec : {M : Type 1} → statement M
 replace-colors-spec =

@@ -24,7 +24,7 @@ slice-aggregate-write-means-2 c = search needs
 
 write-means-requires : tie.Need-write-means-requires
 write-means-requires c κs =
-    let g = c .before .before .before .before .before .before .before in
+    let g = c .before .before .before .before .before .before .before .before in
     let z = g .before .before .before .before .before .before .before .before .before .before in
     pass-meaning _ _ (z .pre .0) _ (g .gather-all .ensures .0)
 
@@ -37,7 +37,7 @@ same-length-2 c = search needs
 returns : tie.Need-returns
 returns c =
     let w = c .before .before in
-    let g = w .before .before .before .before .before .before .before .before in
+    let g = w .before .before .before .before .before .before .before .before .before in
     let z = g .before .before .before .before .before .before .before .before .before .before in
     (pass-done _ _ (z .pre .0) _ (g .gather-all .ensures .0) _ (w .write-means .ensures), g .gather-all .ensures .1)
 

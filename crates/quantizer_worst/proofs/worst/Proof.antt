@@ -13,7 +13,7 @@ abbrev Inv-loop : tie.InvT-loop
 Inv-loop z tiles colours counts pal subs hints₀ distances₀ i₀ hints distances i = Going (jobOf z tiles colours counts) pal subs hints₀ hints distances i
 
 abbrev μ-loop : tie.MeasureT-loop
-μ-loop s c t weight tiles colours counts pal subs hints₀ distances₀ i₀ hints distances i = t - i
+μ-loop z tiles colours counts pal subs hints₀ distances₀ i₀ hints distances i = z .t - i
 
 loop-holds : tie.Need-loop-holds Inv-loop μ-loop
 loop-holds c =
@@ -22,16 +22,16 @@ loop-holds c =
 
 slice-aggregate-distance-step : tie.Need-slice-aggregate-distance-step Inv-loop μ-loop
 slice-aggregate-distance-step c =
-    let v = c .before .before .before in
+    let v = c .before .before .before .before in
     let z = v .before .before .before .before .before .before in
     sym (going-whole _ _ _ (z .pre .0) _ (z .pre .1) _ _ _ (v .loop .inv))
 
 distance-step-requires : tie.Need-distance-step-requires Inv-loop μ-loop
 distance-step-requires c κs =
     let i = c .before .before in
-    let v = i .before in
+    let v = i .before .before in
     let z = v .before .before .before .before .before .before in
-    going-turn _ _ _ (z .pre .0) _ (z .pre .1) _ _ _ (v .loop .inv) (i .loop-test .taken)
+    going-turn _ _ _ (z .pre .0) _ (z .pre .1) _ _ _ (v .loop .inv) (i .if1 .taken)
 
 add-i : tie.Need-add-i Inv-loop μ-loop
 add-i c = omega arith
@@ -43,9 +43,9 @@ loop-again : tie.Need-loop-again Inv-loop μ-loop
 loop-again c =
     let g = c .before .before .before in
     let i = g .before .before .before in
-    let v = i .before in
+    let v = i .before .before in
     let z = v .before .before .before .before .before .before in
-    going-more _ _ _ (z .pre .0) _ (z .pre .1) _ _ _ (v .loop .inv) (i .loop-test .taken) _ _ (g .distance-step .ensures .0) (g .distance-step .ensures .1)
+    going-more _ _ _ (z .pre .0) _ (z .pre .1) _ _ _ (v .loop .inv) (i .if1 .taken) _ _ (g .distance-step .ensures .0) (g .distance-step .ensures .1)
 
 sub-argmax : tie.Need-sub-argmax Inv-loop μ-loop
 sub-argmax c = search needs
@@ -56,29 +56,29 @@ part-argmax-start c = search needs
 part-argmax-end : tie.Need-part-argmax-end Inv-loop μ-loop
 part-argmax-end c =
     let i = c .before in
-    let v = i .before in
+    let v = i .before .before in
     let z = v .before .before .before .before .before .before in
-    sums-room _ _ _ (z .pre .0) _ (going-end _ _ _ (z .pre .0) _ (z .pre .1) _ _ _ (v .loop .inv) (i .loop-test .left) .0)
+    sums-room _ _ _ (z .pre .0) _ (going-end _ _ _ (z .pre .0) _ (z .pre .1) _ _ _ (v .loop .inv) (i .if1 .left) .0)
 
 argmax-requires : tie.Need-argmax-requires Inv-loop μ-loop
 argmax-requires c κs =
     let i = c .before .before in
-    let v = i .before in
+    let v = i .before .before in
     let z = v .before .before .before .before .before .before in
-    sums-asked _ _ _ (z .pre .0) _ (going-end _ _ _ (z .pre .0) _ (z .pre .1) _ _ _ (v .loop .inv) (i .loop-test .left) .0)
+    sums-asked _ _ _ (z .pre .0) _ (going-end _ _ _ (z .pre .0) _ (z .pre .1) _ _ _ (v .loop .inv) (i .if1 .left) .0)
 
 same-length : tie.Need-same-length Inv-loop μ-loop
 same-length c =
-    let v = c .before .before .before .before in
+    let v = c .before .before .before .before .before in
     let z = v .before .before .before .before .before .before in
     going-length _ _ _ (z .pre .0) _ (z .pre .1) _ _ _ (v .loop .inv)
 
 returns : tie.Need-returns Inv-loop μ-loop
 returns c =
     let i = c .before .before .before in
-    let v = i .before in
+    let v = i .before .before in
     let z = v .before .before .before .before .before .before in
-    let done = going-end _ _ _ (z .pre .0) _ (z .pre .1) _ _ _ (v .loop .inv) (i .loop-test .left) in
+    let done = going-end _ _ _ (z .pre .0) _ (z .pre .1) _ _ _ (v .loop .inv) (i .if1 .left) in
     (worst-done _ _ _ (z .pre .0) _ (done .0) _ (c .argmax .ensures), done .1)
 
 pub worst-spec : {M : Type 1} → statement M

@@ -27,10 +27,10 @@ same-length-5 : tie.Need-same-length-5
 same-length-5 c = refl
 
 returns : tie.Need-returns
-returns c = refused _ _ _ _ _ _ _ _ (c .before .refuses-advance .ensures) _ (c .if1 .taken)
+returns c = refused _ _ _ _ _ _ _ (c .before .refuses-advance .ensures) _ (c .if1 .taken)
 
 advance-work-requires : tie.Need-advance-work-requires
-advance-work-requires c κs = work-asks _ _ _ _ _ _ _ _ (c .before .before .before .before .before .before .refuses-advance .ensures) (c .before .before .before .before .before .before .before .before .before .before .before .before .before .before .before .before .before .before .before .before .before .pre) (c .before .before .before .before .before .if1 .left)
+advance-work-requires c κs = work-asks _ _ _ _ _ _ _ (c .before .before .before .before .before .before .refuses-advance .ensures) (c .before .before .before .before .before .if1 .left)
 
 same-length-6 : tie.Need-same-length-6
 same-length-6 c = search needs
@@ -52,7 +52,8 @@ returns-2 c =
     let worked = c .before .before .before .before .before .before .before .before .before .before in
     let passed = worked .before .before .before .before .before .before in
     let a = passed .before .before .before .before .before .before .before .before .before .before .before .before .before .before .before .before .args in
-    advanced _ (courseOf (a .z) (now (a .tiles)) (now (a .colours)) (now (a .counts)) (now (a .samples))) (now (a .order)) (now (a .hints)) (now (a .palette)) (now (a .least)) (now (a .words)) _ (passed .before .refuses-advance .ensures) (a .allotment) (passed .if1 .left) _ (worked .advance-work .ensures)
+    advanced (courseOf (a .z) (now (a .tiles)) (now (a .colours)) (now (a .counts)) (now (a .samples))) (now (a .order)) (now (a .hints)) (now (a .palette))
+    (now (a .least)) (now (a .words)) _ (passed .before .refuses-advance .ensures) (a .allotment) (passed .if1 .left) _ (worked .advance-work .ensures)
 
 pub advance-spec : {M : Type 1} → statement M
 advance-spec =

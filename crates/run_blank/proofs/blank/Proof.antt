@@ -11,10 +11,15 @@ zero-requires-2 : tie.Need-zero-requires-2
 zero-requires-2 c κs = search needs
 
 seed-requires : tie.Need-seed-requires
-seed-requires c κs = can-seed _ _ _ (c .before .before .before .before .before .before .before .before .before .before .before .before .before .before .before .pre) _ (search needs)
+seed-requires c κs =
+    let start = c .before .before .before .before .before .before .before .before .before .before .before .before .before .before .before in
+    can-seed _ _ _ (start .pre) _ (search needs)
 
 returns : tie.Need-returns
-returns c = blanked _ _ _ (c .before .before .before .before .before .before .before .before .before .before .before .before .before .before .before .before .before .before .pre) _ (c .before .before .before .before .before .before .before .before .before .before .zero .ensures) _ (c .before .before .before .before .before .before .zero2 .ensures) _ (c .before .before .seed .ensures)
+returns c =
+    let after-zero2 = c .before .before .before .before .before .before in let after-zero = after-zero2 .before .before .before .before in
+    let start = after-zero .before .before .before .before .before .before .before .before in
+    blanked _ _ _ (start .pre) _ (after-zero .zero .ensures) _ (after-zero2 .zero2 .ensures) _ (c .before .before .seed .ensures)
 
 same-length : tie.Need-same-length
 same-length c = search needs

@@ -11,7 +11,9 @@ returns : tie.Need-returns
 returns c = held-stops _ _ _ _ _ _ (c .before .check-sampled .ensures) (c .if1 .taken)
 
 record-of-requires : tie.Need-record-of-requires
-record-of-requires c κs = c .before .before .before .before .before .before .before .before .before .before .before .pre (job-room _ _ _ _ _ (c .before .check-sampled .ensures) (c .if1 .left))
+record-of-requires c κs =
+    let start = c .before .before .before .before .before .before .before .before .before .before .before in
+    start .pre (job-room _ _ _ _ _ (c .before .check-sampled .ensures) (c .if1 .left))
 
 check-state-requires : tie.Need-check-state-requires
 check-state-requires c κs = job-sized _ _ _ _ _ (c .before .before .check-sampled .ensures) (c .before .if1 .left)

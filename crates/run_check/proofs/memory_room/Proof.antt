@@ -20,10 +20,14 @@ colours-room-requires-2 : tie.Need-colours-room-requires-2
 colours-room-requires-2 c κs = search needs
 
 returns-4 : tie.Need-returns-4
-returns-4 c = least-unlike _ _ _ _ _ _ (c .before .before .before .before .before .before .if1 .left) (c .before .before .before .before .if2 .left) _ (c .before .before .before .colours-room .ensures) (c .before .before .if3 .left) _ (c .before .colours-room2 .ensures) (c .if4 .taken)
+returns-4 c =
+    let after-colours-room = c .before .before .before in let after-if2 = after-colours-room .before in let after-if1 = after-if2 .before .before in
+    least-unlike _ _ _ _ _ _ (after-if1 .if1 .left) (after-if2 .if2 .left) _ (after-colours-room .colours-room .ensures) (c .before .before .if3 .left) _ (c .before .colours-room2 .ensures) (c .if4 .taken)
 
 returns-5 : tie.Need-returns-5
-returns-5 c = words-last _ _ _ _ _ _ (c .before .before .before .before .before .before .if1 .left) (c .before .before .before .before .if2 .left) _ (c .before .before .before .colours-room .ensures) (c .before .before .if3 .left) _ (c .before .colours-room2 .ensures) (c .if4 .left)
+returns-5 c =
+    let after-colours-room = c .before .before .before in let after-if2 = after-colours-room .before in let after-if1 = after-if2 .before .before in
+    words-last _ _ _ _ _ _ (after-if1 .if1 .left) (after-if2 .if2 .left) _ (after-colours-room .colours-room .ensures) (c .before .before .if3 .left) _ (c .before .colours-room2 .ensures) (c .if4 .left)
 
 pub memory-room-spec : {M : Type 1} → statement M
 memory-room-spec =

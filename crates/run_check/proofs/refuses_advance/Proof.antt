@@ -25,11 +25,15 @@ makes-draws-requires c κs = search needs
 
 returns-2 : tie.Need-returns-2
 unfolding advanceAnswer memoryRoom coloursRoom stateOf
-returns-2 c = run-goes _ _ _ _ _ _ (c .before .before .before .before .check-run .ensures) _ (c .before .before .before .before .before .memory-room .ensures .same) _ (c .before .before .before .if1 .left) _ (refuses _ _ _ _ (c .before .makes-draws .ensures) (c .if2 .taken))
+returns-2 c =
+    let after-if1 = c .before .before .before in let after-check-run = after-if1 .before in let after-memory-room = after-check-run .before in
+    run-goes _ _ _ _ _ _ (after-check-run .check-run .ensures) _ (after-memory-room .memory-room .ensures .same) _ (after-if1 .if1 .left) _ (refuses _ _ _ _ (c .before .makes-draws .ensures) (c .if2 .taken))
 
 returns-3 : tie.Need-returns-3
 unfolding advanceAnswer memoryRoom coloursRoom stateOf
-returns-3 c = run-goes _ _ _ _ _ _ (c .before .before .before .before .check-run .ensures) _ (c .before .before .before .before .before .memory-room .ensures .same) _ (c .before .before .before .if1 .left) _ (passes _ _ _ _ _ (c .before .makes-draws .ensures) (c .if2 .left) none)
+returns-3 c =
+    let after-if1 = c .before .before .before in let after-check-run = after-if1 .before in let after-memory-room = after-check-run .before in
+    run-goes _ _ _ _ _ _ (after-check-run .check-run .ensures) _ (after-memory-room .memory-room .ensures .same) _ (after-if1 .if1 .left) _ (passes _ _ _ _ _ (c .before .makes-draws .ensures) (c .if2 .left) none)
 
 pub refuses-advance-spec : {M : Type 1} → statement M
 refuses-advance-spec =

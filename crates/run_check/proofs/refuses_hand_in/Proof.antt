@@ -27,18 +27,29 @@ is-stop-requires c κs = search needs
 
 returns-2 : tie.Need-returns-2
 unfolding handInAnswer memoryRoom coloursRoom stateOf
-returns-2 c = run-goes _ _ _ _ _ _ (c .before .before .before .before .check-run .ensures) _ (c .before .before .before .before .before .wider-room .ensures .same) _ (c .before .before .before .if1 .left) _ (refuses _ _ _ _ (c .before .is-stop .ensures) (c .if2 .taken))
+returns-2 c =
+    let after-if1 = c .before .before .before in let after-check-run = after-if1 .before in let after-wider-room = after-check-run .before in
+    run-goes _ _ _ _ _ _ (after-check-run .check-run .ensures) _ (after-wider-room .wider-room .ensures .same) _ (after-if1 .if1 .left) _ (refuses _ _ _ _ (c .before .is-stop .ensures) (c .if2 .taken))
 
 first-bad-requires : tie.Need-first-bad-requires
 first-bad-requires c κs = search needs
 
 returns-3 : tie.Need-returns-3
 unfolding handInAnswer memoryRoom coloursRoom stateOf
-returns-3 c = run-goes _ _ _ _ _ _ (c .before .before .before .before .before .before .check-run .ensures) _ (c .before .before .before .before .before .before .before .wider-room .ensures .same) _ (c .before .before .before .before .before .if1 .left) _ (passes _ _ _ _ _ (c .before .before .before .is-stop .ensures) (c .before .before .if2 .left) (near-fails _ _ _ _ _ (c .before .first-bad .ensures) (c .if3 .taken)))
+returns-3 c =
+    let after-is-stop = c .before .before .before in let after-if1 = after-is-stop .before .before in let after-check-run = after-if1 .before in
+    let after-wider-room = after-check-run .before in
+    run-goes _ _ _ _ _ _ (after-check-run .check-run .ensures) _ (after-wider-room .wider-room .ensures .same) _ (after-if1 .if1 .left) _
+    (passes _ _ _ _ _ (after-is-stop .is-stop .ensures) (c .before .before .if2 .left) (near-fails _ _ _ _ _ (c .before .first-bad .ensures) (c .if3 .taken)))
 
 returns-4 : tie.Need-returns-4
 unfolding handInAnswer memoryRoom coloursRoom stateOf
-returns-4 c = run-goes _ _ _ _ _ _ (c .before .before .before .before .before .before .check-run .ensures) _ (c .before .before .before .before .before .before .before .wider-room .ensures .same) _ (c .before .before .before .before .before .if1 .left) _ (passes _ _ _ _ _ (c .before .before .before .is-stop .ensures) (c .before .before .if2 .left) (skips _ _ _ _ (eq-eqb _ _ (sym (c .before .first-bad .ensures) ∙ c .if3 .left)) none))
+returns-4 c =
+    let after-is-stop = c .before .before .before in let after-if1 = after-is-stop .before .before in let after-check-run = after-if1 .before in
+    let after-wider-room = after-check-run .before in
+    run-goes _ _ _ _ _ _ (after-check-run .check-run .ensures) _ (after-wider-room .wider-room .ensures .same) _ (after-if1 .if1 .left) _
+    (passes _ _ _ _ _ (after-is-stop .is-stop .ensures) (c .before .before .if2 .left)
+    (skips _ _ _ _ (eq-eqb _ _ (sym (c .before .first-bad .ensures) ∙ c .if3 .left)) none))
 
 pub refuses-hand-in-spec : {M : Type 1} → statement M
 refuses-hand-in-spec =

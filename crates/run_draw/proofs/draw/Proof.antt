@@ -20,10 +20,17 @@ cycle-of-requires : tie.Need-cycle-of-requires
 cycle-of-requires c κs = tt
 
 draw-requires : tie.Need-draw-requires
-draw-requires c κs = let a = c .before .before .before .before .before .before .before .before .before .before .before .before .before .before .args in going-by (courseOf (a .z) (now (a .tiles)) (now (a .colours)) (now (a .counts)) (now (a .samples))) (now (a .order)) (now (a .hints)) (now (a .palette)) (a .r) _ _ (c .before .before .before .before .before .before .subs-of .ensures) (c .before .before .before .before .before .have-of .ensures) _ _ (c .before .before .before .cycle-of .ensures) (c .before .before .before .before .before .before .before .before .before .before .before .before .before .before .pre .going)
+draw-requires c κs =
+    let after-cycle-of = c .before .before .before in let after-have-of = after-cycle-of .before .before in
+    let after-subs-of = after-have-of .before in let start = after-subs-of .before .before .before .before .before .before .before .before in
+    let a = start .args in
+    going-by (courseOf (a .z) (now (a .tiles)) (now (a .colours)) (now (a .counts)) (now (a .samples))) (now (a .order)) (now (a .hints))
+    (now (a .palette)) (a .r) _ _ (after-subs-of .subs-of .ensures) (after-have-of .have-of .ensures) _ _ (after-cycle-of .cycle-of .ensures) (start .pre .going)
 
 count-draw-requires : tie.Need-count-draw-requires
-count-draw-requires c κs = c .before .before .before .before .before .before .before .before .before .before .before .before .before .before .before .before .before .before .before .before .before .pre .left
+count-draw-requires c κs =
+    let start = c .before .before .before .before .before .before .before .before .before .before .before .before .before .before .before .before .before .before .before .before .before in
+    start .pre .left
 
 same-length : tie.Need-same-length
 same-length c = search needs
@@ -35,7 +42,15 @@ same-length-3 : tie.Need-same-length-3
 same-length-3 c = search needs
 
 returns : tie.Need-returns
-returns c = let a = c .before .before .before .before .before .before .before .before .before .before .before .before .before .before .before .before .before .before .before .before .before .before .args in drawn-by (courseOf (a .z) (now (a .tiles)) (now (a .colours)) (now (a .counts)) (now (a .samples))) (now (a .order)) (now (a .hints)) (now (a .palette)) (a .r) _ _ (c .before .before .before .before .before .before .before .before .before .before .before .before .before .before .subs-of .ensures) (c .before .before .before .before .before .before .before .before .before .before .before .before .before .have-of .ensures) _ _ (c .before .before .before .before .before .before .before .before .before .before .before .cycle-of .ensures) _ (c .before .before .before .before .before .before .before .before .before .before .before .before .alpha-of .ensures) _ _ _ _ _ (c .before .before .before .before .before .before .before .draw .ensures .0) (c .before .before .before .before .before .before .before .draw .ensures .1 .0) (c .before .before .before .before .before .before .before .draw .ensures .1 .1) _ (c .count-draw .ensures)
+returns c =
+    let after-draw = c .before .before .before .before .before .before .before in let after-cycle-of = after-draw .before .before .before .before in
+    let after-alpha-of = after-cycle-of .before in let after-have-of = after-alpha-of .before in let after-subs-of = after-have-of .before in
+    let start = after-subs-of .before .before .before .before .before .before .before .before in
+    let a = start .args in
+    drawn-by (courseOf (a .z) (now (a .tiles)) (now (a .colours)) (now (a .counts)) (now (a .samples))) (now (a .order)) (now (a .hints))
+    (now (a .palette)) (a .r) _ _ (after-subs-of .subs-of .ensures) (after-have-of .have-of .ensures) _ _ (after-cycle-of .cycle-of .ensures) _
+    (after-alpha-of .alpha-of .ensures) _ _ _ _ _ (after-draw .draw .ensures .0) (after-draw .draw .ensures .1 .0) (after-draw .draw .ensures .1 .1) _
+    (c .count-draw .ensures)
 
 pub draw-spec : {M : Type 1} → statement M
 draw-spec =

@@ -1,5 +1,4 @@
 -- `run_hand_in::hand_in` meets its contract, refused or not. Assumes nothing.
-use Rattle.calls.proofs.Accepted.{few-pixels}
 use Rattle.run_hand_in.proofs.Laws.{refused, same-room, six, handed, accepted}
 use borrow.Author.Needs.{needs}
 use Rattle.run_hand_in.proofs.hand_in.Statement.{statement}
@@ -18,19 +17,25 @@ same-length-3 : tie.Need-same-length-3
 same-length-3 c = search needs
 
 returns : tie.Need-returns
-returns c = refused _ few-pixels _ _ _ _ (c .before .refuses-hand-in .ensures) (c .if1 .taken)
+returns c = refused _ _ _ _ (c .before .refuses-hand-in .ensures) (c .if1 .taken)
 
 copy-requires : tie.Need-copy-requires
-copy-requires c κs = same-room _ few-pixels _ _ _ _ (c .before .before .refuses-hand-in .ensures) (c .before .if1 .left)
+copy-requires c κs = same-room _ _ _ _ (c .before .before .refuses-hand-in .ensures) (c .before .if1 .left)
 
 record-of-requires : tie.Need-record-of-requires
-record-of-requires c κs = six _ few-pixels _ _ _ _ (c .before .before .before .before .before .before .refuses-hand-in .ensures) (c .before .before .before .before .before .if1 .left)
+record-of-requires c κs = six _ _ _ _ (c .before .before .before .before .before .before .refuses-hand-in .ensures) (c .before .before .before .before .before .if1 .left)
 
-go-on-requires : tie.Need-go-on-requires
-go-on-requires c κs = handed _ few-pixels _ _ _ _ (c .before .before .before .before .before .before .before .before .before .refuses-hand-in .ensures) (c .before .before .before .before .before .before .before .before .if1 .left) _ (c .before .before .before .before .before .before .copy .ensures) _ (c .before .before .record-of .ensures)
+after-stop-requires : tie.Need-after-stop-requires
+after-stop-requires c κs =
+    let after-copy = c .before .before .before .before .before .before in let after-if1 = after-copy .before .before in
+    let after-refuses-hand-in = after-if1 .before in
+    handed _ _ _ _ (after-refuses-hand-in .refuses-hand-in .ensures) (after-if1 .if1 .left) _ (after-copy .copy .ensures) _ (c .before .before .record-of .ensures)
 
 write-record-requires : tie.Need-write-record-requires
-write-record-requires c κs = six _ few-pixels _ _ _ _ (c .before .before .before .before .before .before .before .before .before .before .before .before .before .before .before .refuses-hand-in .ensures) (c .before .before .before .before .before .before .before .before .before .before .before .before .before .before .if1 .left)
+write-record-requires c κs =
+    let after-if1 = c .before .before .before .before .before .before .before .before .before .before .before .before .before .before in
+    let after-refuses-hand-in = after-if1 .before in
+    six _ _ _ _ (after-refuses-hand-in .refuses-hand-in .ensures) (after-if1 .if1 .left)
 
 same-length-4 : tie.Need-same-length-4
 same-length-4 c = search needs
@@ -42,7 +47,12 @@ same-length-6 : tie.Need-same-length-6
 same-length-6 c = search needs
 
 returns-2 : tie.Need-returns-2
-returns-2 c = accepted _ few-pixels _ _ _ _ (c .before .before .before .before .before .before .before .before .before .before .before .before .before .before .before .before .before .before .refuses-hand-in .ensures) (c .before .before .before .before .before .before .before .before .before .before .before .before .before .before .before .before .before .if1 .left) _ (c .before .before .before .before .before .before .before .before .before .before .before .before .before .before .before .copy .ensures) _ (c .before .before .before .before .before .before .before .before .before .before .before .record-of .ensures) _ _ _ (c .before .before .before .before .before .before .before .before .go-on .ensures) _ (c .before .before .write-record .ensures)
+returns-2 c =
+    let after-after-stop = c .before .before .before .before .before .before .before .before in
+    let after-record-of = after-after-stop .before .before .before in let after-copy = after-record-of .before .before .before .before in
+    let after-if1 = after-copy .before .before in let after-refuses-hand-in = after-if1 .before in
+    accepted _ _ _ _ (after-refuses-hand-in .refuses-hand-in .ensures) (after-if1 .if1 .left) _ (after-copy .copy .ensures) _ (after-record-of .record-of .ensures) _ _ _
+    (after-after-stop .after-stop .ensures) _ (c .before .before .write-record .ensures)
 
 pub hand-in-spec : {M : Type 1} → statement M
 hand-in-spec =
@@ -55,7 +65,7 @@ hand-in-spec =
     returns
     copy-requires
     record-of-requires
-    go-on-requires
+    after-stop-requires
     write-record-requires
     same-length-4
     same-length-5

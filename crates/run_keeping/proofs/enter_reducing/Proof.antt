@@ -11,6 +11,12 @@ copy-requires c κs = search needs
 zero-requires : tie.Need-zero-requires
 zero-requires c κs = search needs
 
+noted-requires : tie.Need-noted-requires
+noted-requires c κs = tt
+
+placed-requires : tie.Need-placed-requires
+placed-requires c κs = tt
+
 same-length : tie.Need-same-length
 same-length c = search needs
 
@@ -18,8 +24,11 @@ same-length-2 : tie.Need-same-length-2
 same-length-2 c = search needs
 
 returns : tie.Need-returns
-returns c = reduced-by (sized _ _ _) _ _ (c .before .before .before .before .before .before .before .before .before .before .before .args .r) (c .before .before .before .before .before .before .before .before .before .before .before .pre .two) _ _ (c .before .before .before .before .before .before .copy .ensures) (c .before .before .zero .ensures)
+returns c =
+    let after-zero = c .before .before .before .before in let after-copy = after-zero .before .before .before .before in
+    let start = after-copy .before .before .before .before .before in
+    reduced-by (sized _ _ _) _ _ (start .args .r) (start .pre .two) _ _ (after-copy .copy .ensures) (after-zero .zero .ensures) _ (c .before .noted .ensures) _ (c .placed .ensures)
 
 pub enter-reducing-spec : {M : Type 1} → statement M
 enter-reducing-spec =
-    tie.close (tie.spec copy-requires zero-requires same-length same-length-2 returns)
+    tie.close (tie.spec copy-requires zero-requires noted-requires placed-requires same-length same-length-2 returns)

@@ -9,16 +9,25 @@ mse-requires : tie.Need-mse-requires
 mse-requires c κs = search needs
 
 is-kept-requires : tie.Need-is-kept-requires
-is-kept-requires c κs = (c .before .before .before .before .before .before .before .before .before .before .pre .error)
+is-kept-requires c κs = let start = c .before .before .before .before .before .before .before .before .before .before in start .pre .error
 
 copy-requires : tie.Need-copy-requires
 copy-requires c κs = search needs
 
-float-to-bits-t21 : tie.Need-float-to-bits-t21
-float-to-bits-t21 c = error-real _ _ _ _ (c .before .before .before .before .before .before .before .before .before .before .before .before .before .before .before .before .pre .lent .whole .shown) _ (c .before .before .before .before .before .before .before .before .mse .ensures .0)
+float-to-bits-noted : tie.Need-float-to-bits-noted
+float-to-bits-noted c =
+    let after-mse = c .before .before .before .before .before .before .before .before in
+    let start = after-mse .before .before .before .before .before .before .before .before in
+    error-real _ _ _ _ (start .pre .lent .whole .shown) _ (after-mse .mse .ensures .0)
 
-cast-t22 : tie.Need-cast-t22
-cast-t22 c = omega (arith, error-low _ _ _ _ (c .before .before .before .before .before .before .before .before .before .before .before .before .before .before .before .before .pre .lent .whole .shown) _ (c .before .before .before .before .before .before .before .before .mse .ensures .0))
+cast-noted : tie.Need-cast-noted
+cast-noted c =
+    let after-mse = c .before .before .before .before .before .before .before .before in
+    let start = after-mse .before .before .before .before .before .before .before .before in
+    omega (arith, error-low _ _ _ _ (start .pre .lent .whole .shown) _ (after-mse .mse .ensures .0))
+
+noted-requires : tie.Need-noted-requires
+noted-requires c κs = tt
 
 same-length : tie.Need-same-length
 same-length c = search needs
@@ -27,13 +36,18 @@ same-length-2 : tie.Need-same-length-2
 same-length-2 c = search needs
 
 returns : tie.Need-returns
-returns c = kept-by _ _ _ _ (c .before .before .before .before .before .before .before .before .before .before .before .before .before .before .before .before .args .r) _ _ (c .before .before .before .before .before .before .before .before .mse .ensures .0) _ (c .before .before .before .before .before .before .before .before .mse .ensures .1) _ (c .before .before .before .before .before .is-kept .ensures) (c .before .before .before .before .if1 .taken) _ (c .before .before .copy .ensures)
+returns c =
+    let after-copy = c .before .before .before in let after-if1 = after-copy .before .before in let after-is-kept = after-if1 .before in
+    let after-mse = after-is-kept .before .before .before in let start = after-mse .before .before .before .before .before .before .before .before in
+    kept-by _ _ _ _ (start .args .r) _ _ (after-mse .mse .ensures .0) _ (after-mse .mse .ensures .1) _ (after-is-kept .is-kept .ensures) (after-if1 .if1 .taken) _ (after-copy .copy .ensures) _ (c .noted .ensures)
 
 same-length-3 : tie.Need-same-length-3
 same-length-3 c = search needs
 
 returns-2 : tie.Need-returns-2
-returns-2 c = passed-by _ _ _ _ (c .before .before .before .before .before .before .before .before .before .before .before .before .args .r) _ _ (c .before .before .before .before .mse .ensures .0) _ (c .before .before .before .before .mse .ensures .1) _ (c .before .is-kept .ensures) (c .if1 .left)
+returns-2 c =
+    let after-mse = c .before .before .before .before in let start = after-mse .before .before .before .before .before .before .before .before in
+    passed-by _ _ _ _ (start .args .r) _ _ (after-mse .mse .ensures .0) _ (after-mse .mse .ensures .1) _ (c .before .is-kept .ensures) (c .if1 .left)
 
 pub look-spec : {M : Type 1} → statement M
 look-spec =
@@ -42,8 +56,9 @@ look-spec =
     mse-requires
     is-kept-requires
     copy-requires
-    float-to-bits-t21
-    cast-t22
+    float-to-bits-noted
+    cast-noted
+    noted-requires
     same-length
     same-length-2
     returns

@@ -11,7 +11,7 @@ abbrev Inv-loop : tie.InvT-loop
 Inv-loop z tiles colours counts palette₀ hints₀ i₀ palette hints i = Refining (jobOf z tiles colours counts) hints₀ palette₀ hints palette i
 
 abbrev μ-loop : tie.MeasureT-loop
-μ-loop s c t weight tiles colours counts palette₀ hints₀ i₀ palette hints i = 4 - i
+μ-loop z tiles colours counts palette₀ hints₀ i₀ palette hints i = 4 - i
 
 loop-holds : tie.Need-loop-holds Inv-loop μ-loop
 loop-holds c = let start = c .before .before .before .before .before in begun _ _ _ (start .pre)

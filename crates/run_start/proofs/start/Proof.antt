@@ -1,5 +1,4 @@
 -- `run_start::start` meets its contract, refused or not. Assumes nothing.
-use Rattle.calls.proofs.Accepted.{few-pixels}
 use Rattle.run_start.proofs.Laws.{refused, can-blank, can-deal, six, beginning, accepted}
 use borrow.Author.Needs.{needs}
 use Rattle.run_start.proofs.start.Statement.{statement}
@@ -24,19 +23,28 @@ same-length-5 : tie.Need-same-length-5
 same-length-5 c = search needs
 
 returns : tie.Need-returns
-returns c = refused _ few-pixels _ _ _ _ (c .before .refuses-start .ensures) (c .if1 .taken)
+returns c = refused _ _ _ _ (c .before .refuses-start .ensures) (c .if1 .taken)
 
 blank-requires : tie.Need-blank-requires
-blank-requires c κs = can-blank _ few-pixels _ _ 0 _ (c .before .before .before .refuses-start .ensures) (c .before .before .if1 .left)
+blank-requires c κs = can-blank _ _ 0 _ (c .before .before .before .refuses-start .ensures) (c .before .before .if1 .left)
 
 deal-requires : tie.Need-deal-requires
-deal-requires c κs = can-deal _ few-pixels _ _ 0 _ (c .before .before .before .before .before .before .before .before .before .refuses-start .ensures) (c .before .before .before .before .before .before .before .before .if1 .left)
+deal-requires c κs =
+    let after-if1 = c .before .before .before .before .before .before .before .before in let after-refuses-start = after-if1 .before in
+    can-deal _ _ 0 _ (after-refuses-start .refuses-start .ensures) (after-if1 .if1 .left)
 
 set-out-requires : tie.Need-set-out-requires
-set-out-requires c κs = beginning _ few-pixels _ _ _ _ (c .before .before .before .before .before .before .before .before .before .before .before .before .before .before .before .before .refuses-start .ensures) (c .before .before .before .before .before .before .before .before .before .before .before .before .before .before .before .if1 .left) _ _ (c .before .before .before .before .before .before .before .before .before .before .before .before .blank .ensures) _ _ (c .before .before .before .before .before .before .deal .ensures)
+set-out-requires c κs =
+    let after-deal = c .before .before .before .before .before .before in
+    let after-blank = after-deal .before .before .before .before .before .before in let after-if1 = after-blank .before .before .before in
+    let after-refuses-start = after-if1 .before in
+    beginning _ _ _ _ (after-refuses-start .refuses-start .ensures) (after-if1 .if1 .left) _ _ (after-blank .blank .ensures) _ _ (after-deal .deal .ensures)
 
 write-record-requires : tie.Need-write-record-requires
-write-record-requires c κs = six _ few-pixels _ _ 0 _ (c .before .before .before .before .before .before .before .before .before .before .before .before .before .before .before .before .before .before .before .before .before .before .before .before .refuses-start .ensures) (c .before .before .before .before .before .before .before .before .before .before .before .before .before .before .before .before .before .before .before .before .before .before .before .if1 .left)
+write-record-requires c κs =
+    let after-if1 = c .before .before .before .before .before .before .before .before .before .before .before .before .before .before .before .before .before .before .before .before .before .before .before in
+    let after-refuses-start = after-if1 .before in
+    six _ _ 0 _ (after-refuses-start .refuses-start .ensures) (after-if1 .if1 .left)
 
 same-length-6 : tie.Need-same-length-6
 same-length-6 c = search needs
@@ -54,7 +62,13 @@ same-length-10 : tie.Need-same-length-10
 same-length-10 c = search needs
 
 returns-2 : tie.Need-returns-2
-returns-2 c = accepted _ few-pixels _ _ _ _ (c .before .before .before .before .before .before .before .before .before .before .before .before .before .before .before .before .before .before .before .before .before .before .before .before .before .before .before .refuses-start .ensures) (c .before .before .before .before .before .before .before .before .before .before .before .before .before .before .before .before .before .before .before .before .before .before .before .before .before .before .if1 .left) _ _ (c .before .before .before .before .before .before .before .before .before .before .before .before .before .before .before .before .before .before .before .before .before .before .before .blank .ensures) _ _ (c .before .before .before .before .before .before .before .before .before .before .before .before .before .before .before .before .before .deal .ensures) _ _ _ _ (c .before .before .before .before .before .before .before .before .before .before .set-out .ensures) _ (c .before .before .write-record .ensures)
+returns-2 c =
+    let after-set-out = c .before .before .before .before .before .before .before .before .before .before in
+    let after-deal = after-set-out .before .before .before .before .before .before .before in
+    let after-blank = after-deal .before .before .before .before .before .before in let after-if1 = after-blank .before .before .before in
+    let after-refuses-start = after-if1 .before in
+    accepted _ _ _ _ (after-refuses-start .refuses-start .ensures) (after-if1 .if1 .left) _ _ (after-blank .blank .ensures) _ _ (after-deal .deal .ensures) _ _ _ _
+    (after-set-out .set-out .ensures) _ (c .before .before .write-record .ensures)
 
 pub start-spec : {M : Type 1} → statement M
 start-spec =

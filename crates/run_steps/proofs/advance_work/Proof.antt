@@ -4,7 +4,7 @@ use Prim.Native.Nat.{_-_}
 use mir.Facts.{fits-le}
 use Rattle.quantizer.specs.Course.{courseOf}
 use Rattle.stages.specs.State.{stateWith}
-use Rattle.run_steps.proofs.Advances.{Advancing, begun, ongoing, allotted, gone-on, order-kept, hints-kept, palette-kept, least-kept, worked}
+use Rattle.run_steps.proofs.Advances.{Advancing, begun, ongoing, allotted, drawn-more, order-kept, hints-kept, palette-kept, least-kept, worked}
 use borrow.Author.Needs.{needs}
 use Rattle.run_steps.proofs.advance_work.Statement.{statement}
 use Rattle.run_steps.proofs.advance_work.Tie as tie
@@ -17,10 +17,12 @@ abbrev μ-loop : tie.MeasureT-loop
 μ-loop z tiles colours counts samples order₀ hints₀ palette₀ least₀ words allotment r₀ drawn₀ order hints palette least r drawn = allotment - drawn
 
 record-of-requires : tie.Need-record-of-requires Inv-loop μ-loop
-record-of-requires c κs = c .before .before .before .before .before .before .before .before .before .before .pre .1
+record-of-requires c κs = let start = c .before .before .before .before .before .before .before .before .before .before in start .pre .1
 
 loop-holds : tie.Need-loop-holds Inv-loop μ-loop
-loop-holds c = begun _ _ _ _ _ _ (c .before .before .before .before .before .before .before .before .before .before .before .args .words .now) _ (c .record-of .ensures) (c .before .before .before .before .before .before .before .before .before .before .before .pre .0)
+loop-holds c =
+    let start = c .before .before .before .before .before .before .before .before .before .before .before in
+    begun _ _ _ _ _ _ (start .args .words .now) _ (c .record-of .ensures) (start .pre .0)
 
 goes-on-requires : tie.Need-goes-on-requires Inv-loop μ-loop
 goes-on-requires c κs = tt
@@ -29,16 +31,29 @@ step-requires : tie.Need-step-requires Inv-loop μ-loop
 step-requires c κs = ongoing (c .before .before .before .before .before .before .loop .inv) _ (c .before .before .before .before .before .goes-on .ensures) (c .before .before .before .before .if1 .taken)
 
 add-drawn : tie.Need-add-drawn Inv-loop μ-loop
-add-drawn c = fits-le (omega (arith, allotted (c .before .before .before .before .before .before .before .before .before .before .before .before .before .before .before .loop .inv) _ (c .before .before .before .before .before .before .before .before .before .before .before .before .before .before .goes-on .ensures) (c .before .before .before .before .before .before .before .before .before .before .before .before .before .if1 .taken))) (c .before .before .before .before .before .before .before .before .before .before .before .before .before .before .before .before .before .before .before .before .before .before .before .before .before .before .before .fits .allotment)
+add-drawn c =
+    let after-if1 = c .before .before .before .before .before .before .before .before .before .before .before .before .before in
+    let after-goes-on = after-if1 .before in let after-loop = after-goes-on .before in
+    let start = after-loop .before .before .before .before .before .before .before .before .before .before .before .before in
+    fits-le (omega (arith, allotted (after-loop .loop .inv) _ (after-goes-on .goes-on .ensures) (after-if1 .if1 .taken))) (start .fits .allotment)
 
 loop-less : tie.Need-loop-less Inv-loop μ-loop
-loop-less c = omega (arith, allotted (c .before .before .before .before .before .before .before .before .before .before .before .before .before .before .before .loop .inv) _ (c .before .before .before .before .before .before .before .before .before .before .before .before .before .before .goes-on .ensures) (c .before .before .before .before .before .before .before .before .before .before .before .before .before .if1 .taken))
+loop-less c =
+    let after-if1 = c .before .before .before .before .before .before .before .before .before .before .before .before .before in
+    let after-goes-on = after-if1 .before in let after-loop = after-goes-on .before in
+    omega (arith, allotted (after-loop .loop .inv) _ (after-goes-on .goes-on .ensures) (after-if1 .if1 .taken))
 
 loop-again : tie.Need-loop-again Inv-loop μ-loop
-loop-again c = gone-on (c .before .before .before .before .before .before .before .before .before .before .before .before .before .before .before .loop .inv) _ (c .before .before .before .before .before .before .before .before .before .before .before .before .before .before .goes-on .ensures) (c .before .before .before .before .before .before .before .before .before .before .before .before .before .if1 .taken) _ (c .before .before .before .before .before .before .before .before .step .ensures)
+loop-again c =
+    let after-step = c .before .before .before .before .before .before .before .before in
+    let after-if1 = after-step .before .before .before .before .before in let after-goes-on = after-if1 .before in
+    let after-loop = after-goes-on .before in
+    drawn-more (after-loop .loop .inv) _ (after-goes-on .goes-on .ensures) (after-if1 .if1 .taken) _ (after-step .step .ensures)
 
 write-record-requires : tie.Need-write-record-requires Inv-loop μ-loop
-write-record-requires c κs = c .before .before .before .before .before .before .before .before .before .before .before .before .before .before .before .pre .1
+write-record-requires c κs =
+    let start = c .before .before .before .before .before .before .before .before .before .before .before .before .before .before .before in
+    start .pre .1
 
 same-length : tie.Need-same-length Inv-loop μ-loop
 same-length c = order-kept (c .before .before .before .before .before .before .loop .inv)
@@ -56,7 +71,12 @@ same-length-5 : tie.Need-same-length-5 Inv-loop μ-loop
 same-length-5 c = search needs
 
 returns : tie.Need-returns Inv-loop μ-loop
-returns c = worked _ _ _ _ _ _ (c .before .before .before .before .before .before .before .before .before .before .before .before .before .before .before .before .before .before .args .words .now) _ (c .before .before .before .before .before .before .before .record-of .ensures) _ _ _ _ _ (c .before .before .before .before .before .before .loop .r) (c .before .before .before .before .before .before .loop .inv) _ (c .before .before .before .before .before .goes-on .ensures) (c .before .before .before .before .if1 .left) _ (c .before .before .write-record .ensures)
+returns c =
+    let after-if1 = c .before .before .before .before in let after-goes-on = after-if1 .before in let after-loop = after-goes-on .before in
+    let after-record-of = after-loop .before in
+    let start = after-record-of .before .before .before .before .before .before .before .before .before .before .before in
+    worked _ _ _ _ _ _ (start .args .words .now) _ (after-record-of .record-of .ensures) _ _ _ _ _ (after-loop .loop .r) (after-loop .loop .inv) _
+    (after-goes-on .goes-on .ensures) (after-if1 .if1 .left) _ (c .before .before .write-record .ensures)
 
 pub advance-work-spec : {M : Type 1} → statement M
 advance-work-spec =

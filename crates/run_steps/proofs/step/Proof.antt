@@ -5,10 +5,15 @@ use Rattle.run_steps.proofs.step.Statement.{statement}
 use Rattle.run_steps.proofs.step.Tie as tie
 
 draw-requires : tie.Need-draw-requires
-draw-requires c κs = draw-asks _ _ _ _ _ (c .before .before .before .before .before .before .before .before .before .before .before .args .r) (c .before .before .before .before .before .before .before .before .before .before .before .pre)
+draw-requires c κs =
+    let start = c .before .before .before .before .before .before .before .before .before .before .before in
+    draw-asks _ _ _ _ _ (start .args .r) (start .pre)
 
 settle-requires : tie.Need-settle-requires
-settle-requires c κs = settle-asks _ _ _ _ _ (c .before .before .before .before .before .before .before .before .before .before .before .before .before .before .before .before .before .before .before .before .before .before .args .r) _ _ _ (c .before .before .before .before .before .before .before .before .before .before .draw .result) (c .before .before .before .before .before .before .before .before .before .before .draw .ensures) (c .before .before .before .before .before .before .before .before .before .before .before .before .before .before .before .before .before .before .before .before .before .before .pre)
+settle-requires c κs =
+    let after-draw = c .before .before .before .before .before .before .before .before .before .before in
+    let start = after-draw .before .before .before .before .before .before .before .before .before .before .before .before in
+    settle-asks _ _ _ _ _ (start .args .r) _ _ _ (after-draw .draw .result) (after-draw .draw .ensures) (start .pre)
 
 same-length : tie.Need-same-length
 same-length c = search needs
@@ -23,7 +28,11 @@ same-length-4 : tie.Need-same-length-4
 same-length-4 c = search needs
 
 returns : tie.Need-returns
-returns c = stepped _ _ _ _ (c .before .before .before .before .before .before .before .before .before .before .before .before .before .before .before .before .before .before .before .before .before .before .before .before .before .before .before .before .before .args .least .now) (c .before .before .before .before .before .before .before .before .before .before .before .before .before .before .before .before .before .before .before .before .before .before .before .before .before .before .before .before .before .args .r) _ _ _ (c .before .before .before .before .before .before .before .before .before .before .before .before .before .before .before .before .before .draw .result) (c .before .before .before .before .before .before .before .before .before .before .before .before .before .before .before .before .before .draw .ensures) _ (c .before .before .before .before .before .before .settle .ensures)
+returns c =
+    let after-settle = c .before .before .before .before .before .before in
+    let after-draw = after-settle .before .before .before .before .before .before .before .before .before .before .before in
+    let start = after-draw .before .before .before .before .before .before .before .before .before .before .before .before in
+    stepped _ _ _ _ (start .args .least .now) (start .args .r) _ _ _ (after-draw .draw .result) (after-draw .draw .ensures) _ (after-settle .settle .ensures)
 
 pub step-spec : {M : Type 1} → statement M
 step-spec =

@@ -20,7 +20,10 @@ same-length-2 : tie.Need-same-length-2
 same-length-2 c = search needs
 
 returns : tie.Need-returns
-returns c = opened-by _ _ _ (c .before .before .before .before .before .before .before .before .before .before .before .before .before .args .r) _ _ _ (c .before .before .before .before .before .grow-palette .ensures .0) (c .before .before .before .before .before .grow-palette .ensures .1) _ (c .open-round .ensures)
+returns c =
+    let after-grow-palette = c .before .before .before .before .before in
+    let start = after-grow-palette .before .before .before .before .before .before .before .before in
+    opened-by _ _ _ (start .args .r) _ _ _ (after-grow-palette .grow-palette .ensures .0) (after-grow-palette .grow-palette .ensures .1) _ (c .open-round .ensures)
 
 pub open-growing-spec : {M : Type 1} → statement M
 open-growing-spec =

@@ -1,7 +1,8 @@
 -- `read` meets its contract: what the first pass found decides, and a sheet that it accepts fits the room. Assumes nothing.
-use mathlib.Core.Path.{sym, _∙_}
+use mathlib.Core.Path.{sym, ap, _∙_}
 use native.Mathlib.Omega.{arith}
 use lib.ListN.{length}
+use Rattle.job.specs.Job.{sizesOf}
 use Rattle.sheet.specs.Sheets.{room}
 use Rattle.sheet.proofs.Accepted.{Accepted, accepted-says}
 use Rattle.sheet.proofs.Outcomes.{Roomy, roomy-says, no-room, refused-out, accepted-out}
@@ -13,7 +14,7 @@ has-room-requires : tie.Need-has-room-requires
 has-room-requires c κs = search needs
 
 returns : tie.Need-returns
-returns c = no-room (c .before .before .before .before .before .before .before .args .bytes .now) (room (c .before .before .before .before .before .before .before .args .tiles .now) (c .before .before .before .before .before .before .before .args .colours .now) (c .before .before .before .before .before .before .before .args .counts .now) (c .before .before .before .before .before .before .before .args .palette .now)) (c .before .has-room .result) (c .before .has-room .ensures) (c .if1 .taken)
+returns c = no-room _ _ _ (c .before .has-room .ensures) (c .if1 .taken)
 
 check-requires : tie.Need-check-requires
 check-requires c κs = search needs
@@ -25,11 +26,21 @@ enum-known-subs : tie.Need-enum-known-subs
 enum-known-subs c = search needs
 
 -- what the first pass found, and the room that there is
-says : (c : tie.After-known-told2) → Accepted (c .before .before .before .before .before .before .before .before .before .before .before .args .bytes .now) (c .before .subs .given .0 .0) (c .before .subs .given .0 .1 .0) (c .before .subs .given .0 .1 .1 .0) (c .before .subs .given .0 .1 .1 .1 .0)
-says c = accepted-says (c .before .before .before .before .before .before .before .before .before .before .before .args .bytes .now) (c .before .subs .given .0 .0) (c .before .subs .given .0 .1 .0) (c .before .subs .given .0 .1 .1 .0) (c .before .subs .given .0 .1 .1 .1 .0) (sym (c .before .subs .given .1) ∙ c .before .before .before .check .ensures)
+says : (c : tie.After-known-told2) →
+    let found = c .before .subs .given .0 in
+    let past-if1 = c .before .before .before .before in
+    Accepted (past-if1 .before .before .before .before .before .before .before .args .bytes .now) (found .0) (found .1 .0) (found .1 .1 .0) (found .1 .1 .1 .0)
+says c =
+    let found = c .before .subs .given in
+    accepted-says _ (found .0 .0) (found .0 .1 .0) (found .0 .1 .1 .0) (found .0 .1 .1 .1 .0) (sym (found .1) ∙ c .before .before .before .check .ensures)
 
-there : (c : tie.After-known-told2) → Roomy (length (c .before .before .before .before .before .before .before .before .before .before .before .args .tiles .now)) (length (c .before .before .before .before .before .before .before .before .before .before .before .args .colours .now)) (length (c .before .before .before .before .before .before .before .before .before .before .before .args .counts .now)) (length (c .before .before .before .before .before .before .before .before .before .before .before .args .palette .now))
-there c = roomy-says _ _ _ _ (c .before .before .before .before .before .has-room .result) (c .before .before .before .before .before .has-room .ensures) (c .before .before .before .before .if1 .left)
+there : (c : tie.After-known-told2) →
+    let past-if1 = c .before .before .before .before in
+    let a = past-if1 .before .before .before .before .before .before .before .args in
+    Roomy (length (a .tiles .now)) (length (a .colours .now)) (length (a .counts .now)) (length (a .palette .now))
+there c =
+    let past-if1 = c .before .before .before .before in
+    roomy-says _ _ _ _ _ (past-if1 .before .has-room .ensures) (past-if1 .if1 .left)
 
 mul-n : tie.Need-mul-n
 mul-n c = omega (arith, says c .few)
@@ -56,25 +67,37 @@ cast-fill-tiles c = search needs
 
 fill-tiles-requires : tie.Need-fill-tiles-requires
 fill-tiles-requires c κs =
-    let x = says (c .before .before .before .before .before .before .before) in
-    let y = there (c .before .before .before .before .before .before .before) in
+    let after-known-told2 = c .before .before .before .before .before .before .before in
+    let x = says (after-known-told2) in
+    let y = there (after-known-told2) in
     (x .long, omega (arith, x .tiles, y .tiles), omega (arith, x .fit, y .counts), omega (arith, x .fit, y .colours), omega (arith, x .fit), x .content)
 
-cast-t25 : tie.Need-cast-t25
-cast-t25 c = search needs
-
-cast-t27 : tie.Need-cast-t27
-cast-t27 c = search needs
-
-cast-t26 : tie.Need-cast-t26
-cast-t26 c = search needs
-
 weight-requires : tie.Need-weight-requires
-weight-requires c κs = says (c .before .before .before .before .before .before .before .before .before .before .before .before .before .before) .weight
+weight-requires c κs =
+    let after-fill-tiles = c .before .before .before .before .before .before in
+    let after-fill-components = after-fill-tiles .before .before .before .before .before .before in
+    let after-known-told2 = after-fill-components .before .before in
+    says (after-known-told2) .weight
+
+cast-sizes-of : tie.Need-cast-sizes-of
+cast-sizes-of c = search needs
+
+cast-sizes-of-2 : tie.Need-cast-sizes-of-2
+cast-sizes-of-2 c = search needs
+
+cast-sizes-of-3 : tie.Need-cast-sizes-of-3
+cast-sizes-of-3 c = search needs
+
+sizes-of-requires : tie.Need-sizes-of-requires
+sizes-of-requires c κs = search needs
 
 returns-2 : tie.Need-returns-2
 returns-2 c =
-    refused-out (c .before .before .before .before .before .before .before .before .before .before .before .args .bytes .now) (room (c .before .before .before .before .before .before .before .before .before .before .before .args .tiles .now) (c .before .before .before .before .before .before .before .before .before .before .before .args .colours .now) (c .before .before .before .before .before .before .before .before .before .before .before .args .counts .now) (c .before .before .before .before .before .before .before .before .before .before .before .args .palette .now)) (c .before .before .before .before .before .has-room .result) (c .before .before .before .before .before .has-room .ensures) (c .before .before .before .before .if1 .left) (c .before .n .given .0 .0) (sym (c .before .n .given .1) ∙ c .before .before .before .check .ensures)
+    let after-n = c .before in
+    let after-check = after-n .before .before in
+    let past-if1 = after-check .before in
+    let after-has-room = past-if1 .before in
+    refused-out _ _ _ (after-has-room .has-room .ensures) (past-if1 .if1 .left) (after-n .n .given .0 .0) (sym (after-n .n .given .1) ∙ after-check .check .ensures)
 
 same-length : tie.Need-same-length
 same-length c = search needs
@@ -90,9 +113,19 @@ same-length-4 c = search needs
 
 returns-3 : tie.Need-returns-3
 returns-3 c =
-    accepted-out (c .before .before .before .before .before .before .before .before .before .before .before .before .before .before .before .before .before .before .before .before .before .before .before .before .before .before .args .bytes .now) (room (c .before .before .before .before .before .before .before .before .before .before .before .before .before .before .before .before .before .before .before .before .before .before .before .before .before .before .args .tiles .now) (c .before .before .before .before .before .before .before .before .before .before .before .before .before .before .before .before .before .before .before .before .before .before .before .before .before .before .args .colours .now) (c .before .before .before .before .before .before .before .before .before .before .before .before .before .before .before .before .before .before .before .before .before .before .before .before .before .before .args .counts .now) (c .before .before .before .before .before .before .before .before .before .before .before .before .before .before .before .before .before .before .before .before .before .before .before .before .before .before .args .palette .now)) (c .before .before .before .before .before .before .before .before .before .before .before .before .before .before .before .before .before .before .before .before .has-room .result) (c .before .before .before .before .before .before .before .before .before .before .before .before .before .before .before .before .before .before .before .before .has-room .ensures) (c .before .before .before .before .before .before .before .before .before .before .before .before .before .before .before .before .before .before .before .if1 .left)
-    (c .before .before .before .before .before .before .before .before .before .before .before .before .before .before .before .before .subs .given .0 .0) (c .before .before .before .before .before .before .before .before .before .before .before .before .before .before .before .before .subs .given .0 .1 .0) (c .before .before .before .before .before .before .before .before .before .before .before .before .before .before .before .before .subs .given .0 .1 .1 .0) (c .before .before .before .before .before .before .before .before .before .before .before .before .before .before .before .before .subs .given .0 .1 .1 .1 .0) (c .weight .result) _ _ _ _ (says (c .before .before .before .before .before .before .before .before .before .before .before .before .before .before .before)) (c .weight .ensures .0)
-    (c .before .before .before .before .before .before .before .before .before .before .before .before .before .fill-components .ensures) (c .before .before .before .before .before .before .before .fill-tiles .ensures .0) (c .before .before .before .before .before .before .before .fill-tiles .ensures .1) (c .before .before .before .before .before .before .before .fill-tiles .ensures .2)
+    let after-weight = c .before in
+    let after-fill-tiles = after-weight .before .before .before .before .before .before .before in
+    let after-fill-components = after-fill-tiles .before .before .before .before .before .before in
+    let after-known-told2 = after-fill-components .before .before in
+    let after-subs = after-known-told2 .before in
+    let past-if1 = after-subs .before .before .before in
+    let after-has-room = past-if1 .before in
+    let found = after-subs .subs .given in
+    accepted-out _ _ _ (after-has-room .has-room .ensures) (past-if1 .if1 .left) (found .0 .0) (found .0 .1 .0) (found .0 .1 .1 .0) (found .0 .1 .1 .1 .0) _ _ _ _ _
+    (says (after-known-told2))
+    (c .sizes-of .ensures ∙ ap (sizesOf (found .0 .0) (found .0 .1 .0) (found .0 .1 .1 .0) 0) (after-weight .weight .ensures .0))
+    (after-fill-components .fill-components .ensures)
+    (after-fill-tiles .fill-tiles .ensures .0) (after-fill-tiles .fill-tiles .ensures .1) (after-fill-tiles .fill-tiles .ensures .2)
 
 pub read-spec : {M : Type 1} → statement M
 read-spec =
@@ -111,10 +144,11 @@ read-spec =
     add-fill-tiles
     cast-fill-tiles
     fill-tiles-requires
-    cast-t25
-    cast-t27
-    cast-t26
     weight-requires
+    cast-sizes-of
+    cast-sizes-of-2
+    cast-sizes-of-3
+    sizes-of-requires
     returns-2
     same-length
     same-length-2

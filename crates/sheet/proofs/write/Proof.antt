@@ -1,6 +1,5 @@
 -- `write` meets its contract: the job's refusals first, then the size, then the room. Assumes nothing.
 use native.Mathlib.Omega.{arith}
-use Rattle.job.specs.Job.{jobOf, tileSize}
 use Rattle.sheet_room.proofs.Places.{placed}
 use Rattle.sheet.proofs.Files.{job-refused, passed, no-place, file-written}
 use borrow.Author.Needs.{needs}
@@ -11,38 +10,71 @@ check-job-requires : tie.Need-check-job-requires
 check-job-requires c κs = search needs
 
 returns : tie.Need-returns
-returns c = job-refused tileSize (jobOf (c .before .before .before .before .before .before .before .args .z) (c .before .before .before .before .before .before .before .args .tiles .now) (c .before .before .before .before .before .before .before .args .colours .now) (c .before .before .before .before .before .before .before .args .counts .now)) (c .before .before .before .before .before .before .before .args .palette .now) (c .before .before .before .before .before .before .before .args .dst .now) (c .before .check-job .result) (c .before .check-job .ensures) (c .if1 .taken)
+returns c =
+    job-refused _ _ (c .before .before .before .before .before .before .before .args .dst .now) _ (c .before .check-job .ensures) (c .if1 .taken)
 
 size-of-requires : tie.Need-size-of-requires
 size-of-requires c κs =
-    let R = passed tileSize (jobOf (c .before .before .before .before .before .before .before .args .z) (c .before .before .before .before .before .before .before .args .tiles .now) (c .before .before .before .before .before .before .before .args .colours .now) (c .before .before .before .before .before .before .before .args .counts .now)) (c .before .before .before .before .before .before .before .args .palette .now) (c .before .before .before .before .before .before .before .args .dst .now) (c .before .check-job .result) (c .before .check-job .ensures) (c .if1 .left) .ready in
+    let after-check-job = c .before in
+    let start = after-check-job .before .before .before .before .before .before in
+    let R = passed _ _ (start .args .dst .now) _ (after-check-job .check-job .ensures) (c .if1 .left) .ready in
     (R .sizes .cells, R .sizes .tiles, R .total)
 
 bytes-for-requires : tie.Need-bytes-for-requires
 bytes-for-requires c κs =
-    let R = passed tileSize (jobOf (c .before .before .before .before .before .before .before .before .args .z) (c .before .before .before .before .before .before .before .before .args .tiles .now) (c .before .before .before .before .before .before .before .before .args .colours .now) (c .before .before .before .before .before .before .before .before .args .counts .now)) (c .before .before .before .before .before .before .before .before .args .palette .now) (c .before .before .before .before .before .before .before .before .args .dst .now) (c .before .before .check-job .result) (c .before .before .check-job .ensures) (c .before .if1 .left) .ready in
+    let past-if1 = c .before in
+    let after-check-job = past-if1 .before in
+    let start = after-check-job .before .before .before .before .before .before in
+    let R = passed _ _ (start .args .dst .now) _ (after-check-job .check-job .ensures) (past-if1 .if1 .left) .ready in
     omega (arith, c .size-of .ensures, R .sizes .cells, R .sizes .tiles, R .total)
 
 place-for-requires : tie.Need-place-for-requires
 place-for-requires c κs = search needs
 
 returns-2 : tie.Need-returns-2
-returns-2 c = no-place tileSize (jobOf (c .before .before .before .before .before .before .before .before .before .before .before .args .z) (c .before .before .before .before .before .before .before .before .before .before .before .args .tiles .now) (c .before .before .before .before .before .before .before .before .before .before .before .args .colours .now) (c .before .before .before .before .before .before .before .before .before .before .before .args .counts .now)) (c .before .before .before .before .before .before .before .before .before .before .before .args .palette .now) (c .before .before .before .before .before .before .before .before .before .before .before .args .dst .now) (c .before .before .before .before .before .check-job .result) (c .before .before .before .before .before .check-job .ensures) (c .before .before .before .before .if1 .left) (c .before .before .before .size-of .result) (c .before .before .bytes-for .result) (c .before .before .before .size-of .ensures) (c .before .before .bytes-for .ensures) (c .before .place-for .result) (c .before .place-for .ensures) (c .if2 .taken)
+returns-2 c =
+    let after-place-for = c .before in
+    let after-bytes-for = after-place-for .before in
+    let after-size-of = after-bytes-for .before in
+    let past-if1 = after-size-of .before in
+    let after-check-job = past-if1 .before in
+    let start = after-check-job .before .before .before .before .before .before in
+    no-place _ _ (start .args .dst .now) _ (after-check-job .check-job .ensures) (past-if1 .if1 .left) (after-size-of .size-of .result)
+    (after-bytes-for .bytes-for .result) (after-size-of .size-of .ensures) (after-bytes-for .bytes-for .ensures) (after-place-for .place-for .result)
+    (after-place-for .place-for .ensures) (c .if2 .taken)
 
 pack-sheet-requires : tie.Need-pack-sheet-requires
 pack-sheet-requires c κs =
-    let P = passed tileSize (jobOf (c .before .before .before .before .before .before .before .before .before .before .before .before .args .z) (c .before .before .before .before .before .before .before .before .before .before .before .before .args .tiles .now) (c .before .before .before .before .before .before .before .before .before .before .before .before .args .colours .now) (c .before .before .before .before .before .before .before .before .before .before .before .before .args .counts .now)) (c .before .before .before .before .before .before .before .before .before .before .before .before .args .palette .now) (c .before .before .before .before .before .before .before .before .before .before .before .before .args .dst .now) (c .before .before .before .before .before .before .check-job .result) (c .before .before .before .before .before .before .check-job .ensures) (c .before .before .before .before .before .if1 .left) in
-    let k = placed (c .before .before .before .bytes-for .result) _ (c .before .before .place-for .result) (c .before .before .place-for .ensures) (c .before .if2 .left) in
-    (P .ready, P .lent, c .before .before .before .before .size-of .ensures, omega (arith, c .before .before .before .bytes-for .ensures), omega (arith, c .before .before .before .bytes-for .ensures))
+    let past-if2 = c .before in
+    let after-place-for = past-if2 .before in
+    let after-bytes-for = after-place-for .before in
+    let after-size-of = after-bytes-for .before in
+    let past-if1 = after-size-of .before in
+    let after-check-job = past-if1 .before in
+    let start = after-check-job .before .before .before .before .before .before in
+    let P = passed _ _ (start .args .dst .now) _ (after-check-job .check-job .ensures) (past-if1 .if1 .left) in
+    let k = placed (after-bytes-for .bytes-for .result) _ (after-place-for .place-for .result) (after-place-for .place-for .ensures) (past-if2 .if2 .left) in
+    (P .ready, P .lent, after-size-of .size-of .ensures, omega (arith, after-bytes-for .bytes-for .ensures), omega (arith, after-bytes-for .bytes-for .ensures))
 
 same-length : tie.Need-same-length
 same-length c = search needs
 
 returns-3 : tie.Need-returns-3
 returns-3 c =
-    let k = placed (c .before .before .before .before .before .before .bytes-for .result) _ (c .before .before .before .before .before .place-for .result) (c .before .before .before .before .before .place-for .ensures) (c .before .before .before .before .if2 .left) in
-    file-written tileSize (jobOf (c .before .before .before .before .before .before .before .before .before .before .before .before .before .before .before .args .z) (c .before .before .before .before .before .before .before .before .before .before .before .before .before .before .before .args .tiles .now) (c .before .before .before .before .before .before .before .before .before .before .before .before .before .before .before .args .colours .now) (c .before .before .before .before .before .before .before .before .before .before .before .before .before .before .before .args .counts .now)) (c .before .before .before .before .before .before .before .before .before .before .before .before .before .before .before .args .palette .now) (c .before .before .before .before .before .before .before .before .before .before .before .before .before .before .before .args .dst .now) (c .before .before .before .before .before .before .before .before .before .check-job .result) (c .before .before .before .before .before .before .before .before .before .check-job .ensures) (c .before .before .before .before .before .before .before .before .if1 .left) (c .before .before .before .before .before .before .before .size-of .result) (c .before .before .before .before .before .before .bytes-for .result) (c .before .before .before .before .before .before .before .size-of .ensures) (c .before .before .before .before .before .before .bytes-for .ensures) _ (k .0) (k .1)
-    (λ i. omega (arith, c .before .before .before .before .before .before .before .before .before .before .slice-known .given i)) (λ i. omega (arith, c .slice-known2 .given i)) (c .before .before .pack-sheet .kept .1 .1 .1 .1 .1 .1 .1 .1 .0) (c .before .before .pack-sheet .ensures)
+    let after-pack-sheet = c .before .before in
+    let past-if2 = after-pack-sheet .before .before in
+    let after-place-for = past-if2 .before in
+    let after-bytes-for = after-place-for .before in
+    let after-size-of = after-bytes-for .before in
+    let past-if1 = after-size-of .before in
+    let after-check-job = past-if1 .before in
+    let lent = after-check-job .before in
+    let start = lent .before .before .before .before .before in
+    let k = placed (after-bytes-for .bytes-for .result) _ (after-place-for .place-for .result) (after-place-for .place-for .ensures) (past-if2 .if2 .left) in
+    file-written _ _ (start .args .dst .now) _ (after-check-job .check-job .ensures) (past-if1 .if1 .left) (after-size-of .size-of .result)
+    (after-bytes-for .bytes-for .result) (after-size-of .size-of .ensures) (after-bytes-for .bytes-for .ensures) _ (k .0) (k .1)
+    (λ i. omega (arith, lent .slice-known .given i)) (λ i. omega (arith, c .slice-known2 .given i))
+    (after-pack-sheet .pack-sheet .kept .1 .1 .1 .1 .1 .0) (after-pack-sheet .pack-sheet .ensures)
 
 pub write-spec : {M : Type 1} → statement M
 write-spec =

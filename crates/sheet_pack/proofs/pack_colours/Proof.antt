@@ -35,7 +35,10 @@ shared-slice-read-put : tie.Need-shared-slice-read-put Inv-loop μ-loop
 shared-slice-read-put c = omega arith
 
 sub-put : tie.Need-sub-put Inv-loop μ-loop
-sub-put c = c .before .before .before .before .before .before .before .pre .3 (c .before .before .before .loop .i) (omega arith)
+sub-put c =
+    let at-loop = c .before .before .before in
+    let start = at-loop .before .before .before .before in
+    start .pre .3 (at-loop .loop .i) (omega arith)
 
 put-requires : tie.Need-put-requires Inv-loop μ-loop
 put-requires c κs = omega arith
@@ -60,9 +63,14 @@ part-pack-components-end c = omega arith
 
 pack-components-requires : tie.Need-pack-components-requires Inv-loop μ-loop
 pack-components-requires c κs =
-    let room : 3 * c .before .before .before .before .before .before .before .before .loop .i + 3 ≤ length (c .before .before .before .before .before .before .before .before .before .before .before .before .args .colours .now) = omega arith in
-    let long = three-long (c .before .before .before .before .before .before .before .before .before .before .before .before .args .colours .now) (3 * c .before .before .before .before .before .before .before .before .loop .i) room in
-    (omega arith, omega arith, three-bounded (c .before .before .before .before .before .before .before .before .before .before .before .before .args .colours .now) (3 * c .before .before .before .before .before .before .before .before .loop .i) room 2 (c .before .before .before .before .before .before .before .before .before .before .before .before .pre .4))
+    let after-In-loop = c .before .before .before .before .before .before .before in
+    let at-loop = after-In-loop .before in
+    let start = at-loop .before .before .before .before in
+    let turn = at-loop .loop in
+    let a = start .args in
+    let room : 3 * turn .i + 3 ≤ length (a .colours .now) = omega arith in
+    let long = three-long (a .colours .now) (3 * turn .i) room in
+    (omega arith, omega arith, three-bounded (a .colours .now) (3 * turn .i) room 2 (start .pre .4))
 
 add-q : tie.Need-add-q Inv-loop μ-loop
 add-q c = omega arith
@@ -74,22 +82,34 @@ loop-less : tie.Need-loop-less Inv-loop μ-loop
 loop-less c = omega arith
 
 loop-again : tie.Need-loop-again Inv-loop μ-loop
-loop-again c = (
-  omega arith,
-  c .before .before .pack-components .kept .0 ∙ c .before .before .before .before .before .before .before .put .kept .0 ∙ c .before .before .before .before .before .before .before .before .before .before .before .loop .inv .1,
-  omega arith,
-  colours-again (c .before .before .before .before .before .before .before .before .before .before .before .before .before .before .before .args .counts .now) (c .before .before .before .before .before .before .before .before .before .before .before .before .before .before .before .args .colours .now) (c .before .before .before .before .before .before .before .before .before .before .before .loop .dst) (c .before .before .before .before .before .before .before .put .last .0) (c .before .before .pack-components .last .0) (c .before .before .before .before .before .before .before .before .before .before .before .loop .q) (c .before .before .before .before .before .before .before .before .before .before .before .loop .i) _ (omega arith) (omega arith) (omega arith)
-      (c .before .before .before .before .before .before .before .put .ensures)
-      (c .before .before .pack-components .ensures
-      ∙ ap (λ (x : List Float). sets (bits (c .before .before .before .before .before .before .before .put .last .0)) (c .before .before .before .before .before .before .before .before .before .before .before .loop .q + 6) (words (patterns x))) (three-part (c .before .before .before .before .before .before .before .before .before .before .before .before .before .before .before .args .colours .now) (3 * c .before .before .before .before .before .before .before .before .before .before .before .loop .i) (omega arith)))
-      (c .before .before .before .before .before .before .before .before .before .before .before .loop .inv .3),
-)
+loop-again c =
+    let after-pack-components = c .before .before in
+    let after-put = after-pack-components .before .before .before .before .before in
+    let at-loop = after-put .before .before .before .before in
+    let start = at-loop .before .before .before .before in
+    let turn = at-loop .loop in
+    let a = start .args in (
+      omega arith,
+      after-pack-components .pack-components .kept .0 ∙ after-put .put .kept .0 ∙ turn .inv .1,
+      omega arith,
+      colours-again (a .counts .now) (a .colours .now) (turn .dst) (after-put .put .last .0) (after-pack-components .pack-components .last .0) (turn .q) (turn .i) _
+          (omega arith) (omega arith) (omega arith)
+          (after-put .put .ensures)
+          (after-pack-components .pack-components .ensures
+          ∙ ap (λ (x : List Float). sets (bits (after-put .put .last .0)) (turn .q + 6) (words (patterns x))) (three-part (a .colours .now) (3 * turn .i) (omega arith)))
+          (turn .inv .3),
+    )
 
 same-length : tie.Need-same-length Inv-loop μ-loop
 same-length c = omega arith
 
 returns : tie.Need-returns Inv-loop μ-loop
-returns c = colours-end (c .before .before .before .before .before .args .counts .now) (c .before .before .before .before .before .args .colours .now) (c .before .loop .dst) (c .before .loop .q) (c .before .loop .i) _ (omega arith) (c .before .loop .inv .3)
+returns c =
+    let at-loop = c .before in
+    let start = at-loop .before .before .before .before in
+    let turn = at-loop .loop in
+    let a = start .args in
+    colours-end (a .counts .now) (a .colours .now) (turn .dst) (turn .q) (turn .i) _ (omega arith) (turn .inv .3)
 
 pub pack-colours-spec : {M : Type 1} → statement M
 pack-colours-spec =

@@ -30,7 +30,10 @@ shared-slice-read-v : tie.Need-shared-slice-read-v Inv-loop μ-loop
 shared-slice-read-v c = omega arith
 
 float-to-bits-v : tie.Need-float-to-bits-v Inv-loop μ-loop
-float-to-bits-v c = within-real (getD (c .before .before .before .before .before .args .src .now) (c .before .before .loop .i) nan) 2 1 (c .before .before .before .before .before .pre .2 (c .before .before .loop .i) (omega arith))
+float-to-bits-v c =
+    let at-loop = c .before .before in
+    let start = at-loop .before .before .before in
+    within-real (getD (start .args .src .now) (at-loop .loop .i) nan) 2 1 (start .pre .2 (at-loop .loop .i) (omega arith))
 
 put-requires : tie.Need-put-requires Inv-loop μ-loop
 put-requires c κs = omega arith
@@ -45,18 +48,27 @@ loop-less : tie.Need-loop-less Inv-loop μ-loop
 loop-less c = omega arith
 
 loop-again : tie.Need-loop-again Inv-loop μ-loop
-loop-again c = (
-  omega arith,
-  c .before .before .put .kept .0 ∙ c .before .before .before .before .before .before .loop .inv .1,
-  omega arith,
-  words-again (c .before .before .before .before .before .before .before .before .before .args .src .now) (c .before .before .before .before .before .before .loop .dst) (c .before .before .put .last .0) (c .before .before .before .before .before .before .loop .q) (c .before .before .before .before .before .before .loop .i) _ _ (omega arith) (omega arith) refl (c .before .before .put .ensures) (c .before .before .before .before .before .before .loop .inv .3),
-)
+loop-again c =
+    let after-put = c .before .before in
+    let at-loop = after-put .before .before .before .before in
+    let start = at-loop .before .before .before in
+    let turn = at-loop .loop in (
+      omega arith,
+      after-put .put .kept .0 ∙ turn .inv .1,
+      omega arith,
+      words-again (start .args .src .now) (turn .dst) (after-put .put .last .0) (turn .q) (turn .i) _ _ (omega arith) (omega arith) refl (after-put .put .ensures)
+          (turn .inv .3),
+    )
 
 same-length : tie.Need-same-length Inv-loop μ-loop
 same-length c = omega arith
 
 returns : tie.Need-returns Inv-loop μ-loop
-returns c = words-end (c .before .before .before .before .args .src .now) (c .before .loop .dst) (c .before .loop .q) (c .before .loop .i) _ (omega arith) (c .before .loop .inv .3)
+returns c =
+    let at-loop = c .before in
+    let start = at-loop .before .before .before in
+    let turn = at-loop .loop in
+    words-end (start .args .src .now) (turn .dst) (turn .q) (turn .i) _ (omega arith) (turn .inv .3)
 
 pub pack-components-spec : {M : Type 1} → statement M
 pack-components-spec =

@@ -24,7 +24,13 @@ same-length : tie.Need-same-length
 same-length c = search needs
 
 returns : tie.Need-returns
-returns c = tile-done (c .before .before .before .before .before .before .before .before .before .before .before .args .counts .now) (c .before .before .before .before .before .before .before .before .before .before .before .args .colours .now) _ _ _ (c .before .before .before .before .before .before .before .before .before .before .before .args .p) (length (c .before .before .before .before .before .before .before .before .before .before .before .args .counts .now)) (rw length-bits (omega arith)) refl (c .before .before .before .before .before .before .put .ensures) (c .before .before .pack-colours .ensures)
+returns c =
+    let after-pack-colours = c .before .before in
+    let after-put = after-pack-colours .before .before .before .before in
+    let start = after-put .before .before .before .before .before in
+    let a = start .args in
+    tile-done (a .counts .now) (a .colours .now) _ _ _ (a .p) (length (a .counts .now)) (rw length-bits (omega arith)) refl (after-put .put .ensures)
+    (after-pack-colours .pack-colours .ensures)
 
 pub pack-tile-spec : {M : Type 1} → statement M
 pack-tile-spec =

@@ -4,7 +4,7 @@ use mathlib.Core.Path.{ap}
 use native.Mathlib.Omega.{arith}
 use Rattle.bits.proofs.Bytes.{length-bits}
 use Rattle.ieee.proofs.Bounds.{within-real}
-use Rattle.job.specs.Job.{jobOf, tileSize}
+use Rattle.job.specs.Job.{jobOf}
 use Rattle.sheet_whole.proofs.Whole.{sheet-done}
 use borrow.Author.Needs.{needs}
 use Rattle.sheet_whole.proofs.pack_sheet.Statement.{statement}
@@ -26,7 +26,10 @@ sub-spare : tie.Need-sub-spare
 sub-spare c = search needs
 
 float-to-bits-pack-head : tie.Need-float-to-bits-pack-head
-float-to-bits-pack-head c = within-real (c .before .before .before .before .before .before .before .args .weight) 16 1 (c .before .before .before .before .before .before .before .pre .0 .heavy)
+float-to-bits-pack-head c =
+    let after-bytes-for = c .before .before in
+    let start = after-bytes-for .before .before .before .before .before .before in
+    within-real (start .args .z .weight) 16 1 (start .pre .0 .heavy)
 
 pack-head-requires : tie.Need-pack-head-requires
 pack-head-requires c κs = search needs
@@ -45,9 +48,17 @@ same-length c = search needs
 
 returns : tie.Need-returns
 returns c =
-    sheet-done tileSize (jobOf (c .before .before .before .before .before .before .before .before .before .before .before .before .before .before .before .before .before .before .before .before .before .before .args .z) (c .before .before .before .before .before .before .before .before .before .before .before .before .before .before .before .before .before .before .before .before .before .before .args .tiles .now) (c .before .before .before .before .before .before .before .before .before .before .before .before .before .before .before .before .before .before .before .before .before .before .args .colours .now) (c .before .before .before .before .before .before .before .before .before .before .before .before .before .before .before .before .before .before .before .before .before .before .args .counts .now)) (c .before .before .before .before .before .before .before .before .before .before .before .before .before .before .before .before .before .before .before .before .before .before .pre .0) (c .before .before .before .before .before .before .before .before .before .before .before .before .before .before .before .before .before .before .before .before .before .before .args .palette .now) (c .before .before .before .before .before .before .before .before .before .before .before .before .before .before .before .before .before .before .before .before .before .before .pre .1)
-    _ _ _ _ _ (c .before .before .before .before .before .before .before .before .before .before .before .before .before .before .before .before .before .before .before .before .before .before .args .size) (8 * c .before .before .before .before .before .before .before .before .before .before .before .before .before .before .before .before .bytes-for .result - c .before .before .before .before .before .before .before .before .before .before .before .before .before .before .before .before .before .before .before .before .before .before .args .size) (c .before .before .before .before .before .before .before .before .before .before .before .before .before .before .before .before .before .before .before .before .before .before .pre .2) (rw length-bits (omega arith)) (ap (λ (n : ℕ). 8 * n - c .before .before .before .before .before .before .before .before .before .before .before .before .before .before .before .before .before .before .before .before .before .before .args .size) (c .before .before .before .before .before .before .before .before .before .before .before .before .before .before .before .before .bytes-for .ensures))
-    (c .before .before .before .before .before .before .before .before .before .before .before .before .before .before .pack-head .ensures) (c .before .before .before .before .before .before .before .before .before .before .pack-components .ensures) (c .before .before .before .before .before .before .pack-tiles .ensures) (c .before .before .put .ensures)
+    let after-put = c .before .before in
+    let after-pack-tiles = after-put .before .before .before .before in
+    let after-pack-components = after-pack-tiles .before .before .before .before in
+    let after-pack-head = after-pack-components .before .before .before .before in
+    let after-bytes-for = after-pack-head .before .before .before in
+    let start = after-bytes-for .before .before .before .before .before .before in
+    let a = start .args in
+    sheet-done (jobOf (a .z) (a .tiles .now) (a .colours .now) (a .counts .now)) (start .pre .0) (a .palette .now) (start .pre .1)
+    _ _ _ _ _ (a .size) (8 * after-bytes-for .bytes-for .result - a .size) (start .pre .2) (rw length-bits (omega arith))
+    (ap (λ (n : ℕ). 8 * n - a .size) (after-bytes-for .bytes-for .ensures))
+    (after-pack-head .pack-head .ensures) (after-pack-components .pack-components .ensures) (after-pack-tiles .pack-tiles .ensures) (after-put .put .ensures)
 
 pub pack-sheet-spec : {M : Type 1} → statement M
 pack-sheet-spec =

@@ -15,10 +15,14 @@ add-subs : tie.Need-add-subs
 add-subs c = omega (arith, (c .before .before .before .before .before .before .before .pre .more) (c .if1 .left), (c .before .before .before .before .before .before .before .pre .whole .shown .ready .sizes .few))
 
 worst-requires : tie.Need-worst-requires
-worst-requires c κs = (shown _ _ _ (c .before .before .before .before .before .before .before .before .args .r) (c .before .before .before .before .before .before .before .before .pre .whole) ((c .before .before .before .before .before .before .before .before .pre .more) (c .before .if1 .left)), (c .before .before .before .before .before .before .before .before .pre .whole .each))
+worst-requires c κs =
+    let start = c .before .before .before .before .before .before .before .before in
+    (shown _ _ _ (start .args .r) (start .pre .whole) ((start .pre .more) (c .before .if1 .left)), (start .pre .whole .each))
 
 returns-2 : tie.Need-returns-2
-returns-2 c = sought _ _ _ (c .before .before .before .before .before .before .before .before .before .before .before .args .r) (c .before .before .before .before .before .before .before .before .before .before .before .pre .whole) ((c .before .before .before .before .before .before .before .before .before .before .before .pre .more) (c .before .before .before .before .if1 .left)) _ _ (c .before .before .before .before .if1 .left) (c .before .before .worst .ensures .0) (c .before .before .worst .ensures .1)
+returns-2 c =
+    let after-if1 = c .before .before .before .before in let start = after-if1 .before .before .before .before .before .before .before in
+    sought _ _ _ (start .args .r) (start .pre .whole) ((start .pre .more) (after-if1 .if1 .left)) _ _ (after-if1 .if1 .left) (c .before .before .worst .ensures .0) (c .before .before .worst .ensures .1)
 
 pub seek-spec : {M : Type 1} → statement M
 seek-spec = tie.close (tie.spec returns add-subs worst-requires same-length returns-2)

@@ -17,7 +17,10 @@ same-length-2 : tie.Need-same-length-2
 same-length-2 c = search needs
 
 returns : tie.Need-returns
-returns c = opened-by _ _ _ (c .before .before .before .before .before .before .before .before .before .before .before .before .before .args .r) _ _ _ (c .before .before .before .before .before .replace-weakest .ensures .0) (c .before .before .before .before .before .replace-weakest .ensures .1) _ (c .open-round .ensures)
+returns c =
+    let after-replace-weakest = c .before .before .before .before .before in
+    let start = after-replace-weakest .before .before .before .before .before .before .before .before in
+    opened-by _ _ _ (start .args .r) _ _ _ (after-replace-weakest .replace-weakest .ensures .0) (after-replace-weakest .replace-weakest .ensures .1) _ (c .open-round .ensures)
 
 pub open-replacing-spec : {M : Type 1} → statement M
 open-replacing-spec =

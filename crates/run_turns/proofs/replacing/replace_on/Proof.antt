@@ -20,7 +20,11 @@ same-length-3 : tie.Need-same-length-3
 same-length-3 c = search needs
 
 returns : tie.Need-returns
-returns c = replaced-more _ _ _ _ (c .before .before .before .before .before .before .before .before .before .before .before .before .before .before .before .before .before .before .before .before .before .before .args .r) _ _ _ _ (c .before .before .before .before .before .before .before .before .before .before .before .before .look .ensures) (c .before .before .before .before .before .before .before .if1 .taken) _ _ _ (c .before .before .before .before .open-replacing .ensures)
+returns c =
+    let after-open-replacing = c .before .before .before .before in let after-if1 = after-open-replacing .before .before .before in
+    let after-look = after-if1 .before .before .before .before .before in
+    let start = after-look .before .before .before .before .before .before .before .before .before .before in
+    replaced-more _ _ _ _ (start .args .r) _ _ _ _ (after-look .look .ensures) (after-if1 .if1 .taken) _ _ _ (after-open-replacing .open-replacing .ensures)
 
 enter-reducing-requires : tie.Need-enter-reducing-requires
 enter-reducing-requires c κs = search needs
@@ -35,7 +39,11 @@ same-length-6 : tie.Need-same-length-6
 same-length-6 c = search needs
 
 returns-2 : tie.Need-returns-2
-returns-2 c = replaced-last _ _ _ _ (c .before .before .before .before .before .before .before .before .before .before .before .before .before .before .before .before .before .before .before .before .before .before .args .r) _ _ _ _ (c .before .before .before .before .before .before .before .before .before .before .before .before .look .ensures) (c .before .before .before .before .before .before .before .if1 .left) _ _ _ (c .before .before .before .before .enter-reducing .ensures)
+returns-2 c =
+    let after-enter-reducing = c .before .before .before .before in let after-if1 = after-enter-reducing .before .before .before in
+    let after-look = after-if1 .before .before .before .before .before in
+    let start = after-look .before .before .before .before .before .before .before .before .before .before in
+    replaced-last _ _ _ _ (start .args .r) _ _ _ _ (after-look .look .ensures) (after-if1 .if1 .left) _ _ _ (after-enter-reducing .enter-reducing .ensures)
 
 pub replace-on-spec : {M : Type 1} → statement M
 replace-on-spec =

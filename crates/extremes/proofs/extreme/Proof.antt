@@ -1,23 +1,24 @@
--- `extremes::argmax` meets its contract. The loop's invariant: best is the last of the greatest of the first i. Assumes nothing.
+-- `extremes::extreme` meets its contract. The loop's invariant: best is the chosen of the first i. Assumes nothing.
 use Prim.Native.Nat.{_≤_, _-_}
 use mathlib.Core.Path.{_≡_, refl, ap, _∙_}
+use mathlib.Core.Bool.{true, false}
 use mathlib.Core.Logic.{⊎-elim}
 use native.Mathlib.Omega.{arith}
+use lib.ListN.{length}
 use Rattle.stats.specs.Stats.{valueAt}
-use Rattle.extremes.specs.Extremes.{argmaxOf}
-use Rattle.extremes.proofs.Turns.{max-taken, max-left}
-use Rattle.extremes.proofs.argmax.Statement.{statement}
-use Rattle.extremes.proofs.argmax.Tie as tie
+use Rattle.extremes.proofs.Choices.{chosen, none}
+use Rattle.extremes.proofs.Turns.{turn}
+use Rattle.extremes.proofs.extreme.Statement.{statement}
+use Rattle.extremes.proofs.extreme.Tie as tie
 
 abbrev Inv-loop : tie.InvT-loop
-Inv-loop values n best₀ i₀ best i = (i ≤ n) × (best ≤ i) × (best ≡ argmaxOf (valueAt values) i)
+Inv-loop values greatest n best₀ i₀ best i = (i ≤ n) × (best ≤ i) × (best ≡ chosen greatest (valueAt values) i)
 
 abbrev μ-loop : tie.MeasureT-loop
-μ-loop values n best₀ i₀ best i = n - i
+μ-loop values greatest n best₀ i₀ best i = n - i
 
 loop-holds : tie.Need-loop-holds Inv-loop μ-loop
-unfolding argmaxOf
-loop-holds c = (omega arith, omega arith, refl)
+loop-holds c = (omega arith, omega arith, none _ _)
 
 mul-total-key : tie.Need-mul-total-key Inv-loop μ-loop
 mul-total-key c = omega arith
@@ -45,24 +46,23 @@ loop-less c = omega arith
 
 loop-again : tie.Need-loop-again Inv-loop μ-loop
 loop-again c =
-    let after-total-key2 = c .before in let after-shared-slice-known3 = after-total-key2 .before in
-    let after-total-key = after-shared-slice-known3 .before in let after-loop = after-total-key .before .before .before in
-    let start = after-loop .before .before in
-    let o = after-loop .loop in
-    let pre = start .pre in
-    let fit = after-shared-slice-known3 .shared-slice-known3 .given in
-    let a = after-total-key .total-key .ensures in
-    let b = after-total-key2 .total-key2 .ensures in
+    let entered = c .before .before .before .before .before .before in
+    let first = entered .before .before in
+    let fit = c .before .before .shared-slice-known3 .given in
+    let step = turn _ _ fit _ (first .pre) _ _ (omega arith) (omega arith) _ _ (c .before .before .before .total-key .ensures) (c .before .total-key2 .ensures) (entered .loop .inv .2) in
     ⊎-elim
-    (λ v. (omega arith, omega (arith, v .1), v .1 ∙ max-taken _ fit _ pre _ _ (omega arith) (omega arith) _ _ a b (o .inv .2) (v .0 .taken)))
-    (λ v. (omega arith, omega (arith, v .1), v .1 ∙ max-left _ fit _ pre _ _ (omega arith) (omega arith) _ _ a b (o .inv .2) (v .0 .left)))
+    (λ v. (omega arith, omega (arith, v .1), v .1 ∙ step true (v .0 .taken)))
+    (λ v. (omega arith, omega (arith, v .1), v .1 ∙ step false (v .0 .left)))
     (c .if1 .came)
 
 returns : tie.Need-returns Inv-loop μ-loop
-returns c = c .before .loop .inv .2 ∙ ap (argmaxOf _) (omega arith)
+returns c =
+    let a = c .before .before .before .args in
+    let all : c .before .loop .i ≡ length (a .values .now) = omega arith in
+    c .before .loop .inv .2 ∙ ap (chosen (a .greatest) (valueAt (a .values .now))) all ∙ (unfold chosen in refl)
 
-pub argmax-spec : {M : Type 1} → statement M
-argmax-spec =
+pub extreme-spec : {M : Type 1} → statement M
+extreme-spec =
     tie.close
     (tie.spec
     Inv-loop

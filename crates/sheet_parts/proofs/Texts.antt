@@ -1,0 +1,69 @@
+-- What a program prints by what the reader says, and how that stands in the bytes lent. Assumes nothing.
+use mathlib.Core.Path.{_≡_, sym, ap, ap₂, _∙_, subst, subst₂}
+use Prim.Native.Nat.{ℕ, _+_, _≤_, _<_}
+use native.Mathlib.Omega.{arith}
+use mathlib.Core.Bool.{Bool, cond}
+use mathlib.Core.List.{List}
+use lib.Dec.{T}
+use lib.Pow.{areBytes}
+use lib.ListN.{length}
+use lib.Seq.{sets, length-take-le}
+use lib.Ieee.{Float}
+use borrow.Author.Tests.{le-leb, lt-leb}
+use Rattle.io.specs.Counts.{Counts}
+use Rattle.format.specs.Format.{Answer}
+use Rattle.job.specs.declared.Sizes.{Sizes}
+use Rattle.job.specs.Job.{Job}
+use Rattle.fit_lines.specs.Lines.{Stored, refusedLine}
+use Rattle.sheet_format.specs.Sheet.{Sheet, edition1, readSheet}
+use Rattle.sheet.specs.declared.Reading.{Reading}
+use Rattle.sheet.specs.declared.Reading.the-variants as reading
+use Rattle.sheet.specs.Sheets.{Room, readOutcome, readDef}
+use Rattle.sheet_parts.specs.Front.{frontJob, frontPalette, Front}
+use Rattle.sheet_parts.specs.Texts.{sheetText, Printed, printed, printedIn}
+use Rattle.sheet_parts.proofs.Readings.{Lengths, Given, refused-says, sheet-says}
+
+-- ---- by what the reader says: the refusal's line, or what is printed for the job in the first places
+module _ (b : List ℕ) (h : Room) (L : Lengths h) (r : Reading) (after : Room) (e : readOutcome r after ≡ readDef b h) where
+  module _ (f : Job → List Float → List ℕ) (found out : List ℕ) (m : ℕ) where
+    by-reading : (a : Answer Sheet) → readSheet edition1 b ≡ a → Stored found out 0 m (sheetText f a) → Stored found out 0 m (sheetText f (readSheet edition1 b))
+    by-reading a k s = subst (λ (x : Answer Sheet). Stored found out 0 m (sheetText f x)) (sym k) s
+
+    pub refused-text : (n : ℕ) → r ≡ reading.Refused n → Stored found out 0 m (refusedLine n) → Stored found out 0 m (sheetText f (readSheet edition1 b))
+    refused-text n g s = by-reading _ (refused-says b h L r after e n g) s
+
+    pub front-text : T (areBytes b) → (z : Sizes) → r ≡ reading.Sheet z
+        → Stored found out 0 m (f (frontJob z (after .tiles) (after .colours) (after .counts)) (frontPalette z (after .palette)))
+        → Stored found out 0 m (sheetText f (readSheet edition1 b))
+    front-text bytes z g s =
+        let G = sheet-says b h L r after e bytes z g in
+        by-reading _ (G .is) (subst₂ (λ (J : Job) (p : List Float). Stored found out 0 m (f J p)) (G .job) (G .palette) s)
+
+  pub held : T (areBytes b) → (z : Sizes) → r ≡ reading.Sheet z → Front z (after .tiles) (after .colours) (after .counts) (after .palette)
+  held bytes z g = sheet-says b h L r after e bytes z g .front
+
+-- ---- the outcome
+module _ (most : ℕ) (text found : List ℕ) where
+  pub no-place : length found < most → printed 0 found ≡ printedIn most text found
+  unfolding printedIn
+  no-place h = sym (ap (λ (t : Bool). cond t (printed (length text) (sets found 0 text)) (printed 0 found)) (lt-leb most (length found) h))
+
+  pub in-place : (out : List ℕ) (n : ℕ) → most ≤ length found → Stored found out 0 n text → printed n out ≡ printedIn most text found
+  unfolding printedIn
+  in-place out n h s =
+      ap₂ {C = Printed} (λ i l. printed i l) (s .place ∙ none (length text)) (s .text)
+      ∙ sym (ap (λ (t : Bool). cond t (printed (length text) (sets found 0 text)) (printed 0 found)) (le-leb most (length found) h))
+    where
+      none : (n : ℕ) → 0 + n ≡ n
+      none n = omega arith
+
+  counts : (n : ℕ) (l : List ℕ) → n ≤ length l → Counts n l
+  counts n l h = (h, sym (length-take-le n l h))
+
+  -- with the room that the program lends
+  pub nothing-told : length found < most → (printed 0 found ≡ printedIn most text found) × Counts 0 found
+  nothing-told h = (no-place h, counts 0 found (omega arith))
+
+  pub told : (out : List ℕ) (n : ℕ) → most ≤ length found → Stored found out 0 n text → n ≤ most → length out ≡ length found
+      → (printed n out ≡ printedIn most text found) × Counts n out
+  told out n h s l k = (in-place out n h s, counts n out (omega (arith, k)))
