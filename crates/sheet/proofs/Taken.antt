@@ -18,7 +18,7 @@ use Rattle.ieee.specs.Terms.{zeroF, Within}
 use Rattle.color.specs.Color.{Bounded}
 use Rattle.format.specs.Format.{above, times}
 use Rattle.format.proofs.Tests.{and-l, and-r}
-use Rattle.job.specs.Checks.{firstNot, tileSized, among, within, weightFits, tileTest, tileFits, tilesFit, countTest, countFits, partFits, tileCountsFit, countsFit, componentFits, firstBad, componentsFit, nearRules, tables, plainRules, plainAnswer}
+use Rattle.job.specs.Checks.{firstNot, tileSized, among, within, weightFits, tileTest, tileFits, tilesFit, countTest, countFits, partFits, tileCountsFit, countsFit, componentFits, firstBad, componentsFit, boundRules, tables, plainRules, plainAnswer}
 use Rattle.job.specs.Rules.{Passed}
 use Rattle.job.proofs.First.{first-none}
 use Rattle.job.proofs.Passing.{pass-all}
@@ -225,8 +225,8 @@ taken x h fit =
     let z : 0 + i ≡ i = omega arith in
     let g = at i (x .tiles) 0 0 v (content-good x h) refl refl refl l in
     ap (partFits tileSize) (ap (countsPart (tableOf 0 v) (allCounts v)) (sym z) ∙ g .0) ∙ part-fits (getD v i []) (g .1) in
-    let near-rules : Passed (nearRules (floats (x .palette)) (allFloats v)) = (near (floats (x .palette)) (P .3), (near (allFloats v) (A .small), tt)) in
-    let table-rules : Passed (tables (jobIn x) ++ nearRules (floats (x .palette)) (allFloats v)) = (
+    let near-rules : Passed (boundRules (floats (x .palette)) (allFloats v)) = (near (floats (x .palette)) (P .3), (near (allFloats v) (A .small), tt)) in
+    let table-rules : Passed (tables (jobIn x) ++ boundRules (floats (x .palette)) (allFloats v)) = (
       weighty (ofBits binary32 (x .weight)) (W .0) (W .1),
       (le-leb (length (allCounts v)) mostTileColours (omega (arith, A .counts)), (table-fits v (x .tiles) (length (allCounts v)) (A .number) (A .counts) few, (parts-fit, near-rules))),
     ) in
