@@ -10,7 +10,7 @@ use Rattle.ieee.specs.Terms.{Good, key32}
 use Rattle.ieee.proofs.Ranks.{lt-yes, lt-no}
 use Rattle.stats.specs.declared.Two.{Two}
 use Rattle.stats.specs.Stats.{pickTwo}
-use Rattle.choice.proofs.Runner.{Runner, run-start, run-skips, run-drops, run-follows, run-takes, run-end}
+use Rattle.stats.proofs.Runner.{Runner, run-start, run-skips, run-drops, run-follows, run-takes, run-end}
 use Rattle.palette.specs.Palette.{Palette, Tile, subOf, tileDistance, distAt, Measured, Fits}
 use Rattle.palette.proofs.Parts.{sub-measured}
 use Rattle.palette.proofs.Sums.{dist-good}

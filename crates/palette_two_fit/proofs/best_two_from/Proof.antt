@@ -4,7 +4,7 @@ use mathlib.Core.Path.{refl, sym, _∙_}
 use native.Mathlib.Omega.{arith}
 use borrow.Author.Needs.{needs}
 use lib.Ieee.{ofBits, div}
-use Rattle.choice.proofs.Runner.{Runner}
+use Rattle.stats.proofs.Runner.{Runner}
 use Rattle.palette.specs.Palette.{paletteWith, tileWith, distAt}
 use Rattle.palette.proofs.Parts.{part-asks, sub-measured}
 use Rattle.palette_two_fit.proofs.Turns.{turn-start, turn-skips, turn-walks, turn-over, turn-weighs, turn-end}
