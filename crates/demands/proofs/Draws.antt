@@ -17,8 +17,8 @@ use Rattle.color.proofs.Sizes.{sized-real, bounded-finite}
 use Rattle.color.specs.Blend.{nudged}
 use Rattle.stats.specs.declared.Near.{Near}
 use Rattle.job.specs.Gives.{Sampled}
-use Rattle.choice.specs.Least.{Least}
-use Rattle.choice.proofs.Scan.{least-has}
+use Rattle.stats.specs.Least.{Least}
+use Rattle.stats.proofs.Scan.{least-has}
 use Rattle.palette.specs.Palette.{subOf, gap, nearestOf}
 use Rattle.palette.proofs.Sums.{gap-good}
 use Rattle.palette_edit.proofs.Kept.{sub-colour}

@@ -21,9 +21,9 @@ use Rattle.job.proofs.Passing.{goes, fails, both-pass}
 use Rattle.job.specs.Checks.{plainAnswer}
 use Rattle.job.specs.Gives.{Plain}
 use Rattle.job.proofs.Ready.{plain-ready}
-use Rattle.choice.specs.Least.{Least}
-use Rattle.choice.proofs.Scan.{least-has}
-use Rattle.choice.proofs.Two.{firstOf, two-first}
+use Rattle.stats.specs.Least.{Least}
+use Rattle.stats.proofs.Scan.{least-has}
+use Rattle.stats.proofs.BestTwo.{firstOf, two-first}
 use Rattle.palette.proofs.Sums.{dist-good}
 use Rattle.palette_tile.specs.Tiles.{tileAt, presentIn, fitAt, winner, twoAt, Shown}
 use Rattle.palette_tile.proofs.Present.{shown-present, tile-counted}

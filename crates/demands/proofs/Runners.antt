@@ -6,7 +6,7 @@ use lib.Ieee.{Float, binary32, lt}
 use Rattle.ieee.specs.Terms.{Good}
 use Rattle.ieee.proofs.Ranks.{no-lt}
 use Rattle.stats.specs.Stats.{leastTwo}
-use Rattle.choice.proofs.Runner.{run-whole}
+use Rattle.stats.proofs.Runner.{run-whole}
 
 module _ (d : ℕ → Float) (n : ℕ) (G : (j : ℕ) → j < n → Good binary32 (d j)) (H : 0 < n) (N : n < 18446744073709551616) where
   pub second-least : (j : ℕ) → j < n → (j ≡ leastTwo d n .index → ⊥) → lt (d j) (leastTwo d n .second) ≡ false

@@ -13,7 +13,7 @@ use Rattle.color.specs.Color.{sqdistOf, colourAt}
 use Rattle.color.specs.Blend.{nudged}
 use Rattle.stats.specs.declared.Near.{Near}
 use Rattle.job.specs.Job.{Job, nought, isEmpty}
-use Rattle.choice.specs.Least.{Least}
+use Rattle.stats.specs.Least.{Least}
 use Rattle.palette.specs.Palette.{distAt}
 use Rattle.palette_edit.specs.Edits.{placeOf}
 use Rattle.palette_tile.specs.Tiles.{tileAt, presentIn, fitAt, winner, twoAt}

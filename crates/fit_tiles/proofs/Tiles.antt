@@ -16,7 +16,7 @@ use Rattle.lists.specs.Firsts.{firsts, hits}
 use Rattle.lists.proofs.Hits.{hits-suc}
 use Rattle.ieee.proofs.Plus.{plus-real}
 use Rattle.assign_tiles.specs.Tiles.{subpaletteOf}
-use Rattle.choice.proofs.Scan.{least-good}
+use Rattle.stats.proofs.Scan.{least-good}
 use Rattle.job.specs.Job.{Job, sizeOf, isEmpty}
 use Rattle.palette.specs.Palette.{distAt}
 use Rattle.palette.proofs.Sums.{dist-good}

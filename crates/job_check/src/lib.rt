@@ -1,10 +1,49 @@
 // Which number a job gets, without samples and with: its sizes, lengths, limits and tables in the order of docs/SCOPE.md.
-// Every check takes what a stranger wrote: no sum or product in it can wrap.
+// Every check takes what a stranger wrote, where the groups of rules before it have passed: no sum or product in it can wrap.
 ghost use mathlib.Core.Path.{_≡_};
+ghost use Prim.Native.Nat.{_*_};
+ghost use lib.ListN.{length};
 ghost use Rattle.job.specs.Rules.{answer};
+ghost use Rattle.job.specs.Checks.{tableRules, placeRules, formRules, plainAnswer, sampledFormRules, sampledAnswer};
 ghost use Rattle.job.specs.Job.{jobOf};
-ghost use Rattle.job.specs.Checks.{formRules, plainAnswer, sampledFormRules, sampledAnswer};
 use job::Sizes;
+
+const MOST_TILE_COLOURS: usize = 16384;
+
+// Numbers 4 to 6, of a job whose slices have their lengths.
+pub fn check_tables(z: Sizes, tiles: &[u32], counts: &[u32]) -> u32
+    requires { ⌜ length (now tiles) ≡ 2 * z .t ⌝ }
+    ensures { λ r. ⌜ r ≡ answer (tableRules (z .size) (z .t) (z .weight) (now (tiles .entry)) (now (counts .entry))) ⌝ }
+{
+    if !job_limits::weight_fits(z.weight) {
+        return 4;
+    }
+    let total = counts.len();
+    if total > MOST_TILE_COLOURS {
+        return 5;
+    }
+    if !job_tables::tiles_fit(z.size, tiles, z.t, total) {
+        return 5;
+    }
+    if !job_tables::counts_fit(z.size, tiles, z.t, counts) {
+        return 6;
+    }
+    0
+}
+
+// Numbers 7 and 8 of a call with n samples.
+pub fn check_places(z: Sizes, tiles: &[u32], colours: &[f32], samples: &[u32]) -> u32
+    requires { ⌜ (length (now tiles) ≡ 2 * z .t) × (length (now samples) ≡ 2 * z .n) ⌝ }
+    ensures { λ r. ⌜ r ≡ answer (placeRules (z .t) (now (tiles .entry)) (now (colours .entry)) (z .n) (now (samples .entry))) ⌝ }
+{
+    if job::first_bad(colours, job::MOST_COMPONENT) != colours.len() {
+        return 7;
+    }
+    if !job_tables::samples_fit(tiles, z.t, samples, z.n) {
+        return 8;
+    }
+    0
+}
 
 // Numbers 2 and 3 of a call without samples. `room` says whether the call's own slices have their lengths.
 fn check_form(
@@ -49,7 +88,7 @@ pub fn check_job(
     if a != 0 {
         return a;
     }
-    let b = job_rules::check_tables(z, tiles, counts);
+    let b = check_tables(z, tiles, counts);
     if b != 0 {
         return b;
     }
@@ -107,9 +146,9 @@ pub fn check_sampled(
     if a != 0 {
         return a;
     }
-    let b = job_rules::check_tables(z, tiles, counts);
+    let b = check_tables(z, tiles, counts);
     if b != 0 {
         return b;
     }
-    job_rules::check_places(z, tiles, colours, samples)
+    check_places(z, tiles, colours, samples)
 }

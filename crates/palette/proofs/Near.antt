@@ -11,7 +11,7 @@ use Rattle.color.specs.declared.Oklab.{Oklab}
 use Rattle.color.specs.Color.{colourAt, Real, Sized, Finite, Bounded}
 use Rattle.color.proofs.Sizes.{sized-real, bounded-finite, colour-sized}
 use Rattle.color.proofs.Distances.{sqdist-within}
-use Rattle.choice.proofs.Scan.{least-below, least-has}
+use Rattle.stats.proofs.Scan.{least-below, least-has}
 use Rattle.palette.specs.Palette.{gap, nearestOf}
 use Rattle.palette.proofs.Sums.{gap-good}
 

@@ -18,7 +18,7 @@ use Rattle.color.specs.declared.Oklab.{Oklab}
 use Rattle.color.specs.Color.{colourAt, Real, Finite}
 use Rattle.color.proofs.Sizes.{colour-real}
 use Rattle.color.proofs.Distances.{sqdist-good}
-use Rattle.choice.proofs.Scan.{least-good}
+use Rattle.stats.proofs.Scan.{least-good}
 use Rattle.palette.specs.Palette.{Palette, Tile, subOf, gap, nearestOf, termOf, totalOf, tileDistance, distAt, Present, Counted}
 use Rattle.palette.proofs.Parts.{sub-finite}
 

@@ -4,8 +4,8 @@ use mathlib.Core.Path.{_≡_, subst⁻¹}
 use lib.Ieee.{Float}
 use Rattle.stats.specs.declared.Near.{Near}
 use Rattle.stats.specs.declared.Two.{Two}
-use Rattle.choice.proofs.Scan.{least-below}
-use Rattle.choice.proofs.Two.{two-below}
+use Rattle.stats.proofs.Scan.{least-below}
+use Rattle.stats.proofs.BestTwo.{two-below}
 use Rattle.palette.specs.Palette.{Palette, Tile, distAt, bestFit}
 use Rattle.palette_two.specs.PaletteTwo.{bestTwo}
 

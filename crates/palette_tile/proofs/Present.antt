@@ -13,8 +13,8 @@ use Rattle.color.specs.Color.{colourAt, Sized, Bounded}
 use Rattle.color.proofs.Sizes.{bounded-finite, nth-sized}
 use Rattle.job.specs.Job.{Job, sizeOf, tileOf}
 use Rattle.job.proofs.Tiles.{tile-length, tile-three, tile-near, tile-finite}
-use Rattle.choice.proofs.Scan.{least-below}
-use Rattle.choice.proofs.Two.{two-below}
+use Rattle.stats.proofs.Scan.{least-below}
+use Rattle.stats.proofs.BestTwo.{two-below}
 use Rattle.palette.specs.Palette.{subOf, nearestOf, distAt, Present, Counted, Fits, Hinted}
 use Rattle.palette.proofs.Parts.{sub-room, sub-length, sub-colours, sub-bounded}
 use Rattle.palette.proofs.Near.{nearest-below, nearest-within}

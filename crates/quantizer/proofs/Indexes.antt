@@ -11,7 +11,7 @@ use lib.Ieee.{Float}
 use Rattle.lists.proofs.Copies.{row-room}
 use Rattle.color.specs.declared.Oklab.{Oklab}
 use Rattle.color.specs.Color.{colourAt}
-use Rattle.choice.proofs.Two.{two-below}
+use Rattle.stats.proofs.BestTwo.{two-below}
 use Rattle.job.specs.Job.{Job, tileOf}
 use Rattle.stats.specs.declared.Near.{Near}
 use Rattle.palette.specs.Palette.{gap, subOf}

@@ -14,7 +14,7 @@ use Rattle.ieee.specs.Terms.{Good}
 use Rattle.ieee.proofs.Goods.{times-good, count-positive, inf-good}
 use Rattle.color.specs.Color.{colourAt}
 use Rattle.stats.proofs.Seconds.{two-all}
-use Rattle.choice.proofs.Scan.{least-good}
+use Rattle.stats.proofs.Scan.{least-good}
 use Rattle.job.specs.Job.{Job, isEmpty}
 use Rattle.palette_tile.specs.Walk.{walk}
 use Rattle.palette.specs.Palette.{distAt, gap, subOf, nearestOf, termOf}

@@ -10,7 +10,7 @@ use lib.Ieee.{Float, binary32, mul, ofInt}
 use Rattle.color.specs.declared.Oklab.{Oklab}
 use Rattle.color.specs.Color.{colourAt}
 use Rattle.stats.specs.declared.Near.{Near}
-use Rattle.choice.proofs.Scan.{least-below}
+use Rattle.stats.proofs.Scan.{least-below}
 use Rattle.palette.specs.Palette.{Tile, gap, nearestOf}
 use Rattle.quantizer.specs.Sums.{bump}
 use Rattle.quantizer.specs.Growing.{tileNeeds}

@@ -1,5 +1,5 @@
 // Selection helpers: the least and the least two of any values. Each function gives what its definition in specs/Stats.antt says.
-// Assumes nothing.
+// The choice of the least from any hint is laws only, over any distance on indexes. Assumes nothing.
 ghost use mathlib.Core.Path.{_≡_};
 ghost use Rattle.stats.specs.Stats.{stepNear, stepTwo};
 

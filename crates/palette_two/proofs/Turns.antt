@@ -10,15 +10,15 @@ use Rattle.ieee.specs.Terms.{Good, key32}
 use Rattle.ieee.proofs.Ranks.{lt-yes, lt-no}
 use Rattle.stats.specs.declared.Two.{Two}
 use Rattle.stats.specs.Stats.{pickTwo}
-use Rattle.choice.proofs.Runner.{Runner, run-start, run-skips, run-drops, run-follows, run-takes, run-end}
+use Rattle.stats.proofs.Runner.{Runner, run-start, run-skips, run-drops, run-follows, run-takes, run-end}
 use Rattle.palette.specs.Palette.{Palette, Tile, subOf, tileDistance, distAt, Measured, Fits}
 use Rattle.palette.proofs.Parts.{sub-measured}
 use Rattle.palette.proofs.Sums.{dist-good}
 use Rattle.palette_distance.specs.declared.Within.the-variants.{Over, Sum}
 use Rattle.palette_distance.specs.Distance.{withinOf, Walked}
 use Rattle.palette_distance.proofs.Walks.{sum-case, over-case}
 use Rattle.palette_two.specs.PaletteTwo.{ahead, weighed, bestTwo}
 use Rattle.palette_two.proofs.Weighs.{ahead-rank, behind-rank}
 
 module _ (P : Palette) (X : Tile) (w : Float) (F : Fits P X w) (hint : ℕ) (H : hint < P .subs) (N : P .subs < 18446744073709551616) where
   good : (i : ℕ) → i < P .subs → Good binary32 (distAt P X w i)

@@ -9,9 +9,9 @@ use Rattle.ieee.specs.Terms.{Good, key32}
 use Rattle.ieee.proofs.Keys.{key-unique}
 use Rattle.ieee.proofs.Goods.{inf-good}
 use Rattle.ieee.proofs.Ranks.{lt-yes, lt-no}
 use Rattle.stats.specs.declared.Near.{Near}
 use Rattle.stats.specs.Stats.{pickNear, leastOf}
-use Rattle.choice.specs.Lesser.{lesserOf}
+use Rattle.stats.specs.Lesser.{lesserOf}
 
 -- the least of four lanes
 abbrev pub lowestOf : Float → Float → Float → Float → Float

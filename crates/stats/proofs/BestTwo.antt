@@ -4,10 +4,10 @@ use mathlib.Core.Path.{_≡_, refl, ap, subst⁻¹, _∙_}
 use mathlib.Core.Bool.{Bool, true, false}
 use native.Mathlib.Omega.{arith}
 use lib.Ieee.{Float, lt}
 use Rattle.stats.specs.declared.Two.{Two}
 use Rattle.stats.specs.Stats.{pickNear, stepNear, leastOf, pickTwo, stepTwo, leastTwo}
 use Rattle.stats.specs.declared.Near.{Near}
-use Rattle.choice.proofs.Scan.{least-below}
+use Rattle.stats.proofs.Scan.{least-below}
 
 -- the first of the two
 abbrev pub firstOf : Two → Near

@@ -13,12 +13,12 @@ use Rattle.ieee.specs.Terms.{Good, key32, rank}
 use Rattle.ieee.proofs.Keys.{key-top, key-unique}
 use Rattle.ieee.proofs.Goods.{inf-good}
 use Rattle.ieee.proofs.Ranks.{lt-yes, lt-no}
 use Rattle.stats.specs.declared.Two.{Two}
 use Rattle.stats.specs.Stats.{pickTwo, stepTwo, leastTwo}
 use Rattle.stats.specs.declared.Near.{Near}
-use Rattle.choice.proofs.Scan.{least-unique}
-use Rattle.choice.proofs.Leading.{Leading, lead-start, lead-stays, lead-skips, lead-passes, lead-least}
-use Rattle.choice.proofs.Two.{firstOf}
+use Rattle.stats.proofs.Scan.{least-unique}
+use Rattle.stats.proofs.Leading.{Leading, lead-start, lead-stays, lead-skips, lead-passes, lead-least}
+use Rattle.stats.proofs.BestTwo.{firstOf}
 
 -- an index below n other than best, at distance x
 pub record Other (d : ℕ → Float) (n best : ℕ) (x : Float) : Type 0 where

@@ -1,10 +1,10 @@
--- `job_rules::check_tables` meets its contract, return by return. Assumes nothing.
+-- `job_check::check_tables` meets its contract, return by return. Assumes nothing.
 use mathlib.Core.Path.{sym, _∙_}
 use borrow.Author.Tests.{le-leb, lt-leb, not-false}
 use Rattle.job.proofs.Passing.{refuses, passes, fails, skips, none}
 use borrow.Author.Needs.{needs}
-use Rattle.job_rules.proofs.check_tables.Statement.{statement}
-use Rattle.job_rules.proofs.check_tables.Tie as tie
+use Rattle.job_check.proofs.check_tables.Statement.{statement}
+use Rattle.job_check.proofs.check_tables.Tie as tie
 
 weight-fits-requires : tie.Need-weight-fits-requires
 weight-fits-requires c κs = search needs

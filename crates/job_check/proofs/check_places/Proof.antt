@@ -1,10 +1,10 @@
--- `job_rules::check_places` meets its contract, return by return. Assumes nothing.
+-- `job_check::check_places` meets its contract, return by return. Assumes nothing.
 use mathlib.Core.Path.{sym, _∙_}
 use borrow.Author.Tests.{eq-eqb, ne-eqb}
 use Rattle.job.proofs.Passing.{refuses, passes, fails, skips, none}
 use borrow.Author.Needs.{needs}
-use Rattle.job_rules.proofs.check_places.Statement.{statement}
-use Rattle.job_rules.proofs.check_places.Tie as tie
+use Rattle.job_check.proofs.check_places.Statement.{statement}
+use Rattle.job_check.proofs.check_places.Tie as tie
 
 first-bad-requires : tie.Need-first-bad-requires
 first-bad-requires c κs = search needs

@@ -10,10 +10,10 @@ use lib.Dec.{ltb}
 use lib.Ieee.{Float, binary32, lt}
 use Rattle.ieee.specs.Terms.{Good, rank, over}
 use Rattle.ieee.proofs.Ranks.{yes-lt, no-lt, over-rank, within-rank}
 use Rattle.stats.specs.declared.Near.{Near}
 use Rattle.stats.specs.Stats.{leastOf}
-use Rattle.choice.specs.Least.{Least}
-use Rattle.choice.proofs.Scan.{is-least}
+use Rattle.stats.specs.Least.{Least}
+use Rattle.stats.proofs.Scan.{is-least}
 
 -- b is the first, by distance and then by index, of the hint and of the indexes below i
 pub record Leading (d : ℕ → Float) (n hint i : ℕ) (b : Near) : Type 0 where

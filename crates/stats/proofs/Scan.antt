@@ -11,9 +11,9 @@ use Rattle.ieee.specs.Terms.{Good, key32}
 use Rattle.ieee.proofs.Keys.{key-top, key-unique}
 use Rattle.ieee.proofs.Goods.{inf-good}
 use Rattle.ieee.proofs.Ranks.{lt-yes, lt-no, yes-lt, no-lt}
 use Rattle.stats.specs.declared.Near.{Near}
 use Rattle.stats.specs.Stats.{pickNear, stepNear, leastOf}
-use Rattle.choice.specs.Least.{Least}
+use Rattle.stats.specs.Least.{Least}
 
 -- ---- what holds of each distance holds of the least
 pick-all : (P : Near → Type 0) (t : Bool) (x y : Near) → P x → P y → P (pickNear t x y)

@@ -1,5 +1,0 @@
-pub mod Two
-pub mod Leading
-pub mod Scan
-pub mod Runner
-pub mod Lesser
