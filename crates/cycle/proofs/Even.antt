@@ -32,24 +32,24 @@ even n seed i t h =
 
 -- the same, by cases: rounded down, or rounded up
 pub down-or-up : (n t h : ℕ) → Even n t h → (h ≡ t / n) ⊎ ((h ≡ t / n + 1) × (0 < t % n))
-down-or-up n t h e = each-case (ℕ-discrete h (t / n)) (ℕ-discrete (t % n) 0)
+down-or-up n t h e = by (ℕ-discrete h (t / n)) (ℕ-discrete (t % n) 0)
   where
-    each-case : Dec (h ≡ t / n) → Dec (t % n ≡ 0) → (h ≡ t / n) ⊎ ((h ≡ t / n + 1) × (0 < t % n))
-    each-case (yes p) d = inl p
-    each-case (no p) (yes z) = inl (e .exact z)
-    each-case (no p) (no z) = inr (omega (arith, p, e .least, e .most), omega (arith, z))
+    by : Dec (h ≡ t / n) → Dec (t % n ≡ 0) → (h ≡ t / n) ⊎ ((h ≡ t / n + 1) × (0 < t % n))
+    by (yes p) d = inl p
+    by (no p) (yes z) = inl (e .exact z)
+    by (no p) (no z) = inr (omega (arith, p, e .least, e .most), omega (arith, z))
 
 -- ---- the wait
 
 -- a count that is even over n grows in any 2 * n - 1 steps
 grows : (n k a b : ℕ) → 0 < n → Even n k a → Even n (k + (2 * n - 1)) b → a < b
-grows n k a b pos p q = each-case (ℕ-discrete (k % n) 0)
+grows n k a b pos p q = by (ℕ-discrete (k % n) 0)
   where
-    each-case : Dec (k % n ≡ 0) → a < b
-    each-case (yes e) =
+    by : Dec (k % n ≡ 0) → a < b
+    by (yes e) =
         let low : k / n + 1 ≤ (k + (2 * n - 1)) / n = le-div-iff-mul-le pos .1 (omega (arith, div-add-mod' k n, add-mul (k / n) 1 n)) in
         omega (arith, p .exact e, q .least)
-    each-case (no d) =
+    by (no d) =
         let low : k / n + 2 ≤ (k + (2 * n - 1)) / n = le-div-iff-mul-le pos .1 (omega (arith, div-add-mod' k n, add-mul (k / n) 2 n)) in
         omega (arith, p .most, q .least)
 

@@ -37,13 +37,13 @@ round-below n seed j i h = below-by-count n (roundAt n seed j .order) (λ v l. r
 
 -- the draw after draw t is the first of the next round, or stands in the same round one place on
 next-place : (n t : ℕ) → 0 < n → ((suc t / n ≡ suc (t / n)) × (suc t % n ≡ 0)) ⊎ ((suc t / n ≡ t / n) × (suc t % n ≡ suc (t % n)))
-next-place n t pos = each-case (ℕ-discrete (suc (t % n)) n)
+next-place n t pos = by (ℕ-discrete (suc (t % n)) n)
   where
-    each-case : Dec (suc (t % n) ≡ n) → ((suc t / n ≡ suc (t / n)) × (suc t % n ≡ 0)) ⊎ ((suc t / n ≡ t / n) × (suc t % n ≡ suc (t % n)))
-    each-case (yes e) =
+    by : Dec (suc (t % n) ≡ n) → ((suc t / n ≡ suc (t / n)) × (suc t % n ≡ 0)) ⊎ ((suc t / n ≡ t / n) × (suc t % n ≡ suc (t % n)))
+    by (yes e) =
         let whole : suc t ≡ suc (t / n) * n + 0 = omega (arith, e, div-add-mod' t n, suc-mul (t / n) n) in
         inl (ap (λ (k : ℕ). k / n) whole ∙ digits-div (suc (t / n)) pos, ap (λ (k : ℕ). k % n) whole ∙ digits-mod (suc (t / n)) pos)
-    each-case (no d) =
+    by (no d) =
         let on : suc t ≡ t / n * n + suc (t % n) = omega (arith, div-add-mod' t n) in
         let inside : suc (t % n) < n = omega (arith, d, mod-lt t pos) in
         inr (ap (λ (k : ℕ). k / n) on ∙ digits-div (t / n) inside, ap (λ (k : ℕ). k % n) on ∙ digits-mod (t / n) inside)

@@ -36,11 +36,11 @@ sum-past x (suc n) h = omega (arith, sum-past x n (omega arith), hit-other x n (
 sum-one : (x n : ℕ) → x < n → sum (λ i. hit (eqb x i)) n ≡ 1
 unfolding sum
 sum-one x zero h = absurd (not-suc-le-zero h)
-sum-one x (suc n) h = each-case (ℕ-discrete x n) (sum-one x n)
+sum-one x (suc n) h = by (ℕ-discrete x n) (sum-one x n)
   where
-    each-case : Dec (x ≡ n) → (x < n → sum (λ i. hit (eqb x i)) n ≡ 1) → sum (λ i. hit (eqb x i)) n + hit (eqb x n) ≡ 1
-    each-case (yes e) ih = omega (arith, hit-same x n e, sum-past x n (omega arith))
-    each-case (no d) ih = omega (arith, hit-other x n d, ih (omega arith))
+    by : Dec (x ≡ n) → (x < n → sum (λ i. hit (eqb x i)) n ≡ 1) → sum (λ i. hit (eqb x i)) n + hit (eqb x n) ≡ 1
+    by (yes e) ih = omega (arith, hit-same x n e, sum-past x n (omega arith))
+    by (no d) ih = omega (arith, hit-other x n d, ih (omega arith))
 
 hits-all : (f : ℕ → ℕ) (n t : ℕ) → ((k : ℕ) → f k < n) → sum (λ i. hits f i t) n ≡ t
 unfolding firsts count
@@ -55,15 +55,15 @@ module _ (g : ℕ → ℕ) (q : ℕ) where
   sum-of-two : (n : ℕ) → ((i : ℕ) → i < n → (g i ≡ q) ⊎ (g i ≡ q + 1)) → (sum g n ≡ q * n + hits g (q + 1) n) × (hits g q n + hits g (q + 1) n ≡ n)
   unfolding sum firsts count
   sum-of-two zero two = (omega (arith, mul-zero q), refl)
-  sum-of-two (suc n) two = each-case (two n (omega arith)) (sum-of-two n (λ i h. two i (omega arith)))
+  sum-of-two (suc n) two = by (two n (omega arith)) (sum-of-two n (λ i h. two i (omega arith)))
     where
-      each-case : (g n ≡ q) ⊎ (g n ≡ q + 1) → (sum g n ≡ q * n + hits g (q + 1) n) × (hits g q n + hits g (q + 1) n ≡ n)
+      by : (g n ≡ q) ⊎ (g n ≡ q + 1) → (sum g n ≡ q * n + hits g (q + 1) n) × (hits g q n + hits g (q + 1) n ≡ n)
           → (sum g n + g n ≡ q * suc n + hits g (q + 1) (suc n)) × (hits g q (suc n) + hits g (q + 1) (suc n) ≡ suc n)
-      each-case (inl e) ih =
+      by (inl e) ih =
           let less : hit (eqb (g n) q) ≡ 1 = hit-same (g n) q e in
           let more : hit (eqb (g n) (q + 1)) ≡ 0 = hit-other (g n) (q + 1) (omega arith) in
           (omega (arith, ih .0, mul-suc q n, hits-suc g (q + 1) n), omega (arith, ih .1, hits-suc g q n, hits-suc g (q + 1) n))
-      each-case (inr e) ih =
+      by (inr e) ih =
           let less : hit (eqb (g n) q) ≡ 0 = hit-other (g n) q (omega arith) in
           let more : hit (eqb (g n) (q + 1)) ≡ 1 = hit-same (g n) (q + 1) e in
           (omega (arith, ih .0, mul-suc q n, hits-suc g (q + 1) n), omega (arith, ih .1, hits-suc g q n, hits-suc g (q + 1) n))

@@ -178,11 +178,11 @@ module _ (es : List Entry) (x : Rgba) (o : Oklab) (m : Lent) (index : List ℕ) 
       → settled k (seek (length es) (over (bytesOf es) (m .bytes)) x) x o held ≡ next (join es x o)
   settles hb ho hc =
       rw (seek-is es (drop (length (bytesOf es)) (m .bytes)) x)
-      (each-case (ltb (place es x) (length es)) refl)
+      (by (ltb (place es x) (length es)) refl)
     where
-      each-case : (b : Bool) → ltb (place es x) (length es) ≡ b → settled k (place es x) x o held ≡ next (join es x o)
-      each-case true e = joins (ltb-true (place es x) (length es) e)
-      each-case false e = begins (omega (arith, ltb-false (place es x) (length es) e, place-le es x)) hb ho hc
+      by : (b : Bool) → ltb (place es x) (length es) ≡ b → settled k (place es x) x o held ≡ next (join es x o)
+      by true e = joins (ltb-true (place es x) (length es) e)
+      by false e = begins (omega (arith, ltb-false (place es x) (length es) e, place-le es x)) hb ho hc
 
 -- ---- how many
 pub few : (q : Pixels) (k : ℕ) → (total (entries q k) ≤ k) × (length (entries q k) ≤ k)

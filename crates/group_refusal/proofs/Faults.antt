@@ -73,13 +73,13 @@ fault-real false b c e f = let z : _≡_ {A = ℕ} 0 1 = ap (λ (t : Bool). cond
 
 pub real-on : (bytes : List ℕ) (oklab : List Float) (cz : Zero) (k v : ℕ) → Real bytes oklab cz k → v ≡ fault bytes oklab cz k → v ≡ 0 → Real bytes oklab cz (k + 1)
 unfolding fault
-real-on bytes oklab cz k v r e z i h kp = each-case (ltb i k) refl
+real-on bytes oklab cz k v r e z i h kp = by (ltb i k) refl
   where
     here : i ≡ k → inGamut (colourAt oklab i) ≡ true
     here g =
         rw g
         (fault-real (kept cz (rgbaAt bytes k)) (inGamut (colourAt oklab k)) (clashes bytes oklab k) (sym e ∙ z) (rw g at kp))
 
-    each-case : (b : Bool) → ltb i k ≡ b → inGamut (colourAt oklab i) ≡ true
-    each-case true g = r i (ltb-true i k g) kp
-    each-case false g = here (omega (arith, ltb-false i k g))
+    by : (b : Bool) → ltb i k ≡ b → inGamut (colourAt oklab i) ≡ true
+    by true g = r i (ltb-true i k g) kp
+    by false g = here (omega (arith, ltb-false i k g))

@@ -15,18 +15,18 @@ use Rattle.ieee.proofs.Keys.{bits-are, le-is-bits, size-small}
 
 -- ---- the bits as a number: those with the sign set turned round, below those with it clear
 key-clear : (t b n : ℕ) → b ≡ 0 + n → n < t → cond (ltb b t) (b + t) (2 * t - suc b) ≡ t + n
-key-clear t b n e h = each-case (ltb b t) (nltb→le b t)
+key-clear t b n e h = by (ltb b t) (nltb→le b t)
   where
-    each-case : (z : Bool) → (T (not z) → t ≤ b) → cond z (b + t) (2 * t - suc b) ≡ t + n
-    each-case true k = omega arith
-    each-case false k = let l : t ≤ b = k tt in omega arith
+    by : (z : Bool) → (T (not z) → t ≤ b) → cond z (b + t) (2 * t - suc b) ≡ t + n
+    by true k = omega arith
+    by false k = let l : t ≤ b = k tt in omega arith
 
 key-set : (t b n : ℕ) → b ≡ t + n → n < t → cond (ltb b t) (b + t) (2 * t - suc b) ≡ t - suc n
-key-set t b n e h = each-case (ltb b t) (ltb→lt b t)
+key-set t b n e h = by (ltb b t) (ltb→lt b t)
   where
-    each-case : (z : Bool) → (T z → b < t) → cond z (b + t) (2 * t - suc b) ≡ t - suc n
-    each-case true k = let l : b < t = k tt in omega arith
-    each-case false k = omega arith
+    by : (z : Bool) → (T z → b < t) → cond z (b + t) (2 * t - suc b) ≡ t - suc n
+    by true k = let l : b < t = k tt in omega arith
+    by false k = omega arith
 
 -- ±n before ±l, by the keys
 order : (s u : Bool) (t n l : ℕ) → n < t → l < t → cond s (cond u (leb l n) true) (cond u false (leb n l)) ≡ leb (cond s (t - suc n) (t + n)) (cond u (t - suc l) (t + l))
@@ -71,13 +71,13 @@ tle→le (fin true m e) (fin false n d) p q h = le-fin← true m e false n d tt
 tle→le (fin true m e) (fin true n d) p q h = le-fin← true m e true n d (le-fin→ false n d false m e h)
 
 key-inj : (t a b : ℕ) → a < 2 * t → b < 2 * t → cond (ltb a t) (a + t) (2 * t - suc a) ≡ cond (ltb b t) (b + t) (2 * t - suc b) → a ≡ b
-key-inj t a b p q = each-case (ltb a t) (ltb b t) (ltb→lt a t) (nltb→le a t) (ltb→lt b t) (nltb→le b t)
+key-inj t a b p q = by (ltb a t) (ltb b t) (ltb→lt a t) (nltb→le a t) (ltb→lt b t) (nltb→le b t)
   where
-    each-case : (u v : Bool) → (T u → a < t) → (T (not u) → t ≤ a) → (T v → b < t) → (T (not v) → t ≤ b) → cond u (a + t) (2 * t - suc a) ≡ cond v (b + t) (2 * t - suc b) → a ≡ b
-    each-case true true c d e g h = omega arith
-    each-case true false c d e g h = let i : t ≤ b = g tt in omega arith
-    each-case false true c d e g h = let i : t ≤ a = d tt in omega arith
-    each-case false false c d e g h = omega arith
+    by : (u v : Bool) → (T u → a < t) → (T (not u) → t ≤ a) → (T v → b < t) → (T (not v) → t ≤ b) → cond u (a + t) (2 * t - suc a) ≡ cond v (b + t) (2 * t - suc b) → a ≡ b
+    by true true c d e g h = omega arith
+    by true false c d e g h = let i : t ≤ b = g tt in omega arith
+    by false true c d e g h = let i : t ≤ a = d tt in omega arith
+    by false false c d e g h = omega arith
 
 module _ (f : Format) (x y : Float) (h : T (fits f x)) (k : T (fits f y)) (p : T (not (isNan x))) (q : T (not (isNan y))) where
   pub tle-total : T (tle x y) ⊎ T (tle y x)

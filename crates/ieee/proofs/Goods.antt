@@ -18,15 +18,15 @@ use Rattle.ieee.proofs.Rings.{mul-commutes}
 -- ---- no `nan`
 units-real : (f : Format) (s : Bool) (q k : ℕ) → T (not (isNan (units f s q k)))
 unfolding units
-units-real f s q k = each-case (ltb (q * 2 ^ k) (2 ^ (low f + suc (emax f))))
+units-real f s q k = by (ltb (q * 2 ^ k) (2 ^ (low f + suc (emax f))))
   where
     digits : (d q k l : ℕ) → T (not (isNan (odd d s q k l)))
     digits d zero k l = unfold odd isNan in tt
     digits d (suc q) k l = unfold odd isNan in tt
 
-    each-case : (b : Bool) → T (not (isNan (cond b (odd (suc (prec f)) s q k (low f)) (inf s))))
-    each-case true = digits (suc (prec f)) q k (low f)
-    each-case false = unfold isNan in tt
+    by : (b : Bool) → T (not (isNan (cond b (odd (suc (prec f)) s q k (low f)) (inf s))))
+    by true = digits (suc (prec f)) q k (low f)
+    by false = unfold isNan in tt
 
 pub round-real : (f : Format) (s : Bool) (a c : ℕ) → T (not (isNan (round f s a c)))
 round-real f s a c = rw round-is (units-real f s _ _)

@@ -95,28 +95,28 @@ sumSize s a t b = cond (Bool·beq s t) (a + b) (cond (ltb a b) (b - a) (a - b))
 
 sum-is : (f : Format) (s : Bool) (a : ℕ) (t : Bool) (b c : ℕ) → sum f s a t b c ≡ round f (sumSign s a t b) (sumSize s a t b) c
 unfolding sum
-sum-is f s a t b c = each-case (Bool·beq s t) (ltb a b)
+sum-is f s a t b c = by (Bool·beq s t) (ltb a b)
   where
-    each-case : (u v : Bool) → cond u (round f s (a + b) c) (cond v (round f t (b - a) c) (round f (s && ltb b a) (a - b) c)) ≡ round f (cond u s (cond v t (s && ltb b a))) (cond u (a + b) (cond v (b - a) (a - b))) c
-    each-case true v = refl
-    each-case false true = refl
-    each-case false false = refl
+    by : (u v : Bool) → cond u (round f s (a + b) c) (cond v (round f t (b - a) c) (round f (s && ltb b a) (a - b) c)) ≡ round f (cond u s (cond v t (s && ltb b a))) (cond u (a + b) (cond v (b - a) (a - b))) c
+    by true v = refl
+    by false true = refl
+    by false false = refl
 
 sum-parts : (s : Bool) (a : ℕ) (t : Bool) (b : ℕ) → above (sumSign s a t b) (sumSize s a t b) + beneath s a + beneath t b ≡ beneath (sumSign s a t b) (sumSize s a t b) + above s a + above t b
 sum-parts true a true b = omega arith
 sum-parts false a false b = omega arith
-sum-parts true a false b = each-case (ltb a b) (ltb b a) (ltb→lt a b) (ltb→lt b a) (nltb→le a b) (nltb→le b a)
+sum-parts true a false b = by (ltb a b) (ltb b a) (ltb→lt a b) (ltb→lt b a) (nltb→le a b) (nltb→le b a)
   where
-    each-case : (u v : Bool) → (T u → a < b) → (T v → b < a) → (T (not u) → b ≤ a) → (T (not v) → a ≤ b)
+    by : (u v : Bool) → (T u → a < b) → (T v → b < a) → (T (not u) → b ≤ a) → (T (not v) → a ≤ b)
         → above (cond u false (true && v)) (cond u (b - a) (a - b)) + a + 0 ≡ beneath (cond u false (true && v)) (cond u (b - a) (a - b)) + 0 + b
-    each-case true v p q r w = let h : a < b = p tt in omega arith
-    each-case false true p q r w = let h : b < a = q tt in omega arith
-    each-case false false p q r w = let h : b ≤ a = r tt in let g : a ≤ b = w tt in omega arith
-sum-parts false a true b = each-case (ltb a b) (ltb→lt a b) (nltb→le a b)
+    by true v p q r w = let h : a < b = p tt in omega arith
+    by false true p q r w = let h : b < a = q tt in omega arith
+    by false false p q r w = let h : b ≤ a = r tt in let g : a ≤ b = w tt in omega arith
+sum-parts false a true b = by (ltb a b) (ltb→lt a b) (nltb→le a b)
   where
-    each-case : (u : Bool) → (T u → a < b) → (T (not u) → b ≤ a) → above (cond u true false) (cond u (b - a) (a - b)) + 0 + b ≡ beneath (cond u true false) (cond u (b - a) (a - b)) + a + 0
-    each-case true p r = let h : a < b = p tt in omega arith
-    each-case false p r = let h : b ≤ a = r tt in omega arith
+    by : (u : Bool) → (T u → a < b) → (T (not u) → b ≤ a) → above (cond u true false) (cond u (b - a) (a - b)) + 0 + b ≡ beneath (cond u true false) (cond u (b - a) (a - b)) + a + 0
+    by true p r = let h : a < b = p tt in omega arith
+    by false p r = let h : b ≤ a = r tt in omega arith
 
 scaled : (s t u : Bool) (a b n k : ℕ) → above u n + beneath s a + beneath t b ≡ beneath u n + above s a + above t b → above u (n * k) + beneath s (a * k) + beneath t (b * k) ≡ beneath u (n * k) + above s (a * k) + above t (b * k)
 scaled s t u a b n k e =

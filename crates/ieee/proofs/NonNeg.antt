@@ -48,20 +48,20 @@ under-nonneg (fin s m e) y h k = trans (fin s m e) zeroF y (subst (λ (b : Bool)
 -- ---- the sums that have a -0
 sum-right : (f : Format) (a b c : ℕ) → b ≤ a → sum f false a true b c ≡ round f false (a - b) c
 unfolding sum
-sum-right f a b c h = each-case (ltb a b) (ltb→lt a b)
+sum-right f a b c h = by (ltb a b) (ltb→lt a b)
   where
-    each-case : (t : Bool) → (T t → a < b) → cond t (round f true (b - a) c) (round f false (a - b) c) ≡ round f false (a - b) c
-    each-case true k = absurd (not-le-of-lt (k tt) h)
-    each-case false k = refl
+    by : (t : Bool) → (T t → a < b) → cond t (round f true (b - a) c) (round f false (a - b) c) ≡ round f false (a - b) c
+    by true k = absurd (not-le-of-lt (k tt) h)
+    by false k = refl
 
 sum-left : (f : Format) (a b c : ℕ) → a ≡ 0 → T (plus (sum f true a false b c))
 unfolding sum
-sum-left f a b c h = each-case (ltb a b) (ltb b a) (ltb→lt b a)
+sum-left f a b c h = by (ltb a b) (ltb b a) (ltb→lt b a)
   where
-    each-case : (t u : Bool) → (T u → b < a) → T (plus (cond t (round f false (b - a) c) (round f (true && u) (a - b) c)))
-    each-case true u k = round-plus f (b - a) c
-    each-case false false k = round-plus f (a - b) c
-    each-case false true k = absurd (never (k tt))
+    by : (t u : Bool) → (T u → b < a) → T (plus (cond t (round f false (b - a) c) (round f (true && u) (a - b) c)))
+    by true u k = round-plus f (b - a) c
+    by false false k = round-plus f (a - b) c
+    by false true k = absurd (never (k tt))
       where
         never : b < a → ⊥
         never l = omega arith

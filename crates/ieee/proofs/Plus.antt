@@ -21,11 +21,11 @@ value-plus (fin false m e) a c v = tt
 
 units-plus : (f : Format) (q k : ℕ) → T (plus (units f false q k))
 unfolding units
-units-plus f q k = each-case (ltb (q * 2 ^ k) (2 ^ (low f + suc (emax f))))
+units-plus f q k = by (ltb (q * 2 ^ k) (2 ^ (low f + suc (emax f))))
   where
-    each-case : (b : Bool) → T (plus (cond b (odd (suc (prec f)) false q k (low f)) (inf false)))
-    each-case true = value-plus (odd (suc (prec f)) false q k (low f)) (q * 2 ^ k) (2 ^ low f) (odd-sign (suc (prec f)) false q k (low f))
-    each-case false = tt
+    by : (b : Bool) → T (plus (cond b (odd (suc (prec f)) false q k (low f)) (inf false)))
+    by true = value-plus (odd (suc (prec f)) false q k (low f)) (q * 2 ^ k) (2 ^ low f) (odd-sign (suc (prec f)) false q k (low f))
+    by false = tt
 
 pub round-plus : (f : Format) (a c : ℕ) → T (plus (round f false a c))
 round-plus f a c = rw round-is (units-plus f _ _)

@@ -41,17 +41,17 @@ level : (x y : ℕ) → y ≤ x → x ≤ y → x - y ≡ y - x
 level x y g h = omega arith
 
 apart : (f : Format) (s : Bool) (a b c : ℕ) → cond (ltb a b) (round f (not s) (b - a) c) (round f (s && ltb b a) (a - b) c) ≡ cond (ltb b a) (round f s (a - b) c) (round f (not s && ltb a b) (b - a) c)
-apart f s a b c = each-case s (ltb a b) (ltb b a) (ltb→lt a b) (ltb→lt b a) (nltb→le a b) (nltb→le b a)
+apart f s a b c = by s (ltb a b) (ltb b a) (ltb→lt a b) (ltb→lt b a) (nltb→le a b) (nltb→le b a)
   where
-    each-case : (s u v : Bool) → (T u → a < b) → (T v → b < a) → (T (not u) → b ≤ a) → (T (not v) → a ≤ b)
+    by : (s u v : Bool) → (T u → a < b) → (T v → b < a) → (T (not u) → b ≤ a) → (T (not v) → a ≤ b)
         → cond u (round f (not s) (b - a) c) (round f (s && v) (a - b) c) ≡ cond v (round f s (a - b) c) (round f (not s && u) (b - a) c)
-    each-case s true true p q r t = absurd (both a b (p tt) (q tt))
-    each-case true true false p q r t = refl
-    each-case false true false p q r t = refl
-    each-case true false true p q r t = refl
-    each-case false false true p q r t = refl
-    each-case true false false p q r t = ap (λ (z : ℕ). round f false z c) (level a b (r tt) (t tt))
-    each-case false false false p q r t = ap (λ (z : ℕ). round f false z c) (level a b (r tt) (t tt))
+    by s true true p q r t = absurd (both a b (p tt) (q tt))
+    by true true false p q r t = refl
+    by false true false p q r t = refl
+    by true false true p q r t = refl
+    by false false true p q r t = refl
+    by true false false p q r t = ap (λ (z : ℕ). round f false z c) (level a b (r tt) (t tt))
+    by false false false p q r t = ap (λ (z : ℕ). round f false z c) (level a b (r tt) (t tt))
 
 sum-comm : (f : Format) (s : Bool) (a : ℕ) (t : Bool) (b c : ℕ) → sum f s a t b c ≡ sum f t b s a c
 unfolding sum
@@ -104,11 +104,11 @@ odd-neg d s (suc q) k l = refl
 
 units-neg : (f : Format) (s : Bool) (q k : ℕ) → units f (not s) q k ≡ neg (units f s q k)
 unfolding units neg
-units-neg f s q k = each-case (ltb (q * 2 ^ k) (2 ^ (low f + suc (emax f))))
+units-neg f s q k = by (ltb (q * 2 ^ k) (2 ^ (low f + suc (emax f))))
   where
-    each-case : (b : Bool) → cond b (odd (suc (prec f)) (not s) q k (low f)) (inf (not s)) ≡ neg (cond b (odd (suc (prec f)) s q k (low f)) (inf s))
-    each-case true = odd-neg (suc (prec f)) s q k (low f)
-    each-case false = refl
+    by : (b : Bool) → cond b (odd (suc (prec f)) (not s) q k (low f)) (inf (not s)) ≡ neg (cond b (odd (suc (prec f)) s q k (low f)) (inf s))
+    by true = odd-neg (suc (prec f)) s q k (low f)
+    by false = refl
 
 pub round-neg : (f : Format) (s : Bool) (a c : ℕ) → round f (not s) a c ≡ neg (round f s a c)
 round-neg f s a c = round-is f (not s) a c ∙ units-neg f s _ _ ∙ ap neg (sym (round-is f s a c))
@@ -120,14 +120,14 @@ sq-round f false true a c = ap (sq f) (round-neg f true a c) ∙ square-neg f (r
 sq-round f false false a c = refl
 
 sq-apart : (f : Format) (s : Bool) (a b c : ℕ) → sq f (cond (ltb a b) (round f (not s) (b - a) c) (round f (s && ltb b a) (a - b) c)) ≡ sq f (cond (ltb b a) (round f (not s) (a - b) c) (round f (s && ltb a b) (b - a) c))
-sq-apart f s a b c = each-case (ltb a b) (ltb b a) (ltb→lt a b) (ltb→lt b a) (nltb→le a b) (nltb→le b a)
+sq-apart f s a b c = by (ltb a b) (ltb b a) (ltb→lt a b) (ltb→lt b a) (nltb→le a b) (nltb→le b a)
   where
-    each-case : (u v : Bool) → (T u → a < b) → (T v → b < a) → (T (not u) → b ≤ a) → (T (not v) → a ≤ b)
+    by : (u v : Bool) → (T u → a < b) → (T v → b < a) → (T (not u) → b ≤ a) → (T (not v) → a ≤ b)
         → sq f (cond u (round f (not s) (b - a) c) (round f (s && v) (a - b) c)) ≡ sq f (cond v (round f (not s) (a - b) c) (round f (s && u) (b - a) c))
-    each-case true true p q r t = absurd (both a b (p tt) (q tt))
-    each-case true false p q r t = sq-round f (not s) (s && true) (b - a) c
-    each-case false true p q r t = sq-round f (s && true) (not s) (a - b) c
-    each-case false false p q r t = ap (λ (z : ℕ). sq f (round f (s && false) z c)) (level a b (r tt) (t tt))
+    by true true p q r t = absurd (both a b (p tt) (q tt))
+    by true false p q r t = sq-round f (not s) (s && true) (b - a) c
+    by false true p q r t = sq-round f (s && true) (not s) (a - b) c
+    by false false p q r t = ap (λ (z : ℕ). sq f (round f (s && false) z c)) (level a b (r tt) (t tt))
 
 sq-sum : (f : Format) (s : Bool) (a : ℕ) (t : Bool) (b c : ℕ) → sq f (sum f s a (not t) b c) ≡ sq f (sum f t b (not s) a c)
 unfolding sum

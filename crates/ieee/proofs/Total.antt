@@ -94,13 +94,13 @@ unfolding le
 eq→le x y h = or-r (lt x y) (eq x y) h
 
 level→ : (s : Bool) (a : ℕ) (t : Bool) (b : ℕ) → T (level s a t b) → Sle t b s a
-level→ s a t b h = each-case s t (eqb→eq a b (and-l (eqb a b) (Bool·beq s t || eqb a 0) h)) (and-r (eqb a b) (Bool·beq s t || eqb a 0) h)
+level→ s a t b h = by s t (eqb→eq a b (and-l (eqb a b) (Bool·beq s t || eqb a 0) h)) (and-r (eqb a b) (Bool·beq s t || eqb a 0) h)
   where
-    each-case : (s t : Bool) → a ≡ b → T (Bool·beq s t || eqb a 0) → Sle t b s a
-    each-case true true e k = le-of-eq e
-    each-case true false e k = let z : a ≡ 0 = eqb→eq a 0 k in (sym e ∙ z, z)
-    each-case false true e k = tt
-    each-case false false e k = le-of-eq (sym e)
+    by : (s t : Bool) → a ≡ b → T (Bool·beq s t || eqb a 0) → Sle t b s a
+    by true true e k = le-of-eq e
+    by true false e k = let z : a ≡ 0 = eqb→eq a 0 k in (sym e ∙ z, z)
+    by false true e k = tt
+    by false false e k = le-of-eq (sym e)
 
 pub eq→ge : (x y : Float) → T (eq x y) → T (le y x)
 eq→ge nan y h = absurd (unfold eq in h)

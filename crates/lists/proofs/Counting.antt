@@ -54,11 +54,11 @@ count-set v (x ∷ xs) (suc i) a h = let ih = count-set v xs i a (le-of-suc-le-s
 
 -- the item at j, once it has been stored at i too, is still at j
 still : (xs : List ℕ) (i j : ℕ) → i < length xs → getD (set xs i (getD xs j 0)) j 0 ≡ getD xs j 0
-still xs i j h = each-case (ℕ-discrete j i)
+still xs i j h = by (ℕ-discrete j i)
   where
-    each-case : Dec (j ≡ i) → getD (set xs i (getD xs j 0)) j 0 ≡ getD xs j 0
-    each-case (yes e) = ap (λ (k : ℕ). getD (set xs i (getD xs j 0)) k 0) e ∙ getD-set-same xs i (getD xs j 0) 0 h
-    each-case (no n) = getD-set-other xs i j (getD xs j 0) 0 n
+    by : Dec (j ≡ i) → getD (set xs i (getD xs j 0)) j 0 ≡ getD xs j 0
+    by (yes e) = ap (λ (k : ℕ). getD (set xs i (getD xs j 0)) k 0) e ∙ getD-set-same xs i (getD xs j 0) 0 h
+    by (no n) = getD-set-other xs i j (getD xs j 0) 0 n
 
 -- ---- an exchange
 pub length-swapped : (i j : ℕ) (xs : List ℕ) → length (swapped i j xs) ≡ length xs

@@ -31,20 +31,20 @@ count-above v (suc n) h = omega (arith, hits-suc (λ k. k) v n, hit-other n v (o
 
 pub count-upTo : (v n : ℕ) → v < n → count v (upTo n) ≡ 1
 count-upTo v zero h = absurd (not-suc-le-zero h)
-count-upTo v (suc n) h = each-case (ℕ-discrete n v) (count-upTo v n)
+count-upTo v (suc n) h = by (ℕ-discrete n v) (count-upTo v n)
   where
-    each-case : Dec (n ≡ v) → (v < n → count v (upTo n) ≡ 1) → count v (upTo (suc n)) ≡ 1
-    each-case (yes e) ih = omega (arith, hits-suc (λ k. k) v n, hit-same n v e, count-above v n (omega arith))
-    each-case (no d) ih = omega (arith, hits-suc (λ k. k) v n, hit-other n v d, ih (omega arith))
+    by : Dec (n ≡ v) → (v < n → count v (upTo n) ≡ 1) → count v (upTo (suc n)) ≡ 1
+    by (yes e) ih = omega (arith, hits-suc (λ k. k) v n, hit-same n v e, count-above v n (omega arith))
+    by (no d) ih = omega (arith, hits-suc (λ k. k) v n, hit-other n v d, ih (omega arith))
 
 -- a count that grows has met v on the way
 pub met : (f : ℕ → ℕ) (v a d : ℕ) → hits f v a < hits f v (a + d) → (m : ℕ) × (a ≤ m) × (m < a + d) × (f m ≡ v)
 met f v a zero h = absurd (lt-irrefl (hits f v a) (rw add-zero at h))
-met f v a (suc d) h = each-case (ℕ-discrete (f (a + d)) v) (met f v a d)
+met f v a (suc d) h = by (ℕ-discrete (f (a + d)) v) (met f v a d)
   where
-    each-case : Dec (f (a + d) ≡ v) → (hits f v a < hits f v (a + d) → (m : ℕ) × (a ≤ m) × (m < a + d) × (f m ≡ v)) → (m : ℕ) × (a ≤ m) × (m < a + suc d) × (f m ≡ v)
-    each-case (yes e) ih = (a + d, omega arith, omega arith, e)
-    each-case (no n) ih =
+    by : Dec (f (a + d) ≡ v) → (hits f v a < hits f v (a + d) → (m : ℕ) × (a ≤ m) × (m < a + d) × (f m ≡ v)) → (m : ℕ) × (a ≤ m) × (m < a + suc d) × (f m ≡ v)
+    by (yes e) ih = (a + d, omega arith, omega arith, e)
+    by (no n) ih =
         let last : hits f v (a + suc d) ≡ hits f v (a + d) + hit (eqb (f (a + d)) v) = ap (hits f v) (add-suc a d) ∙ hits-suc f v (a + d) in
         let r = ih (omega (arith, hit-other (f (a + d)) v n)) in
         (r .0, r .1, omega (arith, r .2), r .3)

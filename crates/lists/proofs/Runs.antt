@@ -13,11 +13,11 @@ use lib.Seq.{paste, sets, getD-set-same, getD-set-other, getD-take, getD-drop, g
 
 -- ---- two numbers
 pub lt-or-ge : (a b : ℕ) → (a < b) ⊎ (b ≤ a)
-lt-or-ge a b = each-case (ltb a b) (ltb→lt a b) (nltb→le a b)
+lt-or-ge a b = by (ltb a b) (ltb→lt a b) (nltb→le a b)
   where
-    each-case : (t : Bool) → (T t → a < b) → (T (not t) → b ≤ a) → (a < b) ⊎ (b ≤ a)
-    each-case true p q = inl (p tt)
-    each-case false p q = inr (q tt)
+    by : (t : Bool) → (T t → a < b) → (T (not t) → b ≤ a) → (a < b) ⊎ (b ≤ a)
+    by true p q = inl (p tt)
+    by false p q = inr (q tt)
 
 pub lt-or-gt : {a b : ℕ} → a ≢ b → (a < b) ⊎ (b < a)
 lt-or-gt {a} {b} n = elim (lt-or-ge a b) [ inl l ↦ inl l | inr g ↦ inr (lt-of-le-ne g (λ e. n (sym e))) ]

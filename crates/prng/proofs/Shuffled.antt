@@ -58,11 +58,11 @@ none-from n (x ∷ xs) below v h =
     omega (arith, hit-other x v (λ e. lt-irrefl n (omega arith)), none-from n xs (λ i l. below (suc i) (omega arith)) v h)
 
 pub below-by-count : (n : ℕ) (xs : List ℕ) → ((v : ℕ) → n ≤ v → count v xs ≡ 0) → (i : ℕ) → i < length xs → getD xs i 0 < n
-below-by-count n xs none i h = each-case (decLt (getD xs i 0) n)
+below-by-count n xs none i h = by (decLt (getD xs i 0) n)
   where
-    each-case : Dec (getD xs i 0 < n) → getD xs i 0 < n
-    each-case (yes l) = l
-    each-case (no m) = absurd (omega (arith, count-at xs i h, none (getD xs i 0) (omega (arith, m))))
+    by : Dec (getD xs i 0 < n) → getD xs i 0 < n
+    by (yes l) = l
+    by (no m) = absurd (omega (arith, count-at xs i h, none (getD xs i 0) (omega (arith, m))))
 
 -- a permutation of numbers below n has numbers below n
 pub permutes-below : (n : ℕ) (xs ys : List ℕ) → Permutation xs ys → ((i : ℕ) → i < length ys → getD ys i 0 < n) → (i : ℕ) → i < length xs → getD xs i 0 < n

@@ -14,13 +14,13 @@ abbrev pub firstOf : Two → Near
 firstOf b = record { index = b .index; dist = b .dist }
 
 step-first : (b : Two) (i : ℕ) (x : Float) → firstOf (stepTwo b i x) ≡ stepNear (firstOf b) i x
-step-first b i x = each-case (lt x (b .dist)) (lt x (b .second))
+step-first b i x = by (lt x (b .dist)) (lt x (b .second))
   where
-    each-case : (t u : Bool)
+    by : (t u : Bool)
         → firstOf (pickTwo t (record { index = i; dist = x; second = b .dist }) (pickTwo u (record { index = b .index; dist = b .dist; second = x }) b)) ≡ pickNear t (record { index = i; dist = x }) (firstOf b)
-    each-case true u = refl
-    each-case false true = refl
-    each-case false false = refl
+    by true u = refl
+    by false true = refl
+    by false false = refl
 
 pub two-first : (d : ℕ → Float) (n : ℕ) → firstOf (leastTwo d n) ≡ leastOf d n
 unfolding leastTwo leastOf

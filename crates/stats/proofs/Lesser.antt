@@ -39,15 +39,15 @@ least-more d n = pick-dist (lt (d n) (leastOf d n .dist)) n (d n) (leastOf d n)
 module _ (x y : Float) (g : Good binary32 x) (h : Good binary32 y) where
   pub lesser-good : Good binary32 (lesserOf x y)
   unfolding lesserOf
-  lesser-good = each-case (lt x y)
+  lesser-good = by (lt x y)
     where
-      each-case : (t : Bool) → Good binary32 (cond t x y)
-      each-case true = g
-      each-case false = h
+      by : (t : Bool) → Good binary32 (cond t x y)
+      by true = g
+      by false = h
 
   lesser-key : key32 (lesserOf x y) ≡ min (key32 x) (key32 y)
   unfolding lesserOf
-  lesser-key = each-case (lt x y) refl
+  lesser-key = by (lt x y) refl
     where
       taken : lt x y ≡ true → key32 x ≡ min (key32 x) (key32 y)
       taken p = omega (arith, lt-yes x y g h p)
@@ -55,9 +55,9 @@ module _ (x y : Float) (g : Good binary32 x) (h : Good binary32 y) where
       left : lt x y ≡ false → key32 y ≡ min (key32 x) (key32 y)
       left p = omega (arith, lt-no x y g h p)
 
-      each-case : (t : Bool) → lt x y ≡ t → key32 (cond t x y) ≡ min (key32 x) (key32 y)
-      each-case true p = taken p
-      each-case false p = left p
+      by : (t : Bool) → lt x y ≡ t → key32 (cond t x y) ≡ min (key32 x) (key32 y)
+      by true p = taken p
+      by false p = left p
 
 module _ (x y m : Float) (g : Good binary32 x) (h : Good binary32 y) (k : Good binary32 m) where
   lesser-swaps : lesserOf x (lesserOf y m) ≡ lesserOf y (lesserOf x m)
@@ -109,11 +109,11 @@ pub record Lanes (d : ℕ → Float) (n : ℕ) (a b c e : Float) : Type 0 where
 
 lesser-same : (x : Float) → lesserOf x x ≡ x
 unfolding lesserOf
-lesser-same x = each-case (lt x x)
+lesser-same x = by (lt x x)
   where
-    each-case : (t : Bool) → cond t x x ≡ x
-    each-case true = refl
-    each-case false = refl
+    by : (t : Bool) → cond t x x ≡ x
+    by true = refl
+    by false = refl
 
 pub lanes-start : (d : ℕ → Float) → Lanes d 0 (inf false) (inf false) (inf false) (inf false)
 unfolding leastOf

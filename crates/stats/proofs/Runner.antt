@@ -140,15 +140,15 @@ behind i k h f = lt-of-not-le (λ (g : i ≤ k). no (f k g refl) g)
 
 module _ (d : ℕ → Float) (n : ℕ) (G : (j : ℕ) → j < n → Good binary32 (d j)) (H : 0 < n) (N : n < 18446744073709551616) where
   first-run : Runner d n 0 1 (stepTwo (record { index = 0; dist = inf false; second = inf false }) 0 (d 0))
-  first-run = each-case (lt (d 0) (inf false)) refl
+  first-run = by (lt (d 0) (inf false)) refl
     where
       began : Runner d n 0 1 (record { index = 0; dist = d 0; second = inf false })
       began = run-skips d n 0 G H N 0 (record { index = 0; dist = d 0; second = inf false }) (run-start d n 0 G H N) refl
 
-      each-case : (t : Bool) → lt (d 0) (inf false) ≡ t
+      by : (t : Bool) → lt (d 0) (inf false) ≡ t
           → Runner d n 0 1 (pickTwo t (record { index = 0; dist = d 0; second = inf false }) (pickTwo t (record { index = 0; dist = inf false; second = d 0 }) (record { index = 0; dist = inf false; second = inf false })))
-      each-case true p = began
-      each-case false p =
+      by true p = began
+      by false p =
           subst (λ (x : Float). Runner d n 0 1 (record { index = 0; dist = x; second = inf false }))
           (key-unique binary32 (d 0) (inf false) (G 0 H) (inf-good binary32) (le-antisymm (key-top binary32 (d 0) (G 0 H .fit)) (lt-no (d 0) (inf false) (G 0 H) (inf-good binary32) p)))
           began
@@ -167,7 +167,7 @@ module _ (d : ℕ → Float) (n : ℕ) (G : (j : ℕ) → j < n → Good binary3
     loses p = omega (arith, lower, same, lt-no (d i) (b .dist) (G i l) best-good p)
 
     next-run : Runner d n 0 (i + 1) (stepTwo b i (d i))
-    next-run = each-case (lt (d i) (b .dist)) (lt (d i) (b .second)) refl refl
+    next-run = by (lt (d i) (b .dist)) (lt (d i) (b .second)) refl refl
       where
         not-first : i ≡ 0 → ⊥
         not-first e = omega arith
@@ -175,11 +175,11 @@ module _ (d : ℕ → Float) (n : ℕ) (G : (j : ℕ) → j < n → Good binary3
         apart : b .index ≡ i → ⊥
         apart e = omega (arith, lower)
 
-        each-case : (t u : Bool) → lt (d i) (b .dist) ≡ t → lt (d i) (b .second) ≡ u
+        by : (t u : Bool) → lt (d i) (b .dist) ≡ t → lt (d i) (b .second) ≡ u
             → Runner d n 0 (i + 1) (pickTwo t (record { index = i; dist = d i; second = b .dist }) (pickTwo u (record { index = b .index; dist = b .dist; second = d i }) b))
-        each-case true u p q = run-takes d n 0 G H N i b R l (omega (arith, same, lt-yes (d i) (b .dist) (G i l) best-good p)) apart
-        each-case false true p q = run-follows d n 0 G H N i b R l (loses p) (le-of-lt (lt-yes (d i) (b .second) (G i l) (R .good) q)) not-first
-        each-case false false p q = run-drops d n 0 G H N i b R l (loses p) (lt-no (d i) (b .second) (G i l) (R .good) q)
+        by true u p q = run-takes d n 0 G H N i b R l (omega (arith, same, lt-yes (d i) (b .dist) (G i l) best-good p)) apart
+        by false true p q = run-follows d n 0 G H N i b R l (loses p) (le-of-lt (lt-yes (d i) (b .second) (G i l) (R .good) q)) not-first
+        by false false p q = run-drops d n 0 G H N i b R l (loses p) (lt-no (d i) (b .second) (G i l) (R .good) q)
 
   scan-two : (m : ℕ) → suc m ≤ n → Runner d n 0 (suc m) (leastTwo d (suc m))
   unfolding leastTwo

@@ -66,7 +66,7 @@ module _ (d : ℕ → Float) (n : ℕ) where
 module _ (d : ℕ → Float) where
   -- the distance before which the scan has seen nothing
   first-least : Good binary32 (d 0) → Least d 1 (stepNear (record { index = 0; dist = inf false }) 0 (d 0))
-  first-least g = each-case (lt (d 0) (inf false)) refl
+  first-least g = by (lt (d 0) (inf false)) refl
     where
       only : (j : ℕ) → j < 1 → j ≡ 0
       only j l = omega arith
@@ -83,9 +83,9 @@ module _ (d : ℕ → Float) where
             first = λ (j : ℕ) (l : j < 0). absurd (no j l);
           }
 
-      each-case : (t : Bool) → lt (d 0) (inf false) ≡ t → Least d 1 (pickNear t (record { index = 0; dist = d 0 }) (record { index = 0; dist = inf false }))
-      each-case true p = own
-      each-case false p =
+      by : (t : Bool) → lt (d 0) (inf false) ≡ t → Least d 1 (pickNear t (record { index = 0; dist = d 0 }) (record { index = 0; dist = inf false }))
+      by true p = own
+      by false p =
           subst (λ (x : Float). Least d 1 (record { index = 0; dist = x }))
           (key-unique binary32 (d 0) (inf false) g (inf-good binary32) (le-antisymm (key-top binary32 (d 0) (g .fit)) (lt-no (d 0) (inf false) g (inf-good binary32) p)))
           own
@@ -125,11 +125,11 @@ module _ (d : ℕ → Float) where
         under j l = omega (arith, lt-yes (d m) (b .dist) gm gb t, lt-no (d j) (b .dist) (g j (omega arith)) gb (a .none-less j l))
 
     next-least : Least d (suc m) (stepNear b m (d m))
-    next-least = each-case (lt (d m) (b .dist)) refl
+    next-least = by (lt (d m) (b .dist)) refl
       where
-        each-case : (t : Bool) → lt (d m) (b .dist) ≡ t → Least d (suc m) (pickNear t (record { index = m; dist = d m }) b)
-        each-case true p = changes p
-        each-case false p = keeps p
+        by : (t : Bool) → lt (d m) (b .dist) ≡ t → Least d (suc m) (pickNear t (record { index = m; dist = d m }) b)
+        by true p = changes p
+        by false p = keeps p
 
   scan : (m : ℕ) → ((j : ℕ) → j < suc m → Good binary32 (d j)) → Least d (suc m) (leastOf d (suc m))
   unfolding leastOf

@@ -18,14 +18,14 @@ use Rattle.stats.specs.Stats.{pickTwo, stepTwo, leastTwo, nextOf}
 -- ---- what holds of every value
 module _ (P : Float → Type 0) where
   step-all : (b : Two) (n : ℕ) (x : Float) → P x → P (b .dist) → P (b .second) → P (stepTwo b n x .dist) × P (stepTwo b n x .second)
-  step-all b n x p q r = each-case (lt x (b .dist)) (lt x (b .second))
+  step-all b n x p q r = go (lt x (b .dist)) (lt x (b .second))
     where
-      each-case : (t u : Bool)
+      go : (t u : Bool)
           → P (pickTwo t (record { index = n; dist = x; second = b .dist }) (pickTwo u (record { index = b .index; dist = b .dist; second = x }) b) .dist)
           × P (pickTwo t (record { index = n; dist = x; second = b .dist }) (pickTwo u (record { index = b .index; dist = b .dist; second = x }) b) .second)
-      each-case true u = (p, q)
-      each-case false true = (q, p)
-      each-case false false = (q, r)
+      go true u = (p, q)
+      go false true = (q, p)
+      go false false = (q, r)
 
   pub two-all : (d : ℕ → Float) (n : ℕ) → P (inf false) → ((j : ℕ) → j < n → P (d j)) → P (leastTwo d n .dist) × P (leastTwo d n .second)
   unfolding leastTwo
@@ -54,20 +54,20 @@ is-inf x g t = key-unique binary32 x (inf false) g (inf-good binary32) (le-antis
 
 ranked-first : (d : ℕ → Float) → Good binary32 (d 0) → Ranked d 1 (leastTwo d 1) (nextOf d 1)
 unfolding leastTwo nextOf
-ranked-first d g = each-case (lt (d 0) (inf false)) refl
+ranked-first d g = go (lt (d 0) (inf false)) refl
   where
     few : 2 ≤ 1 → ⊥
     few h = omega arith
 
-    each-case : (t : Bool) → lt (d 0) (inf false) ≡ t
+    go : (t : Bool) → lt (d 0) (inf false) ≡ t
         → Ranked d 1 (pickTwo t (record { index = 0; dist = d 0; second = inf false }) (pickTwo t (record { index = 0; dist = inf false; second = d 0 }) (record { index = 0; dist = inf false; second = inf false })))
         (cond t 0 (cond (t || false) 0 0))
-    each-case true e = record { within = omega arith; value = refl; alone = λ o. refl; next = λ h. absurd (few h) }
-    each-case false e = record { within = omega arith; value = sym (is-inf (d 0) g e); alone = λ o. refl; next = λ h. absurd (few h) }
+    go true e = record { within = omega arith; value = refl; alone = λ o. refl; next = λ h. absurd (few h) }
+    go false e = record { within = omega arith; value = sym (is-inf (d 0) g e); alone = λ o. refl; next = λ h. absurd (few h) }
 
 ranked-step : (d : ℕ → Float) (n : ℕ) (b : Two) (x : ℕ) → 1 ≤ n → Good binary32 (d n) → Ranked d n b x
     → Ranked d (suc n) (stepTwo b n (d n)) (cond (lt (d n) (b .dist)) (b .index) (cond (lt (d n) (b .second) || eqb n 1) n x))
-ranked-step d n b x N g R = each-case (lt (d n) (b .dist)) (lt (d n) (b .second)) refl
+ranked-step d n b x N g R = go (lt (d n) (b .dist)) (lt (d n) (b .second)) refl
   where
     one : suc n ≡ 1 → ⊥
     one e = omega arith
@@ -84,11 +84,11 @@ ranked-step d n b x N g R = each-case (lt (d n) (b .dist)) (lt (d n) (b .second)
         more : (n : ℕ) → 1 ≤ n → (n ≡ 1 → ⊥) → 2 ≤ n
         more n a f = omega arith
 
-    each-case : (t u : Bool) → lt (d n) (b .second) ≡ u
+    go : (t u : Bool) → lt (d n) (b .second) ≡ u
         → Ranked d (suc n) (pickTwo t (record { index = n; dist = d n; second = b .dist }) (pickTwo u (record { index = b .index; dist = b .dist; second = d n }) b)) (cond t (b .index) (cond (u || eqb n 1) n x))
-    each-case true u e = record { within = omega arith; value = refl; alone = λ o. absurd (one o); next = λ h. record { within = omega (arith, R .within); other = λ o. new (sym o); value = R .value } }
-    each-case false true e = record { within = omega (arith, R .within); value = R .value; alone = λ o. absurd (one o); next = λ h. record { within = omega arith; other = new; value = refl } }
-    each-case false false e = record { within = omega (arith, R .within); value = R .value; alone = λ o. absurd (one o); next = λ h. kept (eqb n 1) refl e }
+    go true u e = record { within = omega arith; value = refl; alone = λ o. absurd (one o); next = λ h. record { within = omega (arith, R .within); other = λ o. new (sym o); value = R .value } }
+    go false true e = record { within = omega (arith, R .within); value = R .value; alone = λ o. absurd (one o); next = λ h. record { within = omega arith; other = new; value = refl } }
+    go false false e = record { within = omega (arith, R .within); value = R .value; alone = λ o. absurd (one o); next = λ h. kept (eqb n 1) refl e }
 
 ranked : (d : ℕ → Float) (m : ℕ) → ((j : ℕ) → j < suc m → Good binary32 (d j)) → Ranked d (suc m) (leastTwo d (suc m)) (nextOf d (suc m))
 unfolding leastTwo nextOf
@@ -98,14 +98,14 @@ ranked d (suc m) g = ranked-step d (suc m) (leastTwo d (suc m)) (nextOf d (suc m
 -- n values, of which there are two or more
 module _ (d : ℕ → Float) (n : ℕ) (N : 2 ≤ n) (G : (j : ℕ) → j < n → Good binary32 (d j)) where
   runner-up : Other d n (leastTwo d n .index) (nextOf d n) (leastTwo d n .second)
-  runner-up = each-case n refl G
+  runner-up = go n refl G
     where
-      each-case : (k : ℕ) → k ≡ n → ((j : ℕ) → j < k → Good binary32 (d j)) → Other d n (leastTwo d n .index) (nextOf d n) (leastTwo d n .second)
-      each-case zero e g = absurd (none e)
+      go : (k : ℕ) → k ≡ n → ((j : ℕ) → j < k → Good binary32 (d j)) → Other d n (leastTwo d n .index) (nextOf d n) (leastTwo d n .second)
+      go zero e g = absurd (none e)
         where
           none : 0 ≡ n → ⊥
           none e = omega arith
-      each-case (suc m) e g = subst (λ (k : ℕ). Other d k (leastTwo d k .index) (nextOf d k) (leastTwo d k .second)) e (ranked d m g .next (omega arith))
+      go (suc m) e g = subst (λ (k : ℕ). Other d k (leastTwo d k .index) (nextOf d k) (leastTwo d k .second)) e (ranked d m g .next (omega arith))
 
   pub next-below : nextOf d n < n
   next-below = runner-up .within
@@ -119,9 +119,9 @@ module _ (d : ℕ → Float) (n : ℕ) (N : 2 ≤ n) (G : (j : ℕ) → j < n �
 -- where there is one value, it is its own runner-up
 pub next-alone : (d : ℕ → Float) → nextOf d 1 ≡ leastTwo d 1 .index
 unfolding leastTwo nextOf
-next-alone d = each-case (lt (d 0) (inf false))
+next-alone d = go (lt (d 0) (inf false))
   where
-    each-case : (t : Bool)
+    go : (t : Bool)
         → cond t 0 (cond (t || false) 0 0) ≡ pickTwo t (record { index = 0; dist = d 0; second = inf false }) (pickTwo t (record { index = 0; dist = inf false; second = d 0 }) (record { index = 0; dist = inf false; second = inf false })) .index
-    each-case true = refl
-    each-case false = refl
+    go true = refl
+    go false = refl
