@@ -53,7 +53,7 @@ returns-2 c =
     let passed = worked .before .before .before .before .before .before in
     let a = passed .before .before .before .before .before .before .before .before .before .before .before .before .before .before .before .before .args in
     advanced (courseOf (a .z) (now (a .tiles)) (now (a .colours)) (now (a .counts)) (now (a .samples))) (now (a .order)) (now (a .hints)) (now (a .palette))
-        (now (a .least)) (now (a .words)) _ (passed .before .refuses-advance .ensures) (a .allotment) (passed .if1 .left) _ (worked .advance-work .ensures)
+    (now (a .least)) (now (a .words)) _ (passed .before .refuses-advance .ensures) (a .allotment) (passed .if1 .left) _ (worked .advance-work .ensures)
 
 pub advance-spec : {M : Type 1} → statement M
 advance-spec =

@@ -40,7 +40,7 @@ returns-3 c =
     let after-is-stop = c .before .before .before in let after-if1 = after-is-stop .before .before in let after-check-run = after-if1 .before in
     let after-wider-room = after-check-run .before in
     run-goes _ _ _ _ _ _ (after-check-run .check-run .ensures) _ (after-wider-room .wider-room .ensures .same) _ (after-if1 .if1 .left) _
-        (passes _ _ _ _ _ (after-is-stop .is-stop .ensures) (c .before .before .if2 .left) (near-fails _ _ _ _ _ (c .before .first-bad .ensures) (c .if3 .taken)))
+    (passes _ _ _ _ _ (after-is-stop .is-stop .ensures) (c .before .before .if2 .left) (near-fails _ _ _ _ _ (c .before .first-bad .ensures) (c .if3 .taken)))
 
 returns-4 : tie.Need-returns-4
 unfolding handInAnswer memoryRoom coloursRoom stateOf
@@ -48,8 +48,8 @@ returns-4 c =
     let after-is-stop = c .before .before .before in let after-if1 = after-is-stop .before .before in let after-check-run = after-if1 .before in
     let after-wider-room = after-check-run .before in
     run-goes _ _ _ _ _ _ (after-check-run .check-run .ensures) _ (after-wider-room .wider-room .ensures .same) _ (after-if1 .if1 .left) _
-        (passes _ _ _ _ _ (after-is-stop .is-stop .ensures) (c .before .before .if2 .left)
-            (skips _ _ _ _ (eq-eqb _ _ (sym (c .before .first-bad .ensures) ∙ c .if3 .left)) none))
+    (passes _ _ _ _ _ (after-is-stop .is-stop .ensures) (c .before .before .if2 .left)
+    (skips _ _ _ _ (eq-eqb _ _ (sym (c .before .first-bad .ensures) ∙ c .if3 .left)) none))
 
 pub refuses-hand-in-spec : {M : Type 1} → statement M
 refuses-hand-in-spec =

@@ -25,7 +25,7 @@ draw-requires c κs =
     let after-subs-of = after-have-of .before in let start = after-subs-of .before .before .before .before .before .before .before .before in
     let a = start .args in
     going-by (courseOf (a .z) (now (a .tiles)) (now (a .colours)) (now (a .counts)) (now (a .samples))) (now (a .order)) (now (a .hints))
-        (now (a .palette)) (a .r) _ _ (after-subs-of .subs-of .ensures) (after-have-of .have-of .ensures) _ _ (after-cycle-of .cycle-of .ensures) (start .pre .going)
+    (now (a .palette)) (a .r) _ _ (after-subs-of .subs-of .ensures) (after-have-of .have-of .ensures) _ _ (after-cycle-of .cycle-of .ensures) (start .pre .going)
 
 count-draw-requires : tie.Need-count-draw-requires
 count-draw-requires c κs =
@@ -48,9 +48,9 @@ returns c =
     let start = after-subs-of .before .before .before .before .before .before .before .before in
     let a = start .args in
     drawn-by (courseOf (a .z) (now (a .tiles)) (now (a .colours)) (now (a .counts)) (now (a .samples))) (now (a .order)) (now (a .hints))
-        (now (a .palette)) (a .r) _ _ (after-subs-of .subs-of .ensures) (after-have-of .have-of .ensures) _ _ (after-cycle-of .cycle-of .ensures) _
-        (after-alpha-of .alpha-of .ensures) _ _ _ _ _ (after-draw .draw .ensures .0) (after-draw .draw .ensures .1 .0) (after-draw .draw .ensures .1 .1) _
-        (c .count-draw .ensures)
+    (now (a .palette)) (a .r) _ _ (after-subs-of .subs-of .ensures) (after-have-of .have-of .ensures) _ _ (after-cycle-of .cycle-of .ensures) _
+    (after-alpha-of .alpha-of .ensures) _ _ _ _ _ (after-draw .draw .ensures .0) (after-draw .draw .ensures .1 .0) (after-draw .draw .ensures .1 .1) _
+    (c .count-draw .ensures)
 
 pub draw-spec : {M : Type 1} → statement M
 draw-spec =

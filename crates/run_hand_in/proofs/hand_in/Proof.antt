@@ -52,7 +52,7 @@ returns-2 c =
     let after-record-of = after-after-stop .before .before .before in let after-copy = after-record-of .before .before .before .before in
     let after-if1 = after-copy .before .before in let after-refuses-hand-in = after-if1 .before in
     accepted _ _ _ _ (after-refuses-hand-in .refuses-hand-in .ensures) (after-if1 .if1 .left) _ (after-copy .copy .ensures) _ (after-record-of .record-of .ensures) _ _ _
-        (after-after-stop .after-stop .ensures) _ (c .before .before .write-record .ensures)
+    (after-after-stop .after-stop .ensures) _ (c .before .before .write-record .ensures)
 
 pub hand-in-spec : {M : Type 1} → statement M
 hand-in-spec =

@@ -25,14 +25,14 @@ returns-3 : tie.Need-returns-3
 returns-3 c =
     let after-made-by = c .before .before .before .before in let after-if1 = after-made-by .before in let after-place-fits = after-if1 .before in
     passes _ _ _ _ _ (after-place-fits .place-fits .ensures) (after-if1 .if1 .left)
-        (skips _ _ _ _ (eq-eqb _ _ (c .before .before .if2 .left ∙ after-made-by .made-by .ensures)) (refuses _ _ _ _ (c .before .error-fits .ensures) (c .if3 .taken)))
+    (skips _ _ _ _ (eq-eqb _ _ (c .before .before .if2 .left ∙ after-made-by .made-by .ensures)) (refuses _ _ _ _ (c .before .error-fits .ensures) (c .if3 .taken)))
 
 returns-4 : tie.Need-returns-4
 returns-4 c =
     let after-made-by = c .before .before .before .before in let after-if1 = after-made-by .before in let after-place-fits = after-if1 .before in
     passes _ _ _ _ _ (after-place-fits .place-fits .ensures) (after-if1 .if1 .left)
-        (skips _ _ _ _ (eq-eqb _ _ (c .before .before .if2 .left ∙ after-made-by .made-by .ensures))
-            (passes _ _ _ _ _ (c .before .error-fits .ensures) (c .if3 .left) none))
+    (skips _ _ _ _ (eq-eqb _ _ (c .before .before .if2 .left ∙ after-made-by .made-by .ensures))
+    (passes _ _ _ _ _ (c .before .error-fits .ensures) (c .if3 .left) none))
 
 pub check-record-spec : {M : Type 1} → statement M
 check-record-spec =

@@ -68,7 +68,7 @@ returns-2 c =
     let after-blank = after-deal .before .before .before .before .before .before in let after-if1 = after-blank .before .before .before in
     let after-refuses-start = after-if1 .before in
     accepted _ _ _ _ (after-refuses-start .refuses-start .ensures) (after-if1 .if1 .left) _ _ (after-blank .blank .ensures) _ _ (after-deal .deal .ensures) _ _ _ _
-        (after-set-out .set-out .ensures) _ (c .before .before .write-record .ensures)
+    (after-set-out .set-out .ensures) _ (c .before .before .write-record .ensures)
 
 pub start-spec : {M : Type 1} → statement M
 start-spec =

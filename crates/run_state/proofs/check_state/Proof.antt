@@ -27,7 +27,7 @@ returns-3 c =
     let after-palette-fits = c .before .before .before in let after-if1 = after-palette-fits .before in let after-check-record = after-if1 .before in
     let start = after-check-record .before .before .before .before in
     record-goes _ _ _ _ (start .args .r) _ (after-check-record .check-record .ensures) (after-if1 .if1 .left) _
-        (passes _ _ _ _ _ (after-palette-fits .palette-fits .ensures) (c .before .before .if2 .left) (refuses _ _ _ _ (c .before .least-fits .ensures) (c .if3 .taken)))
+    (passes _ _ _ _ _ (after-palette-fits .palette-fits .ensures) (c .before .before .if2 .left) (refuses _ _ _ _ (c .before .least-fits .ensures) (c .if3 .taken)))
 
 order-fits-requires : tie.Need-order-fits-requires
 order-fits-requires c κs = search needs
@@ -38,8 +38,8 @@ returns-4 c =
     let after-if1 = after-palette-fits .before in let after-check-record = after-if1 .before in
     let start = after-check-record .before .before .before .before in
     record-goes _ _ _ _ (start .args .r) _ (after-check-record .check-record .ensures) (after-if1 .if1 .left) _
-        (passes _ _ _ _ _ (after-palette-fits .palette-fits .ensures) (after-if2 .if2 .left)
-            (passes _ _ _ _ _ (after-least-fits .least-fits .ensures) (c .before .before .if3 .left) (refuses _ _ _ _ (c .before .order-fits .ensures) (c .if4 .taken))))
+    (passes _ _ _ _ _ (after-palette-fits .palette-fits .ensures) (after-if2 .if2 .left)
+    (passes _ _ _ _ _ (after-least-fits .least-fits .ensures) (c .before .before .if3 .left) (refuses _ _ _ _ (c .before .order-fits .ensures) (c .if4 .taken))))
 
 returns-5 : tie.Need-returns-5
 returns-5 c =
@@ -47,9 +47,9 @@ returns-5 c =
     let after-if1 = after-palette-fits .before in let after-check-record = after-if1 .before in
     let start = after-check-record .before .before .before .before in
     record-goes _ _ _ _ (start .args .r) _ (after-check-record .check-record .ensures) (after-if1 .if1 .left) _
-        (passes _ _ _ _ _ (after-palette-fits .palette-fits .ensures) (after-if2 .if2 .left)
-            (passes _ _ _ _ _ (after-least-fits .least-fits .ensures) (c .before .before .if3 .left)
-                (passes _ _ _ _ _ (c .before .order-fits .ensures) (c .if4 .left) none)))
+    (passes _ _ _ _ _ (after-palette-fits .palette-fits .ensures) (after-if2 .if2 .left)
+    (passes _ _ _ _ _ (after-least-fits .least-fits .ensures) (c .before .before .if3 .left)
+    (passes _ _ _ _ _ (c .before .order-fits .ensures) (c .if4 .left) none)))
 
 pub check-state-spec : {M : Type 1} → statement M
 check-state-spec =

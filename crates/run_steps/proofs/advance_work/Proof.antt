@@ -76,7 +76,7 @@ returns c =
     let after-record-of = after-loop .before in
     let start = after-record-of .before .before .before .before .before .before .before .before .before .before .before in
     worked _ _ _ _ _ _ (start .args .words .now) _ (after-record-of .record-of .ensures) _ _ _ _ _ (after-loop .loop .r) (after-loop .loop .inv) _
-        (after-goes-on .goes-on .ensures) (after-if1 .if1 .left) _ (c .before .before .write-record .ensures)
+    (after-goes-on .goes-on .ensures) (after-if1 .if1 .left) _ (c .before .before .write-record .ensures)
 
 pub advance-work-spec : {M : Type 1} → statement M
 advance-work-spec =
