@@ -5,20 +5,15 @@ ghost use mathlib.Core.Path.{_≡_};
 ghost use Prim.Native.Nat.{_≤_};
 ghost use lib.ListN.{length};
 ghost use Rattle.io.specs.Counts.{Counts};
-ghost use Rattle.sheet_parts.specs.Begins.{Holds};
-ghost use Rattle.fit_text.specs.Fit.{fitOutcome, fitDef, Prints};
+ghost use Rattle.fit_lines.specs.Lines.{Stored};
+ghost use Rattle.fit_tiles.specs.Text.{fitText};
+ghost use Rattle.sheet_parts.specs.Front.{frontJob, frontPalette, Front};
+ghost use Rattle.fit_text.specs.Fit.{fitOutcome, fitDef};
 
 // The bytes that any sheet's lines take, at most.
 const MOST_TEXT: usize = 34060;
 
-// A hint of 0 for each tile. The contract gives only the length: no definition reads a hint.
-fn no_hints() -> [u32; 1024]
-    ensures { λ r. ⌜ 1024 ≡ length r ⌝ }
-{
-    [0; 1024]
-}
-
-// The lines of a job whose lists stand at the beginning of these slices.
+// The lines of the job in the first places of these slices.
 fn put_job(
     z: Sizes,
     tiles: &[u32],
@@ -27,12 +22,13 @@ fn put_job(
     palette: &[f32],
     out: &mut [u8],
 ) -> usize
-    requires { ⌜ Holds (z .s) (z .c) (z .t) (z .weight) (now tiles) (now colours) (now counts) (now palette) × (34060 ≤ length (now out)) ⌝ }
-    ensures { λ r. ⌜ Prints (z .s) (z .c) (z .t) (z .weight) (now (tiles .entry)) (now (colours .entry)) (now (counts .entry)) (now (palette .entry)) (now (out .entry)) (now (out .exit)) r ⌝ }
+    requires { ⌜ Front z (now tiles) (now colours) (now counts) (now palette) × (34060 ≤ length (now out)) ⌝ }
+    ensures { λ r. ⌜ Stored (now (out .entry)) (now (out .exit)) 0 r
+        (fitText (frontJob z (now (tiles .entry)) (now (colours .entry)) (now (counts .entry))) (frontPalette z (now (palette .entry))))
+        × (r ≤ 34060) ⌝ }
 {
-    let mut hints = no_hints();
-    let last = z.t - 1;
-    let n = job::first_of(tiles, last) + job::size_of(tiles, last);
+    let mut hints = sheet_parts::no_hints();
+    let n = sheet_parts::colours_to(tiles, z.t);
     fit_tiles::put_fit(
         z,
         &tiles[..2 * z.t],
@@ -57,16 +53,6 @@ pub fn fit(bytes: &[u8], out: &mut [u8]) -> usize
     let mut palette = sheet_parts::palette_room();
     match sheet::read(bytes, &mut tiles, &mut colours, &mut counts, &mut palette) {
         sheet::Reading::Refused(n) => fit_lines::put_refused(out, 0, n),
-        sheet::Reading::Sheet { s, c, t, weight } => put_job(
-            s,
-            c,
-            t,
-            weight,
-            &tiles,
-            &colours,
-            &counts,
-            &palette,
-            out,
-        ),
+        sheet::Reading::Sheet(z) => put_job(z, &tiles, &colours, &counts, &palette, out),
     }
 }

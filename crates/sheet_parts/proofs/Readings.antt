@@ -22,7 +22,7 @@ use Rattle.sheet_format.specs.Sheet.{Sheet, edition1, sheet, readSheet}
 use Rattle.sheet_format.specs.Lists.{floats}
 use Rattle.sheet.specs.declared.Reading.{Reading}
 use Rattle.sheet.specs.declared.Reading.the-variants as reading
-use Rattle.sheet.specs.Sheets.{sizesIn, jobIn, Room, ReadOutcome, readOutcome, roomy, filled, readInto, readDef}
+use Rattle.sheet.specs.Sheets.{sizesIn, jobIn, Room, room, ReadOutcome, readOutcome, roomy, filled, readInto, readDef}
 use Rattle.sheet.proofs.Inverse.{accepted-few, accepted-job, written-read}
 use Rattle.sheet.proofs.Again.{sheet-again}
 use Rattle.sheet.proofs.Accepted.{within-limit}
@@ -40,6 +40,10 @@ pub record Lengths (h : Room) : Type 0 where
   pub colours : 15420 ≡ length (h .colours)
   pub counts : 5140 ≡ length (h .counts)
   pub palette : 768 ≡ length (h .palette)
+
+pub lengths : {tiles : List ℕ} {colours : List Float} {counts : List ℕ} {palette : List Float}
+    → 2048 ≡ length tiles → 15420 ≡ length colours → 5140 ≡ length counts → 768 ≡ length palette → Lengths (room tiles colours counts palette)
+lengths t c n p = record { tiles = t; colours = c; counts = n; palette = p }
 
 -- the file of the job that a sheet holds is that sheet's
 pub file-again : (b : List ℕ) (x : Sheet) → T (areBytes b) → readSheet edition1 b ≡ accepted x → encode (sheet edition1) (sheetOf (jobIn x) (floats (x .palette))) ≡ b

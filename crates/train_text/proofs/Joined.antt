@@ -9,7 +9,6 @@ use mir.Syntax.{w64}
 use mir.Val.{Fits}
 use lib.ListN.{length}
 use lib.Ieee.{Float}
-use Rattle.job.specs.Job.{tileSize}
 use Rattle.job.specs.Rules.{Passed}
 use Rattle.quantizer.specs.Course.{Course}
 use Rattle.stages.specs.Calls.{Memory, Outcome, outcome, jobRules, startCall, advanceCall, handInCall}
@@ -74,6 +73,6 @@ module _ (K : Course) where
       t .is ∙ ap (λ (k : ℕ). turnCalls K k m₀) three
 
   -- the whole run
-  pub run-joined : (a : ℕ) (m₀ m₁ m₂ : Memory) → Passed (jobRules tileSize K true) → Roomy K m₀ → outcome a 0 m₁ ≡ startCall K m₀ 0 → m₂ ≡ turnCalls K 3 m₁
+  pub run-joined : (a : ℕ) (m₀ m₁ m₂ : Memory) → Passed (jobRules K true) → Roomy K m₀ → outcome a 0 m₁ ≡ startCall K m₀ 0 → m₂ ≡ turnCalls K 3 m₁
       → m₂ .palette ≡ trained K (m₀ .hints) .palette
   run-joined a m₀ m₁ m₂ P R e f = ap (λ (m : Memory). m .palette) (f ∙ ap (turnCalls K 3) (left-by _ a 0 m₁ e)) ∙ calls-train K P m₀ R

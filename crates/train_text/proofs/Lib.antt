@@ -3,5 +3,4 @@ pub mod Rooms
 pub mod Rules
 pub mod Trains
 pub mod Texts
-pub mod Lists
 pub mod Sheets

@@ -7,20 +7,19 @@ use mathlib.Core.List.{List}
 use lib.ListN.{length, getD, take, replicate}
 use lib.Seq.{length-take-le}
 use lib.Ieee.{Float}
-use Rattle.job.specs.Job.{tileSize}
 use Rattle.job.specs.Gives.{Sampled}
 use Rattle.quantizer.specs.Course.{Course}
 use Rattle.stages.specs.Calls.{Memory, memory, outcome, startCall}
 use Rattle.calls.specs.Accepted.{Roomy}
 use Rattle.calls.proofs.Accepted.{job-passed}
 use Rattle.training.specs.Training.{trained, turnCalls}
-use Rattle.train_parts.proofs.Hints.{no-hint}
+use Rattle.sheet_parts.proofs.Hints.{no-hint}
 use Rattle.train_text.proofs.Joined.{run-joined}
 use Rattle.train_text.specs.Trained.{trainedPalette, Drawable}
 
 module _ (K : Course) (p : List Float) (D : Drawable K p) where
-  checked : Sampled tileSize (K .job) (K .n) (K .samples) true
-  checked = job-passed tileSize K true (D .passed)
+  checked : Sampled (K .job) (K .n) (K .samples) true
+  checked = job-passed K true (D .passed)
 
   -- the rooms are long enough
   pub samples-fit : (k : ℕ) → 16384 ≡ k → K .n ≤ k

@@ -8,14 +8,14 @@ use mathlib.Core.List.{List}
 use lib.ListN.{length, take}
 use lib.Ieee.{Float}
 use Rattle.format.specs.Format.{encode}
-use Rattle.job.specs.Job.{Job, tileSize, mostSamples}
+use Rattle.job.specs.Job.{Job, mostSamples}
 use Rattle.quantizer.specs.Course.{Course, course}
 use Rattle.job.specs.Rules.{Passed}
 use Rattle.stages.specs.Calls.{jobRules}
 use Rattle.sheet_format.specs.Sheet.{edition1, sheet}
 use Rattle.sheet_pack.specs.Packed.{sheetOf}
 use Rattle.sheet.proofs.Inverse.{sets-front}
-use Rattle.sheet_parts.specs.Begins.{Writable}
+use Rattle.sheet_parts.specs.Front.{Writable}
 use Rattle.fit_lines.specs.Lines.{Stored, refusedLine}
 use Rattle.train_refusal.specs.Refusal.{refusalOf}
 use Rattle.train_refusal.proofs.Accepted.{not-refused}
@@ -73,7 +73,7 @@ module _ (J : Job) (p : List Float) (W : Writable J p) (samples after : List ℕ
 
       pub drawable : Drawable (course J (m / 2) (take m after)) p
       drawable = record {
-        passed = subst⁻¹ (λ (K : Course). Passed (jobRules tileSize K true)) is (run-taken J p (W .passed) some few);
+        passed = subst⁻¹ (λ (K : Course). Passed (jobRules K true)) is (run-taken J p (W .passed) some few);
         long = palette-long J p (W .passed);
       }
 

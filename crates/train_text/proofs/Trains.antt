@@ -10,7 +10,7 @@ use lib.Dec.{eqb}
 use lib.ListN.{replicate, length-replicate}
 use lib.Ieee.{Float}
 use borrow.Author.Tests.{ne-eqb}
-use Rattle.job.specs.Job.{Job, tileSize, mostSamples}
+use Rattle.job.specs.Job.{Job, mostSamples}
 use Rattle.job.specs.Rules.{Passed}
 use Rattle.job.specs.Checks.{plainAnswer}
 use Rattle.stages.specs.Calls.{Memory, memory, jobRules}
@@ -39,8 +39,8 @@ module _ (J : Job) where
   text-sheet some few = by-refusal 0 (refusals.some n (λ (e : n ≡ 0). omega arith) few)
 
 -- ---- the palette
-module _ (J : Job) (p : List Float) (h : plainAnswer tileSize J p true ≡ 0) (some : 1 ≤ unitsTo (J .tiles) (J .counts) (J .T)) (few : unitsTo (J .tiles) (J .counts) (J .T) ≤ mostSamples) where
-  pub run-taken : Passed (jobRules tileSize (courseOf J) true)
+module _ (J : Job) (p : List Float) (h : plainAnswer J p true ≡ 0) (some : 1 ≤ unitsTo (J .tiles) (J .counts) (J .T)) (few : unitsTo (J .tiles) (J .counts) (J .T) ≤ mostSamples) where
+  pub run-taken : Passed (jobRules (courseOf J) true)
   unfolding courseOf
   run-taken = run-passed J p h some few
 
@@ -52,7 +52,7 @@ module _ (J : Job) (p : List Float) (h : plainAnswer tileSize J p true ≡ 0) (s
   unfolding any-memory courseOf
   its-room = record { order = length-replicate (courseOf J .n) 0; hints = length-replicate (J .T) 0; palette = palette-long J p h; least = palette-long J p h; words = refl }
 
-  pub trained-passes : plainAnswer tileSize J (trainedPalette (courseOf J)) true ≡ 0
+  pub trained-passes : plainAnswer J (trainedPalette (courseOf J)) true ≡ 0
   unfolding trainedPalette any-memory courseOf
   trained-passes =
       let f = trained-fits (courseOf J) run-taken any-memory its-room in

@@ -6,7 +6,7 @@ use mathlib.Core.List.{List}
 use lib.Dec.{eqb}
 use lib.ListN.{length, replicate}
 use lib.Ieee.{Float}
-use Rattle.job.specs.Job.{Job, tileSize}
+use Rattle.job.specs.Job.{Job}
 use Rattle.job.specs.Rules.{Passed}
 use Rattle.quantizer.specs.Course.{Course, course}
 use Rattle.stages.specs.Calls.{jobRules}
@@ -37,5 +37,5 @@ jobText J = cond (eqb (refusalOf (courseOf J .n)) 0) (trainedFile J) (refusedLin
 -- ---- what is asked
 -- a job with samples that every call of a run accepts, and a palette of its size
 pub record Drawable (K : Course) (palette : List Float) : Type 0 where
-  pub passed : Passed (jobRules tileSize K true)
+  pub passed : Passed (jobRules K true)
   pub long : length palette ≡ 3 * (K .job .S * K .job .C)

@@ -8,14 +8,16 @@ ghost use mathlib.Core.Path.{_≡_};
 ghost use Prim.Native.Nat.{_≤_};
 ghost use lib.ListN.{length};
 ghost use Rattle.io.specs.Counts.{Counts};
-ghost use Rattle.sheet_parts.specs.Begins.{Holds};
-ghost use Rattle.train_text.specs.Train.{trainOutcome, trainDef, Writes};
+ghost use Rattle.fit_lines.specs.Lines.{Stored};
+ghost use Rattle.sheet_parts.specs.Front.{frontJob, Front};
+ghost use Rattle.train_text.specs.Trained.{jobText};
+ghost use Rattle.train_text.specs.Train.{trainOutcome, trainDef};
 
 // The bytes that any sheet takes, at most.
 const MOST_BYTES: usize = 65536;
 
-// What is written for a job whose lists stand at the beginning of these slices.
-fn put_sheet(
+// What is written for the job in the first places of these slices.
+fn put_job(
     z: Sizes,
     tiles: &[u32],
     colours: &[f32],
@@ -23,12 +25,12 @@ fn put_sheet(
     palette: &mut [f32],
     out: &mut [u8],
 ) -> usize
-    requires { ⌜ Holds (z .s) (z .c) (z .t) (z .weight) (now tiles) (now colours) (now counts) (now palette) × (65536 ≤ length (now out)) ⌝ }
-    ensures { λ r. ⌜ Writes (z .s) (z .c) (z .t) (z .weight) (now (tiles .entry)) (now (colours .entry)) (now (counts .entry)) (now (palette .entry)) (now (out .entry)) (now (out .exit)) r × (r ≤ 65536) ⌝ }
+    requires { ⌜ Front z (now tiles) (now colours) (now counts) (now palette) × (65536 ≤ length (now out)) ⌝ }
+    ensures { λ r. ⌜ Stored (now (out .entry)) (now (out .exit)) 0 r
+        (jobText (frontJob z (now (tiles .entry)) (now (colours .entry)) (now (counts .entry)))) × (r ≤ 65536) ⌝ }
 {
-    let last = z.t - 1;
-    let n = job::first_of(tiles, last) + job::size_of(tiles, last);
-    trained::put_job(
+    let n = sheet_parts::colours_to(tiles, z.t);
+    trained::put_trained(
         z,
         &tiles[..2 * z.t],
         &colours[..3 * n],
@@ -51,16 +53,6 @@ pub fn train(bytes: &[u8], out: &mut [u8]) -> usize
     let mut palette = sheet_parts::palette_room();
     match sheet::read(bytes, &mut tiles, &mut colours, &mut counts, &mut palette) {
         sheet::Reading::Refused(n) => fit_lines::put_refused(out, 0, n),
-        sheet::Reading::Sheet { s, c, t, weight } => put_sheet(
-            s,
-            c,
-            t,
-            weight,
-            &tiles,
-            &colours,
-            &counts,
-            &mut palette,
-            out,
-        ),
+        sheet::Reading::Sheet(z) => put_job(z, &tiles, &colours, &counts, &mut palette, out),
     }
 }

@@ -31,7 +31,9 @@ fn turns(
     words: &mut [u64],
 )
     requires { ⌜ length (now palette) ≤ 768 ⌝ }
-    ensures { λ _. ⌜ memory (now (order .exit)) (now (hints .exit)) (now (palette .exit)) (now (least .exit)) (now (words .exit)) ≡ turnCalls (courseOf z (now (tiles .entry)) (now (colours .entry)) (now (counts .entry)) (now (samples .entry))) 3 (memory (now (order .entry)) (now (hints .entry)) (now (palette .entry)) (now (least .entry)) (now (words .entry))) ⌝ }
+    ensures { λ _. ⌜ memory (now (order .exit)) (now (hints .exit)) (now (palette .exit)) (now (least .exit)) (now (words .exit))
+        ≡ turnCalls (courseOf z (now (tiles .entry)) (now (colours .entry)) (now (counts .entry)) (now (samples .entry))) 3
+        (memory (now (order .entry)) (now (hints .entry)) (now (palette .entry)) (now (least .entry)) (now (words .entry))) ⌝ }
 {
     let mut passed = 0;
     while passed < STOPS {
@@ -77,10 +79,11 @@ pub fn train_palette(
     palette: &mut [f32],
 )
     requires { ⌜ Drawable (courseOf z (now tiles) (now colours) (now counts) (now samples)) (now palette) ⌝ }
-    ensures { λ _. ⌜ now (palette .exit) ≡ trainedPalette (courseOf z (now (tiles .entry)) (now (colours .entry)) (now (counts .entry)) (now (samples .entry))) ⌝ }
+    ensures { λ _. ⌜ now (palette .exit)
+        ≡ trainedPalette (courseOf z (now (tiles .entry)) (now (colours .entry)) (now (counts .entry)) (now (samples .entry))) ⌝ }
 {
     let mut orders = train_parts::order_room();
-    let mut firsts = train_parts::no_hints();
+    let mut firsts = sheet_parts::no_hints();
     let mut errors = sheet_parts::palette_room();
     let mut record = [0u64; 6];
     let size = 3 * (z.s * z.c);

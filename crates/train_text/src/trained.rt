@@ -4,12 +4,12 @@ ghost use mathlib.Core.Path.{_≡_};
 ghost use Prim.Native.Nat.{_≤_};
 ghost use lib.ListN.{length};
 ghost use Rattle.job.specs.Job.{jobOf};
-ghost use Rattle.sheet_parts.specs.Begins.{Writable};
+ghost use Rattle.sheet_parts.specs.Front.{Writable};
 ghost use Rattle.fit_lines.specs.Lines.{Stored};
 ghost use Rattle.train_text.specs.Trained.{jobText};
 
 // What is written for a job: its sheet trained, or a refusal's line. The palette is lent to the run.
-pub fn put_job(
+pub fn put_trained(
     z: Sizes,
     tiles: &[u32],
     colours: &[f32],
@@ -18,7 +18,8 @@ pub fn put_job(
     out: &mut [u8],
 ) -> usize
     requires { ⌜ Writable (jobOf z (now tiles) (now colours) (now counts)) (now palette) × (65536 ≤ length (now out)) ⌝ }
-    ensures { λ r. ⌜ Stored (now (out .entry)) (now (out .exit)) 0 r (jobText (jobOf z (now (tiles .entry)) (now (colours .entry)) (now (counts .entry)))) × (r ≤ 65536) ⌝ }
+    ensures { λ r. ⌜ Stored (now (out .entry)) (now (out .exit)) 0 r
+        (jobText (jobOf z (now (tiles .entry)) (now (colours .entry)) (now (counts .entry)))) × (r ≤ 65536) ⌝ }
 {
     let mut samples = train_parts::samples_room();
     let m = train_samples::put_samples(z.t, tiles, counts, &mut samples);
@@ -27,6 +28,14 @@ pub fn put_job(
     if number != 0 {
         return fit_lines::put_refused(out, 0, number);
     }
-    crate::run::train_palette(z, tiles, colours, counts, &samples[..m], palette);
+    let sampled = Sizes {
+        size: z.size,
+        s: z.s,
+        c: z.c,
+        t: z.t,
+        n,
+        weight: z.weight,
+    };
+    crate::run::train_palette(sampled, tiles, colours, counts, &samples[..m], palette);
     sheet_parts::put_sheet(z, tiles, colours, counts, palette, out)
 }

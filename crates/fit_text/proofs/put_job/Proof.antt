@@ -1,9 +1,15 @@
 -- `put_job` meets its contract: the parts that it lends are the job's lists. Assumes nothing.
-use Prim.Native.Nat.{ℕ, _+_, _*_}
-use mathlib.Core.Path.{sym, ap₂}
+use Prim.Native.Nat.{_*_}
+use mathlib.Core.Path.{sym}
+use mathlib.Core.List.{List}
 use native.Mathlib.Omega.{arith}
-use Rattle.sheet_parts.proofs.Parts.{few-tiles, tiles-long, few-colours, colours-long, counts-long, palette-long, front-long}
-use Rattle.fit_text.proofs.Lists.{shown-parts, parts-printed}
+use Rattle.job.specs.Job.{Job}
+use Rattle.palette_tile.specs.Tiles.{Shown}
+use Rattle.fit_lines.specs.Lines.{Stored}
+use Rattle.fit_tiles.specs.Text.{fitText}
+use Rattle.fit_tiles.proofs.Lengths.{fit-most}
+use Rattle.sheet_parts.specs.Front.{frontJob, frontPalette}
+use Rattle.sheet_parts.proofs.Parts.{front-long, parts-hold, front-holds}
 use borrow.Author.Needs.{needs}
 use Rattle.fit_text.proofs.put_job.Statement.{statement}
 use Rattle.fit_text.proofs.put_job.Tie as tie
@@ -11,32 +17,35 @@ use Rattle.fit_text.proofs.put_job.Tie as tie
 no-hints-requires : tie.Need-no-hints-requires
 no-hints-requires c κs = search needs
 
-sub-last : tie.Need-sub-last
-sub-last c = search needs
-
-first-of-requires : tie.Need-first-of-requires
-first-of-requires c κs = search needs
-
-size-of-requires : tie.Need-size-of-requires
-size-of-requires c κs = search needs
-
-add-n : tie.Need-add-n
-add-n c = omega (arith, few-colours (c .before .before .before .before .before .before .before .before .args .s) (c .before .before .before .before .before .before .before .before .args .c) (c .before .before .before .before .before .before .before .before .args .t) (c .before .before .before .before .before .before .before .before .args .weight) (c .before .before .before .before .before .before .before .before .args .tiles .now) (c .before .before .before .before .before .before .before .before .args .colours .now) (c .before .before .before .before .before .before .before .before .args .counts .now) (c .before .before .before .before .before .before .before .before .args .palette .now) (c .before .before .before .before .before .before .before .before .pre .0 .0) (c .before .before .before .before .before .before .before .before .pre .0 .1) (c .before .before .before .before .before .before .before .before .pre .0 .2) (c .before .before .before .before .before .before .before .before .pre .0 .3) (c .before .before .before .before .before .before .before .before .pre .0 .4) (c .before .first-of .result + c .size-of .result) (ap₂ (λ (a b : ℕ). a + b) (c .before .first-of .ensures) (c .size-of .ensures)))
+colours-to-requires : tie.Need-colours-to-requires
+colours-to-requires c κs = search needs
 
 mul-put-fit : tie.Need-mul-put-fit
 mul-put-fit c = search needs
 
 slice-aggregate-put-fit : tie.Need-slice-aggregate-put-fit
-slice-aggregate-put-fit c = front-long (2 * c .before .before .before .before .before .before .before .before .before .args .t) (c .before .before .before .before .before .before .before .before .before .args .tiles .now) (tiles-long (c .before .before .before .before .before .before .before .before .before .args .s) (c .before .before .before .before .before .before .before .before .before .args .c) (c .before .before .before .before .before .before .before .before .before .args .t) (c .before .before .before .before .before .before .before .before .before .args .weight) (c .before .before .before .before .before .before .before .before .before .args .tiles .now) (c .before .before .before .before .before .before .before .before .before .args .colours .now) (c .before .before .before .before .before .before .before .before .before .args .counts .now) (c .before .before .before .before .before .before .before .before .before .args .palette .now) (c .before .before .before .before .before .before .before .before .before .pre .0 .0) (c .before .before .before .before .before .before .before .before .before .pre .0 .1) (c .before .before .before .before .before .before .before .before .before .pre .0 .2) (c .before .before .before .before .before .before .before .before .before .pre .0 .3) (c .before .before .before .before .before .before .before .before .before .pre .0 .4))
+slice-aggregate-put-fit c =
+    let after-no-hints = c .before .before .before in
+    let start = after-no-hints .before .before .before .before .before .before in
+    front-long _ _ (start .pre .0 .tiled)
 
 mul-put-fit-2 : tie.Need-mul-put-fit-2
-mul-put-fit-2 c = omega (arith, few-colours (c .before .before .before .before .before .before .before .before .before .args .s) (c .before .before .before .before .before .before .before .before .before .args .c) (c .before .before .before .before .before .before .before .before .before .args .t) (c .before .before .before .before .before .before .before .before .before .args .weight) (c .before .before .before .before .before .before .before .before .before .args .tiles .now) (c .before .before .before .before .before .before .before .before .before .args .colours .now) (c .before .before .before .before .before .before .before .before .before .args .counts .now) (c .before .before .before .before .before .before .before .before .before .args .palette .now) (c .before .before .before .before .before .before .before .before .before .pre .0 .0) (c .before .before .before .before .before .before .before .before .before .pre .0 .1) (c .before .before .before .before .before .before .before .before .before .pre .0 .2) (c .before .before .before .before .before .before .before .before .before .pre .0 .3) (c .before .before .before .before .before .before .before .before .before .pre .0 .4) (c .before .before .first-of .result + c .before .size-of .result) (ap₂ (λ (a b : ℕ). a + b) (c .before .before .first-of .ensures) (c .before .size-of .ensures)))
+mul-put-fit-2 c =
+    let after-colours-to = c .before .before in
+    let start = after-colours-to .before .before .before .before .before .before .before in
+    omega (arith, after-colours-to .colours-to .ensures, start .pre .0 .few)
 
 slice-aggregate-put-fit-2 : tie.Need-slice-aggregate-put-fit-2
-slice-aggregate-put-fit-2 c = front-long (3 * (c .before .before .before .first-of .result + c .before .before .size-of .result)) (c .before .before .before .before .before .before .before .before .before .before .args .colours .now) (colours-long (c .before .before .before .before .before .before .before .before .before .before .args .s) (c .before .before .before .before .before .before .before .before .before .before .args .c) (c .before .before .before .before .before .before .before .before .before .before .args .t) (c .before .before .before .before .before .before .before .before .before .before .args .weight) (c .before .before .before .before .before .before .before .before .before .before .args .tiles .now) (c .before .before .before .before .before .before .before .before .before .before .args .colours .now) (c .before .before .before .before .before .before .before .before .before .before .args .counts .now) (c .before .before .before .before .before .before .before .before .before .before .args .palette .now) (c .before .before .before .before .before .before .before .before .before .before .pre .0 .0) (c .before .before .before .before .before .before .before .before .before .before .pre .0 .1) (c .before .before .before .before .before .before .before .before .before .before .pre .0 .2) (c .before .before .before .before .before .before .before .before .before .before .pre .0 .3) (c .before .before .before .before .before .before .before .before .before .before .pre .0 .4) (c .before .before .before .first-of .result + c .before .before .size-of .result) (ap₂ (λ (a b : ℕ). a + b) (c .before .before .before .first-of .ensures) (c .before .before .size-of .ensures)))
+slice-aggregate-put-fit-2 c =
+    let after-colours-to = c .before .before .before in
+    let start = after-colours-to .before .before .before .before .before .before .before in
+    front-long _ _ (omega (arith, after-colours-to .colours-to .ensures, start .pre .0 .coloured))
 
 slice-aggregate-put-fit-3 : tie.Need-slice-aggregate-put-fit-3
-slice-aggregate-put-fit-3 c = front-long (c .before .before .before .before .first-of .result + c .before .before .before .size-of .result) (c .before .before .before .before .before .before .before .before .before .before .before .args .counts .now) (counts-long (c .before .before .before .before .before .before .before .before .before .before .before .args .s) (c .before .before .before .before .before .before .before .before .before .before .before .args .c) (c .before .before .before .before .before .before .before .before .before .before .before .args .t) (c .before .before .before .before .before .before .before .before .before .before .before .args .weight) (c .before .before .before .before .before .before .before .before .before .before .before .args .tiles .now) (c .before .before .before .before .before .before .before .before .before .before .before .args .colours .now) (c .before .before .before .before .before .before .before .before .before .before .before .args .counts .now) (c .before .before .before .before .before .before .before .before .before .before .before .args .palette .now) (c .before .before .before .before .before .before .before .before .before .before .before .pre .0 .0) (c .before .before .before .before .before .before .before .before .before .before .before .pre .0 .1) (c .before .before .before .before .before .before .before .before .before .before .before .pre .0 .2) (c .before .before .before .before .before .before .before .before .before .before .before .pre .0 .3) (c .before .before .before .before .before .before .before .before .before .before .before .pre .0 .4) (c .before .before .before .before .first-of .result + c .before .before .before .size-of .result) (ap₂ (λ (a b : ℕ). a + b) (c .before .before .before .before .first-of .ensures) (c .before .before .before .size-of .ensures)))
+slice-aggregate-put-fit-3 c =
+    let after-colours-to = c .before .before .before .before in
+    let start = after-colours-to .before .before .before .before .before .before .before in
+    front-long _ _ (omega (arith, after-colours-to .colours-to .ensures, start .pre .0 .counted))
 
 mul-put-fit-3 : tie.Need-mul-put-fit-3
 mul-put-fit-3 c = search needs
@@ -45,37 +54,65 @@ mul-put-fit-4 : tie.Need-mul-put-fit-4
 mul-put-fit-4 c = search needs
 
 slice-aggregate-put-fit-4 : tie.Need-slice-aggregate-put-fit-4
-slice-aggregate-put-fit-4 c = front-long (3 * (c .before .before .before .before .before .before .before .before .before .before .before .before .args .s * c .before .before .before .before .before .before .before .before .before .before .before .before .args .c)) (c .before .before .before .before .before .before .before .before .before .before .before .before .args .palette .now) (palette-long (c .before .before .before .before .before .before .before .before .before .before .before .before .args .s) (c .before .before .before .before .before .before .before .before .before .before .before .before .args .c) (c .before .before .before .before .before .before .before .before .before .before .before .before .args .t) (c .before .before .before .before .before .before .before .before .before .before .before .before .args .weight) (c .before .before .before .before .before .before .before .before .before .before .before .before .args .tiles .now) (c .before .before .before .before .before .before .before .before .before .before .before .before .args .colours .now) (c .before .before .before .before .before .before .before .before .before .before .before .before .args .counts .now) (c .before .before .before .before .before .before .before .before .before .before .before .before .args .palette .now) (c .before .before .before .before .before .before .before .before .before .before .before .before .pre .0 .0) (c .before .before .before .before .before .before .before .before .before .before .before .before .pre .0 .1) (c .before .before .before .before .before .before .before .before .before .before .before .before .pre .0 .2) (c .before .before .before .before .before .before .before .before .before .before .before .before .pre .0 .3) (c .before .before .before .before .before .before .before .before .before .before .before .before .pre .0 .4) (c .before .before .before .before .before .first-of .result + c .before .before .before .before .size-of .result) (ap₂ (λ (a b : ℕ). a + b) (c .before .before .before .before .before .first-of .ensures) (c .before .before .before .before .size-of .ensures)))
+slice-aggregate-put-fit-4 c =
+    let after-no-hints = c .before .before .before .before .before .before .before in
+    let start = after-no-hints .before .before .before .before .before .before in
+    front-long _ _ (start .pre .0 .given)
 
 array-borrow-prefix-hints : tie.Need-array-borrow-prefix-hints
-array-borrow-prefix-hints c = search needs
+array-borrow-prefix-hints c =
+    let after-no-hints = c .before .before .before .before .before .before .before in
+    let start = after-no-hints .before .before .before .before .before .before in
+    omega (arith, after-no-hints .no-hints .ensures .0, start .pre .0 .shown .ready .sizes .tiles)
 
 slice-aggregate-put-fit-5 : tie.Need-slice-aggregate-put-fit-5
-slice-aggregate-put-fit-5 c = front-long (c .before .before .before .before .before .before .before .before .before .before .before .before .before .args .t) (c .before .before .before .before .before .before .before .no-hints .result) (omega (arith, c .before .before .before .before .before .before .before .no-hints .ensures, few-tiles (c .before .before .before .before .before .before .before .before .before .before .before .before .before .args .s) (c .before .before .before .before .before .before .before .before .before .before .before .before .before .args .c) (c .before .before .before .before .before .before .before .before .before .before .before .before .before .args .t) (c .before .before .before .before .before .before .before .before .before .before .before .before .before .args .weight) (c .before .before .before .before .before .before .before .before .before .before .before .before .before .args .tiles .now) (c .before .before .before .before .before .before .before .before .before .before .before .before .before .args .colours .now) (c .before .before .before .before .before .before .before .before .before .before .before .before .before .args .counts .now) (c .before .before .before .before .before .before .before .before .before .before .before .before .before .args .palette .now) (c .before .before .before .before .before .before .before .before .before .before .before .before .before .pre .0 .0) (c .before .before .before .before .before .before .before .before .before .before .before .before .before .pre .0 .1) (c .before .before .before .before .before .before .before .before .before .before .before .before .before .pre .0 .2) (c .before .before .before .before .before .before .before .before .before .before .before .before .before .pre .0 .3) (c .before .before .before .before .before .before .before .before .before .before .before .before .before .pre .0 .4)))
+slice-aggregate-put-fit-5 c =
+    let after-colours-to = c .before .before .before .before .before .before .before in
+    let after-no-hints = after-colours-to .before in
+    let start = after-no-hints .before .before .before .before .before .before in
+    front-long _ _ (omega (arith, after-no-hints .no-hints .ensures .0, start .pre .0 .shown .ready .sizes .tiles))
 
 put-fit-requires : tie.Need-put-fit-requires
-put-fit-requires c κs = (
-  shown-parts (c .before .before .before .before .before .before .before .before .before .before .before .before .before .before .args .s) (c .before .before .before .before .before .before .before .before .before .before .before .before .before .before .args .c) (c .before .before .before .before .before .before .before .before .before .before .before .before .before .before .args .t) (c .before .before .before .before .before .before .before .before .before .before .before .before .before .before .args .weight) (c .before .before .before .before .before .before .before .before .before .before .before .before .before .before .args .tiles .now) (c .before .before .before .before .before .before .before .before .before .before .before .before .before .before .args .colours .now) (c .before .before .before .before .before .before .before .before .before .before .before .before .before .before .args .counts .now) (c .before .before .before .before .before .before .before .before .before .before .before .before .before .before .args .palette .now) (c .before .before .before .before .before .before .before .before .before .before .before .before .before .before .pre .0 .0) (c .before .before .before .before .before .before .before .before .before .before .before .before .before .before .pre .0 .1) (c .before .before .before .before .before .before .before .before .before .before .before .before .before .before .pre .0 .2) (c .before .before .before .before .before .before .before .before .before .before .before .before .before .before .pre .0 .3) (c .before .before .before .before .before .before .before .before .before .before .before .before .before .before .pre .0 .4) (c .before .before .before .before .before .before .before .first-of .result + c .before .before .before .before .before .before .size-of .result) (ap₂ (λ (a b : ℕ). a + b) (c .before .before .before .before .before .before .before .first-of .ensures) (c .before .before .before .before .before .before .size-of .ensures)),
-  sym (front-long (c .before .before .before .before .before .before .before .before .before .before .before .before .before .before .args .t) (c .before .before .before .before .before .before .before .before .no-hints .result) (omega (arith, c .before .before .before .before .before .before .before .before .no-hints .ensures, few-tiles (c .before .before .before .before .before .before .before .before .before .before .before .before .before .before .args .s) (c .before .before .before .before .before .before .before .before .before .before .before .before .before .before .args .c) (c .before .before .before .before .before .before .before .before .before .before .before .before .before .before .args .t) (c .before .before .before .before .before .before .before .before .before .before .before .before .before .before .args .weight) (c .before .before .before .before .before .before .before .before .before .before .before .before .before .before .args .tiles .now) (c .before .before .before .before .before .before .before .before .before .before .before .before .before .before .args .colours .now) (c .before .before .before .before .before .before .before .before .before .before .before .before .before .before .args .counts .now) (c .before .before .before .before .before .before .before .before .before .before .before .before .before .before .args .palette .now) (c .before .before .before .before .before .before .before .before .before .before .before .before .before .before .pre .0 .0) (c .before .before .before .before .before .before .before .before .before .before .before .before .before .before .pre .0 .1) (c .before .before .before .before .before .before .before .before .before .before .before .before .before .before .pre .0 .2) (c .before .before .before .before .before .before .before .before .before .before .before .before .before .before .pre .0 .3) (c .before .before .before .before .before .before .before .before .before .before .before .before .before .before .pre .0 .4)))),
-  c .before .before .before .before .before .before .before .before .before .before .before .before .before .before .pre .1,
-)
+put-fit-requires c κs =
+    let after-hints = c .before in
+    let after-colours-to = after-hints .before .before .before .before .before .before .before in
+    let after-no-hints = after-colours-to .before in
+    let start = after-no-hints .before .before .before .before .before .before in
+    let a = start .args in (
+      parts-hold (a .z) _ _ _ _ (after-colours-to .colours-to .ensures) (λ (J : Job). Shown J (frontPalette (a .z) (a .palette .now)) (a .z .s) (a .z .c))
+          (start .pre .0 .shown),
+      sym (front-long _ _ (omega (arith, after-no-hints .no-hints .ensures .0, start .pre .0 .shown .ready .sizes .tiles))),
+      start .pre .1,
+    )
 
 same-length : tie.Need-same-length
 same-length c = search needs
 
 returns : tie.Need-returns
-returns c tb f cs p E =
-    parts-printed (c .before .before .before .before .before .before .before .before .before .before .before .before .before .before .before .before .before .before .args .s) (c .before .before .before .before .before .before .before .before .before .before .before .before .before .before .before .before .before .before .args .c) (c .before .before .before .before .before .before .before .before .before .before .before .before .before .before .before .before .before .before .args .t) (c .before .before .before .before .before .before .before .before .before .before .before .before .before .before .before .before .before .before .args .weight) (c .before .before .before .before .before .before .before .before .before .before .before .before .before .before .before .before .before .before .args .tiles .now) (c .before .before .before .before .before .before .before .before .before .before .before .before .before .before .before .before .before .before .args .colours .now) (c .before .before .before .before .before .before .before .before .before .before .before .before .before .before .before .before .before .before .args .counts .now) (c .before .before .before .before .before .before .before .before .before .before .before .before .before .before .before .before .before .before .args .palette .now) tb f cs p E (c .before .before .before .before .before .before .before .before .before .before .before .first-of .result + c .before .before .before .before .before .before .before .before .before .before .size-of .result) (ap₂ (λ (a b : ℕ). a + b) (c .before .before .before .before .before .before .before .before .before .before .before .first-of .ensures) (c .before .before .before .before .before .before .before .before .before .before .size-of .ensures)) (c .before .before .before .before .before .before .before .before .before .before .before .before .before .before .before .before .before .before .args .out .now) _ (c .before .before .before .put-fit .result) (c .before .before .before .put-fit .ensures)
+returns c =
+    let after-put-fit = c .before .before .before in
+    let after-hints = after-put-fit .before .before in
+    let after-colours-to = after-hints .before .before .before .before .before .before .before in
+    let start = after-colours-to .before .before .before .before .before .before .before in
+    let a = start .args in
+    let printed = front-holds (a .z) _ _ _ _ (after-colours-to .colours-to .ensures)
+    (λ (J : Job). Stored (a .out .now) (after-put-fit .put-fit .last .1 .1 .1 .1 .1 .1 .0) 0 (after-put-fit .put-fit .result)
+    (fitText J (frontPalette (a .z) (a .palette .now)))) (after-put-fit .put-fit .ensures) in (
+      printed,
+      omega (
+        arith,
+        printed .place,
+        fit-most (frontJob (a .z) (a .tiles .now) (a .colours .now) (a .counts .now)) (frontPalette (a .z) (a .palette .now)) (start .pre .0 .shown .ready .sizes .tiles)
+            (start .pre .0 .shown .ready .sizes .few),
+      ),
+    )
 
 pub put-job-spec : {M : Type 1} → statement M
 put-job-spec =
     tie.close
     (tie.spec
     no-hints-requires
-    sub-last
-    first-of-requires
-    size-of-requires
-    add-n
+    colours-to-requires
     mul-put-fit
     slice-aggregate-put-fit
     mul-put-fit-2

@@ -24,8 +24,7 @@ put-tiles-requires c κs =
     let after-put-head = c .before .before .before .before .before in
     let lent = after-put-head .before .before .before .before .before .before .before in
     let start = lent .before .before .before in
-    let a = start .args in
-    (
+    let a = start .args in (
       start .pre .0,
       start .pre .1,
       start .pre .0 .ready .sizes .few,
@@ -42,20 +41,19 @@ put-loads-requires c κs =
     let after-put-head = after-put-tiles .before .before .before .before .before .before in
     let lent = after-put-head .before .before .before .before .before .before .before in
     let start = lent .before .before .before in
-    let a = start .args in
-    (
+    let a = start .args in (
       omega (arith, after-put-tiles .put-tiles .kept .1 .1 .1 .1 .1 .1 .0, start .pre .0 .ready .sizes .few),
       start .pre .0 .ready .sizes .few,
       omega (
-    arith,
-    after-put-head .put-head .ensures .place,
-    head-most (a .z .t) (a .z .s),
-    after-put-tiles .put-tiles .ensures .0 .place,
-    tile-lines-most (jobOf (a .z) (a .tiles .now) (a .colours .now) (a .counts .now)) (a .palette .now) (a .z .t),
-    start .pre .0 .ready .sizes .tiles,
-    start .pre .0 .ready .sizes .few,
-    after-put-head .put-head .kept .0,
-    after-put-tiles .put-tiles .kept .1 .1 .1 .1 .1 .1 .1 .0,
+        arith,
+        after-put-head .put-head .ensures .place,
+        head-most (a .z .t) (a .z .s),
+        after-put-tiles .put-tiles .ensures .0 .place,
+        tile-lines-most (jobOf (a .z) (a .tiles .now) (a .colours .now) (a .counts .now)) (a .palette .now) (a .z .t),
+        start .pre .0 .ready .sizes .tiles,
+        start .pre .0 .ready .sizes .few,
+        after-put-head .put-head .kept .0,
+        after-put-tiles .put-tiles .kept .1 .1 .1 .1 .1 .1 .1 .0,
       ),
     )
 
@@ -75,7 +73,7 @@ returns c =
     let start = lent .before .before .before in
     let a = start .args in
     all-stored (jobOf (a .z) (a .tiles .now) (a .colours .now) (a .counts .now)) (a .palette .now) (after-put-tiles .put-tiles .last .1 .1 .1 .1 .1 .1 .0) _ _ _ _
-        (after-put-head .put-head .result) (after-put-tiles .put-tiles .result) (after-put-loads .put-loads .result)
+    (after-put-head .put-head .result) (after-put-tiles .put-tiles .result) (after-put-loads .put-loads .result)
     (after-put-head .put-head .ensures) (after-put-tiles .put-tiles .ensures .0) (after-put-loads .put-loads .ensures) (after-put-tiles .put-tiles .ensures .1)
 
 pub put-fit-spec : {M : Type 1} → statement M

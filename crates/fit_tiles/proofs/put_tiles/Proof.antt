@@ -23,8 +23,7 @@ abbrev μ-loop : tie.MeasureT-loop
 loop-holds : tie.Need-loop-holds Inv-loop μ-loop
 loop-holds c =
     let start = c .before .before .before .before .before .before .before in
-    let a = start .args in
-    (
+    let a = start .args in (
       omega arith,
       start .pre .1,
       refl,
@@ -92,7 +91,7 @@ loop-again c =
           (turn .inv .5) (p .put-tile .ensures) (f .tile-found .ensures .0) (f .tile-found .ensures .1),
       λ j. ap (λ (x : List ℕ). getD x j 0) (n .count-tile .ensures)
           ∙ load-more J (a .palette .now) (turn .loads) (turn .i) k (f .tile-found .ensures .0)
-              (omega (arith, f .tile-found .ensures .0, sub-below J (a .palette .now) (start .pre .0) (turn .i))) (turn .inv .6) j,
+          (omega (arith, f .tile-found .ensures .0, sub-below J (a .palette .now) (start .pre .0) (turn .i))) (turn .inv .6) j,
     )
 
 same-length : tie.Need-same-length Inv-loop μ-loop

@@ -19,7 +19,7 @@ returns : tie.Need-returns
 returns c =
     let a = c .before .before .before .before .before .before .before .args in
     empty-sub (jobOf (a .z) (a .tiles .now) (a .colours .now) (a .counts .now)) (a .palette .now) (a .i) (c .before .is-empty .result)
-        (c .before .is-empty .ensures) (c .if1 .taken)
+    (c .before .is-empty .ensures) (c .if1 .taken)
 
 tile-fit-requires : tie.Need-tile-fit-requires
 tile-fit-requires c κs =
@@ -38,8 +38,13 @@ cast-sub c =
     let after-is-empty = after-tile-fit .before .before .before in
     let start = after-is-empty .before .before .before .before .before .before in
     let a = start .args in
-    omega (arith, ap (λ (b : Near). b .index) (after-tile-fit .tile-fit .ensures .0), winner-below (jobOf (a .z) (a .tiles .now) (a .colours .now) (a .counts .now))
-        (a .palette .now) (a .z .s) (a .z .c) (start .pre .shown) (a .i), start .pre .shown .ready .sizes .few)
+    omega (
+      arith,
+      ap (λ (b : Near). b .index) (after-tile-fit .tile-fit .ensures .0),
+      winner-below (jobOf (a .z) (a .tiles .now) (a .colours .now) (a .counts .now))
+          (a .palette .now) (a .z .s) (a .z .c) (start .pre .shown) (a .i),
+      start .pre .shown .ready .sizes .few,
+    )
 
 float-to-bits-bits : tie.Need-float-to-bits-bits
 float-to-bits-bits c =
@@ -48,7 +53,7 @@ float-to-bits-bits c =
     let start = after-is-empty .before .before .before .before .before .before in
     let a = start .args in
     subst⁻¹ (λ (x : Float). T (not (isNan x))) (ap (λ (b : Near). b .dist) (after-tile-fit .tile-fit .ensures .0))
-        (dist-real (jobOf (a .z) (a .tiles .now) (a .colours .now) (a .counts .now)) (a .palette .now) (start .pre .shown) (a .i) (start .pre .tile))
+    (dist-real (jobOf (a .z) (a .tiles .now) (a .colours .now) (a .counts .now)) (a .palette .now) (start .pre .shown) (a .i) (start .pre .tile))
 
 same-length : tie.Need-same-length
 same-length c = search needs
@@ -61,7 +66,7 @@ returns-2 c =
     let start = after-is-empty .before .before .before .before .before .before in
     let a = start .args in
     full-sub (jobOf (a .z) (a .tiles .now) (a .colours .now) (a .counts .now)) (a .palette .now) (a .i) (after-is-empty .is-empty .result)
-        (after-tile-fit .tile-fit .result .index) (after-tile-fit .tile-fit .result .dist) (after-is-empty .is-empty .ensures) (past-if1 .if1 .left)
+    (after-tile-fit .tile-fit .result .index) (after-tile-fit .tile-fit .result .dist) (after-is-empty .is-empty .ensures) (past-if1 .if1 .left)
     (ap (λ (b : Near). b .index) (after-tile-fit .tile-fit .ensures .0)) (ap (λ (b : Near). b .dist) (after-tile-fit .tile-fit .ensures .0))
 
 pub tile-found-spec : {M : Type 1} → statement M
