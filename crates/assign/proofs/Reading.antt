@@ -7,27 +7,24 @@ use mathlib.Core.List.{List}
 use native.Mathlib.Omega.{arith}
 use lib.Dec.{ltb}
 use lib.Ieee.{Float}
-use lib.ListN.{length, getD, set, length-set}
+use lib.ListN.{length, getD, set}
 use lib.Seq.{getD-set-same, getD-set-other}
 use borrow.Author.Tests.{ltb-true, ltb-false}
 use Rattle.job.specs.Job.{Job, isEmpty}
+use Rattle.palette_tile.specs.Walk.{walk}
 use Rattle.palette_tile.specs.Tiles.{winner, hintStep, hintsOf}
 use Rattle.palette_tile.proofs.Hints.{length-hints}
 use Rattle.assign_tiles.specs.Tiles.{subpaletteOf, subpalettes, hintOf}
+use Rattle.assign_tiles.proofs.Fills.{length-subpalettes}
 
 module _ (J : Job) (palette : List Float) where
-  pub length-subpalettes : (found : List ℕ) (n : ℕ) → length (subpalettes J palette found n) ≡ length found
-  unfolding subpalettes
-  length-subpalettes found zero = refl
-  length-subpalettes found (suc n) = length-set (subpalettes J palette found n) n (subpaletteOf J palette n) ∙ length-subpalettes found n
-
   pub subpalette-at : (found : List ℕ) (n t : ℕ) → n ≤ length found → t < n → getD (subpalettes J palette found n) t 0 ≡ subpaletteOf J palette t
-  unfolding subpalettes
+  unfolding walk
   subpalette-at found zero t l h = absurd (omega arith)
   subpalette-at found (suc n) t l h = by (ltb t n) refl (λ k. subpalette-at found n t (omega arith) k)
     where
       here : t ≡ n → getD (set (subpalettes J palette found n) n (subpaletteOf J palette n)) t 0 ≡ subpaletteOf J palette t
-      here e = rw e (getD-set-same (subpalettes J palette found n) n (subpaletteOf J palette n) 0 (omega (arith, length-subpalettes found n)))
+      here e = rw e (getD-set-same (subpalettes J palette found n) n (subpaletteOf J palette n) 0 (omega (arith, length-subpalettes J palette found n)))
 
       apart : t < n → t ≡ n → ⊥
       apart k e = omega arith
@@ -54,7 +51,7 @@ module _ (J : Job) (palette : List Float) where
       by false = getD-set-other h n t (winner J palette (J .S) (J .C) n) 0 a
 
   hint-ahead : (found : List ℕ) (n t : ℕ) → n ≤ t → getD (hintsOf J palette (J .S) (J .C) found n) t 0 ≡ getD found t 0
-  unfolding hintsOf
+  unfolding walk
   hint-ahead found zero t l = refl
   hint-ahead found (suc n) t l = hint-elsewhere (hintsOf J palette (J .S) (J .C) found n) n t (apart t n l) ∙ hint-ahead found n t (omega arith)
     where
@@ -62,7 +59,7 @@ module _ (J : Job) (palette : List Float) where
       apart t n l e = omega arith
 
   pub hint-at : (found : List ℕ) (n t : ℕ) → n ≤ length found → t < n → getD (hintsOf J palette (J .S) (J .C) found n) t 0 ≡ hintOf J palette found t
-  unfolding hintsOf
+  unfolding walk
   hint-at found zero t l h = absurd (omega arith)
   hint-at found (suc n) t l h = by (ltb t n) refl (λ k. hint-at found n t (omega arith) k)
     where

@@ -1,1 +1,1 @@
-mod Fills
+pub mod Fills

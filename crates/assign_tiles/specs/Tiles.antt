@@ -1,11 +1,12 @@
 -- The subpalette of each tile of a job, and the hints that are left, tile by tile; and what the functions ask. Definitions only. Assumes nothing.
-use Prim.Native.Nat.{ℕ, zero, suc, _<_}
+use Prim.Native.Nat.{ℕ, _<_}
 use mathlib.Core.Path.{_≡_}
 use mathlib.Core.Bool.{cond}
 use mathlib.Core.List.{List}
 use lib.Ieee.{Float}
 use lib.ListN.{length, getD, set}
 use Rattle.job.specs.Job.{Job, isEmpty}
+use Rattle.palette_tile.specs.Walk.{walk}
 use Rattle.palette_tile.specs.Tiles.{winner, hintStep, hintsOf, Shown}
 
 -- the memory that the call is lent: a hint and a subpalette for each tile
@@ -21,10 +22,8 @@ unfoldable pub subpaletteOf : Job → List Float → ℕ → ℕ
 subpaletteOf J palette t = cond (isEmpty J t) 0 (winner J palette (J .S) (J .C) t)
 
 -- those of the first t tiles, over what was found
-unfoldable pub subpalettes : Job → List Float → List ℕ → ℕ → List ℕ
-unfolding subpaletteOf
-subpalettes J palette found zero = found
-subpalettes J palette found (suc t) = set (subpalettes J palette found t) t (subpaletteOf J palette t)
+abbrev pub subpalettes : Job → List Float → List ℕ → ℕ → List ℕ
+subpalettes J palette found t = walk (λ i out. set out i (subpaletteOf J palette i)) found t
 
 -- the hint that is left to tile t: its winner, what was found where it is empty
 abbrev pub hintOf : Job → List Float → List ℕ → ℕ → ℕ

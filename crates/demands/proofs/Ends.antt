@@ -90,7 +90,7 @@ module _ (K : Course) where
   pub goes-on : (m : Memory) → Accepted K m → getD (m .words) 1 0 ≢ 7
       → (advanceAnswer K m ≡ 0) ⊎ ((reduced : List Float) → coloursRoom K reduced ≡ true → componentsFit two reduced ≡ true → handInAnswer K m reduced ≡ 0)
   unfolding stateOf
-  goes-on m A n = go (A .fit .rests .place)
+  goes-on m A n = by (A .fit .rests .place)
     where
       drawn : {k : ℕ} → getD (m .words) 1 0 ≡ k → draws k ≡ true → advanceAnswer K m ≡ 0
       drawn k d = advance-closed K m A (ap draws k ∙ d)
@@ -98,14 +98,14 @@ module _ (K : Course) where
       stopped : {k : ℕ} → getD (m .words) 1 0 ≡ k → stops k ≡ true → (reduced : List Float) → coloursRoom K reduced ≡ true → componentsFit two reduced ≡ true → handInAnswer K m reduced ≡ 0
       stopped k d reduced r f = handIn-closed K m reduced A (ap stops k ∙ d) r f
 
-      go : Placed K (stateOf m)
+      by : Placed K (stateOf m)
           → (advanceAnswer K m ≡ 0) ⊎ ((reduced : List Float) → coloursRoom K reduced ≡ true → componentsFit two reduced ≡ true → handInAnswer K m reduced ≡ 0)
-      go (seeding k r l e) = inl (drawn k refl)
-      go (growing k r l e) = inl (drawn k refl)
-      go (replacing k r l e) = inl (drawn k refl)
-      go (reducing k r l e) = inr (stopped k refl)
-      go (finishing k r l e) = inl (drawn k refl)
-      go (over k past r l e) = elim (ℕ-discrete (getD (m .words) 1 0) 5) [
+      by (seeding k r l e) = inl (drawn k refl)
+      by (growing k r l e) = inl (drawn k refl)
+      by (replacing k r l e) = inl (drawn k refl)
+      by (reducing k r l e) = inr (stopped k refl)
+      by (finishing k r l e) = inl (drawn k refl)
+      by (over k past r l e) = elim (ℕ-discrete (getD (m .words) 1 0) 5) [
         | yes q ↦ inr (stopped q refl)
         | no q ↦ inr (stopped {k = 6} (omega (arith, q, n)) refl)
       ]

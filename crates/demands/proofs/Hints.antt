@@ -14,7 +14,8 @@ use Rattle.quantizer.specs.Course.{Course}
 use Rattle.stages.specs.State.{State, draws, stops}
 use Rattle.stages.specs.Stages.{advance as advances, drawsOf, start as starts, handIn}
 use Rattle.stages.specs.Record.{stateRules}
-use Rattle.stages.specs.Calls.{Memory, wordsOf, stateOf, memoryOf, outcome, answered, copiedTo, coloursRoom, memoryRoom, jobRules, runRules, startAnswer, advanceAnswer, handInAnswer, resultAnswer, startCall, advanceCall, handInCall, resultCall}
+use Rattle.stages.specs.Calls.{Memory, wordsOf, stateOf, memoryOf, outcome, answered, copiedTo, coloursRoom, memoryRoom, jobRules, runRules}
+use Rattle.stages.specs.Calls.{startAnswer, advanceAnswer, handInAnswer, resultAnswer, startCall, advanceCall, handInCall, resultCall}
 use Rattle.calls.proofs.Hintless.{Alike, advance-alike, draws-alike, sampled-alike, start-alike, handIn-alike}
 use Rattle.calls.specs.Accepted.{Accepted}
 use Rattle.calls.proofs.Next.{started-state, advanced-state, handed-state, start-leaves, advance-leaves, handIn-leaves}

@@ -11,12 +11,11 @@ use lib.ListN.{length, take}
 use lib.Seq.{sets}
 use lib.Ieee.{Float}
 use Rattle.format.specs.Format.{Answer, refused, accepted, encode}
-use Rattle.job.specs.Job.{tileSize}
 use Rattle.job.specs.Checks.{plainAnswer}
 use Rattle.sheet_format.specs.Sheet.{Sheet, edition1, sheet, readSheet}
 use Rattle.sheet_format.specs.Lists.{floats}
 use Rattle.sheet_pack.specs.Packed.{sheetOf}
-use Rattle.sheet.specs.Sheets.{jobIn as jobOf}
+use Rattle.sheet.specs.Sheets.{jobIn}
 use Rattle.sheet.proofs.Floats.{Singles}
 use Rattle.sheet.proofs.Inverse.{sets-front, accepted-job}
 use Rattle.sheet.proofs.Accepted.{within-limit}
@@ -39,34 +38,34 @@ module _ (bytes room : List ℕ) (enough : 65536 ≤ length room) where
 
   module _ (x : Sheet) (e : readSheet edition1 bytes ≡ accepted x) where
     line-1 : samples x ≡ 0 → Line bytes room 1
-    line-1 z = stored (accepted x) (refusedLine 1) e (text-refused (jobOf x) 1 (refusals.none (samples x) z) (λ (q : 1 ≡ 0). omega arith))
+    line-1 z = stored (accepted x) (refusedLine 1) e (text-refused (jobIn x) 1 (refusals.none (samples x) z) (λ (q : 1 ≡ 0). omega arith))
 
     line-2 : 16384 < samples x → Line bytes room 2
-    line-2 l = stored (accepted x) (refusedLine 2) e (text-refused (jobOf x) 2 (refusals.many (samples x) (λ (q : samples x ≡ 0). omega arith) l) (λ (q : 2 ≡ 0). omega arith))
+    line-2 l = stored (accepted x) (refusedLine 2) e (text-refused (jobIn x) 2 (refusals.many (samples x) (λ (q : samples x ≡ 0). omega arith) l) (λ (q : 2 ≡ 0). omega arith))
 
     -- ---- the sheet trained
     module _ (b : T (areBytes bytes)) (some : 1 ≤ samples x) (few : samples x ≤ 16384) where
       palette : List Float
-      palette = trainedPalette (courseOf (jobOf x))
+      palette = trainedPalette (courseOf (jobIn x))
 
       singles : Singles palette
-      singles = unfold palette trainedPalette in trained-singles (courseOf (jobOf x)) _
+      singles = unfold palette trainedPalette in trained-singles (courseOf (jobIn x)) _
 
-      passes : plainAnswer tileSize (jobOf x) palette true ≡ 0
-      passes = unfold palette in trained-passes (jobOf x) (floats (x .palette)) (accepted-job bytes x b e) some few
+      passes : plainAnswer (jobIn x) palette true ≡ 0
+      passes = unfold palette in trained-passes (jobIn x) (floats (x .palette)) (accepted-job bytes x b e) some few
 
       file : List ℕ
-      file = encode (sheet edition1) (sheetOf (jobOf x) palette)
+      file = encode (sheet edition1) (sheetOf (jobIn x) palette)
 
       long : length file ≡ length bytes
       long = unfold file in repainted-long bytes x b e palette singles passes
 
       whole : written bytes room ≡ file
       whole =
-          ap (λ (o : TrainOutcome). take (o .bytes) (o .after)) (stored (accepted x) file e (text-sheet (jobOf x) some few ∙ (unfold trainedFile file palette in refl)))
+          ap (λ (o : TrainOutcome). take (o .bytes) (o .after)) (stored (accepted x) file e (text-sheet (jobIn x) some few ∙ (unfold trainedFile file palette in refl)))
           ∙ sets-front file room (omega (arith, long, within-limit bytes x e .0))
 
-      trained-as : Trained-as x (sheetOf (jobOf x) palette)
+      trained-as : Trained-as x (sheetOf (jobIn x) palette)
       trained-as = record {
         subs = refl;
         each = refl;
@@ -80,7 +79,7 @@ module _ (bytes room : List ℕ) (enough : 65536 ≤ length room) where
 
       read-back : Read-back bytes room x
       read-back = record {
-        sheet = sheetOf (jobOf x) palette;
+        sheet = sheetOf (jobIn x) palette;
         reads = ap (readSheet edition1) whole ∙ (unfold file in read-repainted bytes x b e palette singles passes);
         trained = trained-as;
         long = ap length whole ∙ long;

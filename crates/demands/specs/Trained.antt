@@ -11,7 +11,7 @@ use Rattle.color.specs.Color.{Bounded}
 use Rattle.format.specs.Format.{refused, accepted}
 use Rattle.sheet_format.specs.Sheet.{Sheet, edition1, readSheet}
 use Rattle.sheet_format.specs.Lists.{floats}
-use Rattle.sheet.specs.Sheets.{jobIn as jobOf}
+use Rattle.sheet.specs.Sheets.{jobIn}
 use Rattle.fit_lines.specs.Lines.{refusedLine}
 use Rattle.train_samples.specs.Samples.{unitsTo}
 use Rattle.train_text.specs.Trained.{courseOf, trainedPalette}
@@ -19,7 +19,7 @@ use Rattle.train_text.specs.Train.{trainOutcome, trainDef}
 
 -- the samples of a sheet's job: all its counts, added up
 abbrev pub samples : Sheet → ℕ
-samples x = unitsTo (jobOf x .tiles) (jobOf x .counts) (jobOf x .T)
+samples x = unitsTo (jobIn x .tiles) (jobIn x .counts) (jobIn x .T)
 
 -- y is the sheet x, trained
 pub record Trained-as (x y : Sheet) : Type 0 where
@@ -30,9 +30,9 @@ pub record Trained-as (x y : Sheet) : Type 0 where
   pub weight : y .weight ≡ x .weight
   pub content : y .content ≡ x .content
   -- so it holds the same job
-  pub job : jobOf y ≡ jobOf x
+  pub job : jobIn y ≡ jobIn x
   -- and with it the palette that training its samples gives, every component of which is at most 2 in size
-  pub palette : floats (y .palette) ≡ trainedPalette (courseOf (jobOf x))
+  pub palette : floats (y .palette) ≡ trainedPalette (courseOf (jobIn x))
   pub small : Bounded (floats (y .palette)) 2
 
 module _ (bytes room : List ℕ) where

@@ -36,7 +36,9 @@ few : (z : ℕ) → z ≤ 24 → z - 24 ≡ 0
 few z g = omega arith
 
 none-dropped : (m j : ℕ) → m < 2 ^ 53 → j < 896 → size (m * 2 ^ j * 2 ^ 149 / 2 ^ 1074) - 24 ≡ 0
-none-dropped m j h l = few (size (m * 2 ^ j * 2 ^ 149 / 2 ^ 1074)) (size-le (m * 2 ^ j * 2 ^ 149 / 2 ^ 1074) 24 (div-lt-iff-lt-mul (pow-pos 1074) .1 (subst (λ (x : ℕ). m * 2 ^ j * 2 ^ 149 < x) (pow-add 2 24 1074) (n-lt m j 1098 h (room j l)))))
+none-dropped m j h l =
+    few (size (m * 2 ^ j * 2 ^ 149 / 2 ^ 1074))
+    (size-le (m * 2 ^ j * 2 ^ 149 / 2 ^ 1074) 24 (div-lt-iff-lt-mul (pow-pos 1074) .1 (subst (λ (x : ℕ). m * 2 ^ j * 2 ^ 149 < x) (pow-add 2 24 1074) (n-lt m j 1098 h (room j l)))))
   where
     room : (j : ℕ) → j < 896 → 53 + (j + 149) ≤ 1098
     room j l = omega arith
@@ -48,7 +50,8 @@ zero-bits = refl
 -- so small that it is 0
 pub rounds-to-none : (m j : ℕ) → m < 2 ^ 53 → j < 872 → Rounded m j 0
 rounds-to-none m j h l =
-    record { under = lit≤ tt; value = zero-bits ∙ sym (round-with m j 0 0 (none-dropped m j h (more j l)) (closest-none (m * 2 ^ j * 2 ^ 149) (2 ^ 1074 * 2 ^ 0) (lt-of-lt-of-le (mul-lt-mul-of-pos-right (n-lt m j 1073 h (room j l)) (lit< tt)) (lit≤ tt)))) }
+    let half = lt-of-lt-of-le (mul-lt-mul-of-pos-right (n-lt m j 1073 h (room j l)) (lit< tt)) (lit≤ tt) in
+    record { under = lit≤ tt; value = zero-bits ∙ sym (round-with m j 0 0 (none-dropped m j h (more j l)) (closest-none (m * 2 ^ j * 2 ^ 149) (2 ^ 1074 * 2 ^ 0) half)) }
   where
     room : (j : ℕ) → j < 872 → 53 + (j + 149) ≤ 1073
     room j l = omega arith
@@ -96,7 +99,8 @@ rounds-low m j r h g l e =
 -- ---- a normal value: 29 digits go
 high-k : (m j : ℕ) → m < 2 ^ 53 → 2 ^ 52 ≤ m → 896 ≤ j → size (m * 2 ^ j * 2 ^ 149 / 2 ^ 1074) - 24 ≡ j - 896
 high-k m j h g l =
-    let lo : 2 ^ (j - 873) * 2 ^ 1074 ≤ m * 2 ^ j * 2 ^ 149 = le-trans (le-of-eq (one-pow (j - 873) 1074 (52 + (j + 149)) (sum j l) ∙ pow-add 2 52 (j + 149))) (le-trans (mul-le-mul-right (2 ^ (j + 149)) g) (le-of-eq (sym (shifted m j (j + 149) refl)))) in
+    let lo : 2 ^ (j - 873) * 2 ^ 1074 ≤ m * 2 ^ j * 2 ^ 149 =
+    le-trans (le-of-eq (one-pow (j - 873) 1074 (52 + (j + 149)) (sum j l) ∙ pow-add 2 52 (j + 149))) (le-trans (mul-le-mul-right (2 ^ (j + 149)) g) (le-of-eq (sym (shifted m j (j + 149) refl)))) in
     let hi : m * 2 ^ j * 2 ^ 149 < 2 ^ suc (j - 873) * 2 ^ 1074 = lt-of-lt-of-le (n-lt m j (53 + (j + 149)) h (le-refl (53 + (j + 149)))) (le-of-eq (sym (one-pow (suc (j - 873)) 1074 (53 + (j + 149)) (sum-above j l)))) in
     ap (λ (z : ℕ). z - 24) (size-exact (j - 873) (m * 2 ^ j * 2 ^ 149 / 2 ^ 1074) (le-div-iff-mul-le (pow-pos 1074) .1 lo) (div-lt-iff-lt-mul (pow-pos 1074) .1 hi)) ∙ less j l
   where

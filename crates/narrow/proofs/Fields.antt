@@ -39,10 +39,10 @@ infinite = refl
 field-value : (x t : ℕ) → x ≤ 2047 → (x ≡ 2047 → t ≡ 0) → narrowOf (ofFields binary64 false x t) ≡ round binary32 false (lead x t * 2 ^ doublings x) (2 ^ 1074)
 unfolding ofFields
 field-value zero t h k = narrow-value (odd 53 false t 0 1074) false (t * 2 ^ 0) (2 ^ 1074) (pow-pos 1074) (odd-sign 53 false t 0 1074)
-field-value (suc x) t h k = go (eqb (suc x) 2047) (eqb→eq (suc x) 2047)
+field-value (suc x) t h k = by (eqb (suc x) 2047) (eqb→eq (suc x) 2047)
   where
-    go : (z : Bool) → (T z → suc x ≡ 2047) → narrowOf (cond z (cond (eqb t 0) (inf false) nan) (odd 53 false (0x10000000000000 + t) x 1074)) ≡ round binary32 false ((t + 0x10000000000000) * 2 ^ x) (2 ^ 1074)
-    go true p =
+    by : (z : Bool) → (T z → suc x ≡ 2047) → narrowOf (cond z (cond (eqb t 0) (inf false) nan) (odd 53 false (0x10000000000000 + t) x 1074)) ≡ round binary32 false ((t + 0x10000000000000) * 2 ^ x) (2 ^ 1074)
+    by true p =
         let z : t ≡ 0 = k (p tt) in
         ap (λ (y : ℕ). narrowOf (cond (eqb y 0) (inf false) nan)) z
         ∙ infinite
@@ -50,7 +50,7 @@ field-value (suc x) t h k = go (eqb (suc x) 2047) (eqb→eq (suc x) 2047)
       where
         before : (y : ℕ) → suc y ≡ 2047 → y ≡ 2046
         before y e = omega arith
-    go false p =
+    by false p =
         narrow-value (odd 53 false (0x10000000000000 + t) x 1074) false ((0x10000000000000 + t) * 2 ^ x) (2 ^ 1074) (pow-pos 1074) (odd-sign 53 false (0x10000000000000 + t) x 1074)
         ∙ ap (λ (y : ℕ). round binary32 false (y * 2 ^ x) (2 ^ 1074)) (add-comm 0x10000000000000 t)
 
@@ -78,11 +78,11 @@ pub subnormal : (b r : ℕ) → b ≤ 0x7ff0000000000000 → b / 0x1000000000000
 subnormal b r h e p = narrowed b r h (subst (λ (y : ℕ). Rounded (lead y (b % 0x10000000000000)) (doublings y) r) (sym e) p)
 
 pub normal : (b r : ℕ) → b ≤ 0x7ff0000000000000 → (b / 0x10000000000000 ≡ 0 → ⊥) → Rounded (b % 0x10000000000000 + 0x10000000000000) (b / 0x10000000000000 - 1) r → Narrowed b r
-normal b r h n p = narrowed b r h (go (b / 0x10000000000000) n p)
+normal b r h n p = narrowed b r h (by (b / 0x10000000000000) n p)
   where
-    go : (y : ℕ) → (y ≡ 0 → ⊥) → Rounded (b % 0x10000000000000 + 0x10000000000000) (y - 1) r → Rounded (lead y (b % 0x10000000000000)) (doublings y) r
-    go zero k q = absurd (k refl)
-    go (suc y) k q = subst (λ (z : ℕ). Rounded (b % 0x10000000000000 + 0x10000000000000) z r) (less y) q
+    by : (y : ℕ) → (y ≡ 0 → ⊥) → Rounded (b % 0x10000000000000 + 0x10000000000000) (y - 1) r → Rounded (lead y (b % 0x10000000000000)) (doublings y) r
+    by zero k q = absurd (k refl)
+    by (suc y) k q = subst (λ (z : ℕ). Rounded (b % 0x10000000000000 + 0x10000000000000) z r) (less y) q
       where
         less : (y : ℕ) → suc y - 1 ≡ y
         less y = omega arith
@@ -91,12 +91,12 @@ normal b r h n p = narrowed b r h (go (b / 0x10000000000000) n p)
 sign-set : (f : Format) (x t : ℕ) → ofFields f true x t ≡ neg (ofFields f false x t)
 unfolding ofFields neg
 sign-set f zero t = odd-neg (prec f) false t 0 (low f)
-sign-set f (suc x) t = go (eqb (suc x) (ones f)) (eqb t 0)
+sign-set f (suc x) t = by (eqb (suc x) (ones f)) (eqb t 0)
   where
-    go : (u v : Bool) → cond u (cond v (inf true) nan) (odd (prec f) true (hid f + t) x (low f)) ≡ neg (cond u (cond v (inf false) nan) (odd (prec f) false (hid f + t) x (low f)))
-    go true true = refl
-    go true false = refl
-    go false v = odd-neg (prec f) false (hid f + t) x (low f)
+    by : (u v : Bool) → cond u (cond v (inf true) nan) (odd (prec f) true (hid f + t) x (low f)) ≡ neg (cond u (cond v (inf false) nan) (odd (prec f) false (hid f + t) x (low f)))
+    by true true = refl
+    by true false = refl
+    by false v = odd-neg (prec f) false (hid f + t) x (low f)
 
 by-fields : (f : Format) (b c : ℕ) → leb (top f) c ≡ true → leb (top f) b ≡ false → c % top f / hid f ≡ b % top f / hid f → c % hid f ≡ b % hid f → ofBits f c ≡ neg (ofBits f b)
 unfolding ofBits

@@ -1,4 +1,5 @@
 // Forwarders to what training does between draws. Assumes of callers what each callee requires.
+use job::Sizes;
 ghost use mathlib.Core.Path.{_≡_};
 ghost use lib.ListN.{length};
 ghost use Rattle.job.specs.Job.{sizesOf, jobOf};
@@ -21,7 +22,14 @@ pub extern "C" fn probe_mse(
 ) -> f32
     requires { ⌜ Shown (jobOf (sizesOf s c t 0 weight) (now tiles) (now colours) (now counts)) (now pal) n have × (length (now hints) ≡ t) ⌝ }
 {
-    let z = job::sizes_of(s, c, t, 0, weight);
+    let z = Sizes {
+        size: job::TILE_SIZE,
+        s,
+        c,
+        t,
+        n: 0,
+        weight,
+    };
     mse_sum::mse(z, tiles, colours, counts, pal, n, have, hints)
 }
 
@@ -40,7 +48,14 @@ pub extern "C" fn probe_grow(
 )
     requires { ⌜ Growing (jobOf (sizesOf s c t 0 weight) (now tiles) (now colours) (now counts)) (now pal) have (now hints) ⌝ }
 {
-    let z = job::sizes_of(s, c, t, 0, weight);
+    let z = Sizes {
+        size: job::TILE_SIZE,
+        s,
+        c,
+        t,
+        n: 0,
+        weight,
+    };
     quantizer_grow::grow_palette(z, tiles, colours, counts, pal, have, hints)
 }
 
@@ -58,7 +73,14 @@ pub extern "C" fn probe_replace_weakest(
 )
     requires { ⌜ Shown (jobOf (sizesOf s c t 0 weight) (now tiles) (now colours) (now counts)) (now pal) s c × (length (now hints) ≡ t) ⌝ }
 {
-    let z = job::sizes_of(s, c, t, 0, weight);
+    let z = Sizes {
+        size: job::TILE_SIZE,
+        s,
+        c,
+        t,
+        n: 0,
+        weight,
+    };
     quantizer_replace::replace_weakest(z, tiles, colours, counts, pal, hints)
 }
 
@@ -76,6 +98,13 @@ pub extern "C" fn probe_refine(
 )
     requires { ⌜ Shown (jobOf (sizesOf s c t 0 weight) (now tiles) (now colours) (now counts)) (now pal) s c × (length (now hints) ≡ t) ⌝ }
 {
-    let z = job::sizes_of(s, c, t, 0, weight);
+    let z = Sizes {
+        size: job::TILE_SIZE,
+        s,
+        c,
+        t,
+        n: 0,
+        weight,
+    };
     quantizer_refine::refine(z, tiles, colours, counts, pal, hints)
 }

@@ -1,4 +1,5 @@
 // A forwarder to one draw. Assumes of callers what the callee requires.
+use job::Sizes;
 ghost use Rattle.prng.specs.Shuffle.{deck};
 ghost use Rattle.cycle.specs.Cycle.{cycle};
 ghost use Rattle.job.specs.Job.{sizesOf};
@@ -32,7 +33,14 @@ pub extern "C" fn probe_draw(
 {
     let prng = Prng { state };
     let at = SampleCycle { prng, made };
-    let z = job::sizes_of(s, c, t, n, weight);
+    let z = Sizes {
+        size: job::TILE_SIZE,
+        s,
+        c,
+        t,
+        n,
+        weight,
+    };
     let after = quantizer_draw::draw(
         z,
         tiles,

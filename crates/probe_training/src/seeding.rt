@@ -1,4 +1,5 @@
 // Forwarders to the mean and the first colour of seeding, and to the choice of what is split next. Assumes of callers what each callee requires.
+use job::Sizes;
 ghost use mathlib.Core.Path.{_≡_};
 ghost use lib.ListN.{length};
 ghost use Rattle.job.specs.Job.{sizesOf, jobOf};
@@ -38,7 +39,14 @@ pub extern "C" fn probe_seed(
 )
     requires { ⌜ Seeding (courseOf (sizesOf s c t n weight) (now tiles) (now colours) (now counts) (now samples)) (now pal) ⌝ }
 {
-    let z = job::sizes_of(s, c, t, n, weight);
+    let z = Sizes {
+        size: job::TILE_SIZE,
+        s,
+        c,
+        t,
+        n,
+        weight,
+    };
     quantizer_seed::seed(z, tiles, colours, counts, samples, pal)
 }
 
@@ -57,6 +65,13 @@ pub extern "C" fn probe_worst(
 ) -> usize
     requires { ⌜ Shown (jobOf (sizesOf s c t 0 weight) (now tiles) (now colours) (now counts)) (now pal) subs 1 × (length (now hints) ≡ t) ⌝ }
 {
-    let z = job::sizes_of(s, c, t, 0, weight);
+    let z = Sizes {
+        size: job::TILE_SIZE,
+        s,
+        c,
+        t,
+        n: 0,
+        weight,
+    };
     quantizer_worst::worst(z, tiles, colours, counts, pal, subs, hints)
 }

@@ -6,6 +6,7 @@ use lib.ListN.{length}
 use lib.Ieee.{Float}
 use Rattle.job.specs.Job.{Job}
 use Rattle.palette_tile.specs.Tiles.{Shown}
+use Rattle.quantizer.specs.Sums.{places}
 use Rattle.quantizer.specs.Replacing.{Shares, ownerOf}
 use Rattle.quantizer.specs.Lengths.{Wide}
 use Rattle.quantizer_owner.specs.Owner.{ownerIn}
@@ -19,4 +20,4 @@ pub record Owned (J : Job) (pal : List Float) (hints : List ℕ) : Type 0 where
 pub record OwnerTurn (J : Job) (pal : List Float) (hints : List ℕ) (t : ℕ) (A : Shares) : Type 0 where
   pub owned : Owned J pal hints
   pub tile : t < J .T
-  pub wide : Wide A 256
+  pub wide : Wide A places

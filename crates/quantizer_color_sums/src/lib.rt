@@ -3,7 +3,7 @@
 use job::Sizes;
 ghost use mathlib.Core.Path.{_≡_};
 ghost use Rattle.job.specs.Job.{jobOf};
-ghost use Rattle.quantizer.specs.Sums.{zeros};
+ghost use Rattle.quantizer.specs.Sums.{zeros, places};
 ghost use Rattle.quantizer.specs.Replacing.{shares, ownerOf, spreadStep, spreadOf};
 ghost use Rattle.quantizer_color_sums.specs.Asked.{Owned, OwnerTurn};
 
@@ -40,7 +40,7 @@ pub fn color_sums(
     total: &mut [f32],
     second: &mut [f32],
 )
-    requires { ⌜ Owned (jobOf z (now tiles) (now colours) (now counts)) (now pal) (now hints) × ((now total ≡ zeros 256) × (now second ≡ zeros 256)) ⌝ }
+    requires { ⌜ Owned (jobOf z (now tiles) (now colours) (now counts)) (now pal) (now hints) × ((now total ≡ zeros places) × (now second ≡ zeros places)) ⌝ }
     ensures { λ r. ⌜ shares (now (total .exit)) (now (second .exit)) ≡ spreadOf (jobOf z (now (tiles .entry)) (now (colours .entry)) (now (counts .entry))) (now (pal .entry)) (ownerOf (jobOf z (now (tiles .entry)) (now (colours .entry)) (now (counts .entry))) (now (pal .entry))) (z .t) ⌝ }
 {
     let mut i = 0;

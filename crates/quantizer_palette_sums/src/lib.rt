@@ -4,7 +4,7 @@ use job::Sizes;
 ghost use mathlib.Core.Path.{_≡_};
 ghost use Prim.Native.Nat.{_<_};
 ghost use lib.ListN.{length};
-ghost use Rattle.job.specs.Job.{jobOf};
+ghost use Rattle.job.specs.Job.{jobOf, mostSubpalettes};
 ghost use Rattle.palette_tile.specs.Tiles.{Shown};
 ghost use Rattle.quantizer.specs.Sums.{zeros};
 ghost use Rattle.quantizer.specs.Replacing.{shares, shareWith, sharesOf, pairHints};
@@ -32,7 +32,7 @@ pub fn palette_sums(
     total: &mut [f32],
     removed: &mut [f32],
 )
-    requires { ⌜ Shown (jobOf z (now tiles) (now colours) (now counts)) (now pal) (z .s) (z .c) × ((length (now hints) ≡ (z .t)) × ((now total ≡ zeros 16) × (now removed ≡ zeros 16))) ⌝ }
+    requires { ⌜ Shown (jobOf z (now tiles) (now colours) (now counts)) (now pal) (z .s) (z .c) × ((length (now hints) ≡ (z .t)) × ((now total ≡ zeros mostSubpalettes) × (now removed ≡ zeros mostSubpalettes))) ⌝ }
     ensures { λ r. ⌜ (shares (now (total .exit)) (now (removed .exit)) ≡ sharesOf (jobOf z (now (tiles .entry)) (now (colours .entry)) (now (counts .entry))) (now (pal .entry)) (z .t)) × (now (hints .exit) ≡ pairHints (jobOf z (now (tiles .entry)) (now (colours .entry)) (now (counts .entry))) (now (pal .entry)) (now (hints .entry)) (z .t)) ⌝ }
 {
     let mut i = 0;

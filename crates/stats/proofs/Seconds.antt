@@ -18,14 +18,14 @@ use Rattle.stats.specs.Stats.{pickTwo, stepTwo, leastTwo, nextOf}
 -- ---- what holds of every value
 module _ (P : Float → Type 0) where
   step-all : (b : Two) (n : ℕ) (x : Float) → P x → P (b .dist) → P (b .second) → P (stepTwo b n x .dist) × P (stepTwo b n x .second)
-  step-all b n x p q r = go (lt x (b .dist)) (lt x (b .second))
+  step-all b n x p q r = by (lt x (b .dist)) (lt x (b .second))
     where
-      go : (t u : Bool)
+      by : (t u : Bool)
           → P (pickTwo t (record { index = n; dist = x; second = b .dist }) (pickTwo u (record { index = b .index; dist = b .dist; second = x }) b) .dist)
           × P (pickTwo t (record { index = n; dist = x; second = b .dist }) (pickTwo u (record { index = b .index; dist = b .dist; second = x }) b) .second)
-      go true u = (p, q)
-      go false true = (q, p)
-      go false false = (q, r)
+      by true u = (p, q)
+      by false true = (q, p)
+      by false false = (q, r)
 
   pub two-all : (d : ℕ → Float) (n : ℕ) → P (inf false) → ((j : ℕ) → j < n → P (d j)) → P (leastTwo d n .dist) × P (leastTwo d n .second)
   unfolding leastTwo
@@ -54,20 +54,20 @@ is-inf x g t = key-unique binary32 x (inf false) g (inf-good binary32) (le-antis
 
 ranked-first : (d : ℕ → Float) → Good binary32 (d 0) → Ranked d 1 (leastTwo d 1) (nextOf d 1)
 unfolding leastTwo nextOf
-ranked-first d g = go (lt (d 0) (inf false)) refl
+ranked-first d g = by (lt (d 0) (inf false)) refl
   where
     few : 2 ≤ 1 → ⊥
     few h = omega arith
 
-    go : (t : Bool) → lt (d 0) (inf false) ≡ t
+    by : (t : Bool) → lt (d 0) (inf false) ≡ t
         → Ranked d 1 (pickTwo t (record { index = 0; dist = d 0; second = inf false }) (pickTwo t (record { index = 0; dist = inf false; second = d 0 }) (record { index = 0; dist = inf false; second = inf false })))
         (cond t 0 (cond (t || false) 0 0))
-    go true e = record { within = omega arith; value = refl; alone = λ o. refl; next = λ h. absurd (few h) }
-    go false e = record { within = omega arith; value = sym (is-inf (d 0) g e); alone = λ o. refl; next = λ h. absurd (few h) }
+    by true e = record { within = omega arith; value = refl; alone = λ o. refl; next = λ h. absurd (few h) }
+    by false e = record { within = omega arith; value = sym (is-inf (d 0) g e); alone = λ o. refl; next = λ h. absurd (few h) }
 
 ranked-step : (d : ℕ → Float) (n : ℕ) (b : Two) (x : ℕ) → 1 ≤ n → Good binary32 (d n) → Ranked d n b x
     → Ranked d (suc n) (stepTwo b n (d n)) (cond (lt (d n) (b .dist)) (b .index) (cond (lt (d n) (b .second) || eqb n 1) n x))
-ranked-step d n b x N g R = go (lt (d n) (b .dist)) (lt (d n) (b .second)) refl
+ranked-step d n b x N g R = by (lt (d n) (b .dist)) (lt (d n) (b .second)) refl
   where
     one : suc n ≡ 1 → ⊥
     one e = omega arith
@@ -84,11 +84,11 @@ ranked-step d n b x N g R = go (lt (d n) (b .dist)) (lt (d n) (b .second)) refl
         more : (n : ℕ) → 1 ≤ n → (n ≡ 1 → ⊥) → 2 ≤ n
         more n a f = omega arith
 
-    go : (t u : Bool) → lt (d n) (b .second) ≡ u
+    by : (t u : Bool) → lt (d n) (b .second) ≡ u
         → Ranked d (suc n) (pickTwo t (record { index = n; dist = d n; second = b .dist }) (pickTwo u (record { index = b .index; dist = b .dist; second = d n }) b)) (cond t (b .index) (cond (u || eqb n 1) n x))
-    go true u e = record { within = omega arith; value = refl; alone = λ o. absurd (one o); next = λ h. record { within = omega (arith, R .within); other = λ o. new (sym o); value = R .value } }
-    go false true e = record { within = omega (arith, R .within); value = R .value; alone = λ o. absurd (one o); next = λ h. record { within = omega arith; other = new; value = refl } }
-    go false false e = record { within = omega (arith, R .within); value = R .value; alone = λ o. absurd (one o); next = λ h. kept (eqb n 1) refl e }
+    by true u e = record { within = omega arith; value = refl; alone = λ o. absurd (one o); next = λ h. record { within = omega (arith, R .within); other = λ o. new (sym o); value = R .value } }
+    by false true e = record { within = omega (arith, R .within); value = R .value; alone = λ o. absurd (one o); next = λ h. record { within = omega arith; other = new; value = refl } }
+    by false false e = record { within = omega (arith, R .within); value = R .value; alone = λ o. absurd (one o); next = λ h. kept (eqb n 1) refl e }
 
 ranked : (d : ℕ → Float) (m : ℕ) → ((j : ℕ) → j < suc m → Good binary32 (d j)) → Ranked d (suc m) (leastTwo d (suc m)) (nextOf d (suc m))
 unfolding leastTwo nextOf
@@ -98,14 +98,14 @@ ranked d (suc m) g = ranked-step d (suc m) (leastTwo d (suc m)) (nextOf d (suc m
 -- n values, of which there are two or more
 module _ (d : ℕ → Float) (n : ℕ) (N : 2 ≤ n) (G : (j : ℕ) → j < n → Good binary32 (d j)) where
   runner-up : Other d n (leastTwo d n .index) (nextOf d n) (leastTwo d n .second)
-  runner-up = go n refl G
+  runner-up = by n refl G
     where
-      go : (k : ℕ) → k ≡ n → ((j : ℕ) → j < k → Good binary32 (d j)) → Other d n (leastTwo d n .index) (nextOf d n) (leastTwo d n .second)
-      go zero e g = absurd (none e)
+      by : (k : ℕ) → k ≡ n → ((j : ℕ) → j < k → Good binary32 (d j)) → Other d n (leastTwo d n .index) (nextOf d n) (leastTwo d n .second)
+      by zero e g = absurd (none e)
         where
           none : 0 ≡ n → ⊥
           none e = omega arith
-      go (suc m) e g = subst (λ (k : ℕ). Other d k (leastTwo d k .index) (nextOf d k) (leastTwo d k .second)) e (ranked d m g .next (omega arith))
+      by (suc m) e g = subst (λ (k : ℕ). Other d k (leastTwo d k .index) (nextOf d k) (leastTwo d k .second)) e (ranked d m g .next (omega arith))
 
   pub next-below : nextOf d n < n
   next-below = runner-up .within
@@ -119,9 +119,11 @@ module _ (d : ℕ → Float) (n : ℕ) (N : 2 ≤ n) (G : (j : ℕ) → j < n �
 -- where there is one value, it is its own runner-up
 pub next-alone : (d : ℕ → Float) → nextOf d 1 ≡ leastTwo d 1 .index
 unfolding leastTwo nextOf
-next-alone d = go (lt (d 0) (inf false))
+next-alone d = by (lt (d 0) (inf false))
   where
-    go : (t : Bool)
-        → cond t 0 (cond (t || false) 0 0) ≡ pickTwo t (record { index = 0; dist = d 0; second = inf false }) (pickTwo t (record { index = 0; dist = inf false; second = d 0 }) (record { index = 0; dist = inf false; second = inf false })) .index
-    go true = refl
-    go false = refl
+    by : (t : Bool)
+        → cond t 0 (cond (t || false) 0 0)
+        ≡ pickTwo t (record { index = 0; dist = d 0; second = inf false })
+        (pickTwo t (record { index = 0; dist = inf false; second = d 0 }) (record { index = 0; dist = inf false; second = inf false })) .index
+    by true = refl
+    by false = refl

@@ -1,19 +1,15 @@
--- One value more: what each branch of a step gives, and the step at the code's `i + 1`. Assumes nothing.
+-- One value more: what a step gives, by its tests, and the step at the code's `i + 1`. Assumes nothing.
 use Prim.Native.Nat.{ℕ, _+_}
 use mathlib.Core.Path.{_≡_, ap, sym, _∙_}
-use mathlib.Core.Bool.{Bool, true, false}
+use mathlib.Core.Bool.{Bool}
 use native.Mathlib.Numerals.{add-one}
 use lib.Ieee.{Float, lt}
 use Rattle.stats.specs.declared.Near.{Near}
 use Rattle.stats.specs.declared.Two.{Two}
 use Rattle.stats.specs.Stats.{pickNear, stepNear, leastOf, pickTwo, stepTwo, leastTwo}
 
-module _ (b : Near) (n : ℕ) (d : Float) where
-  pub near-taken : lt d (b .dist) ≡ true → record { index = n; dist = d } ≡ stepNear b n d
-  near-taken t = sym (ap (λ (x : Bool). pickNear x (record { index = n; dist = d }) b) t)
-
-  pub near-left : lt d (b .dist) ≡ false → b ≡ stepNear b n d
-  near-left t = sym (ap (λ (x : Bool). pickNear x (record { index = n; dist = d }) b) t)
+pub near-by : (b : Near) (n : ℕ) (d : Float) (t : Bool) → lt d (b .dist) ≡ t → pickNear t (record { index = n; dist = d }) b ≡ stepNear b n d
+near-by b n d t e = sym (ap (λ (x : Bool). pickNear x (record { index = n; dist = d }) b) e)
 
 module _ (b : Two) (n : ℕ) (d : Float) where
   abbrev best : Two
@@ -22,14 +18,8 @@ module _ (b : Two) (n : ℕ) (d : Float) where
   abbrev next : Two
   next = record { index = b .index; dist = b .dist; second = d }
 
-  pub two-taken : lt d (b .dist) ≡ true → best ≡ stepTwo b n d
-  two-taken t = sym (ap (λ (x : Bool). pickTwo x best (pickTwo (lt d (b .second)) next b)) t)
-
-  pub two-followed : lt d (b .dist) ≡ false → lt d (b .second) ≡ true → next ≡ stepTwo b n d
-  two-followed t e = sym (ap (λ (x : Bool). pickTwo x best (pickTwo (lt d (b .second)) next b)) t ∙ ap (λ (x : Bool). pickTwo x next b) e)
-
-  pub two-left : lt d (b .dist) ≡ false → lt d (b .second) ≡ false → b ≡ stepTwo b n d
-  two-left t e = sym (ap (λ (x : Bool). pickTwo x best (pickTwo (lt d (b .second)) next b)) t ∙ ap (λ (x : Bool). pickTwo x next b) e)
+  pub two-by : (t u : Bool) → lt d (b .dist) ≡ t → lt d (b .second) ≡ u → pickTwo t best (pickTwo u next b) ≡ stepTwo b n d
+  two-by t u e f = sym (ap (λ (x : Bool). pickTwo x best (pickTwo (lt d (b .second)) next b)) e ∙ ap (λ (x : Bool). pickTwo t best (pickTwo x next b)) f)
 
 module _ (d : ℕ → Float) where
   pub near-more : (i : ℕ) (b r : Near) (x : Float) → b ≡ leastOf d i → x ≡ d i → r ≡ stepNear b i x → r ≡ leastOf d (i + 1)

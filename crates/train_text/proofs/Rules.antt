@@ -2,17 +2,17 @@
 use Prim.Native.Nat.{ℕ, _*_, _≤_}
 use mathlib.Core.Path.{_≡_, refl, sym}
 use mathlib.Core.Bool.{true}
-use mathlib.Core.List.{List}
+use mathlib.Core.List.{List, _++_}
 use native.Mathlib.Omega.{arith}
 use lib.Dec.{ltb}
 use lib.ListN.{length, getD}
 use lib.Ieee.{Float}
-use borrow.Author.Tests.{eq-eqb, le-leb, lt-ltb}
+use borrow.Author.Tests.{eqb-true, eq-eqb, le-leb, lt-ltb}
 use Rattle.lists.proofs.Tests.{and-i}
-use Rattle.job.specs.Job.{Job, mostSamples, two}
+use Rattle.job.specs.Job.{Job, tileSize, mostSamples, two}
 use Rattle.job.specs.Rules.{Passed, numbered}
 use Rattle.job.proofs.Passing.{all-pass, pass-all}
-use Rattle.job.specs.Checks.{componentsFit, sampleTest, sampleFits, samplesFit, plainRules, plainAnswer}
+use Rattle.job.specs.Checks.{tileSized, componentsFit, sampleTest, sampleFits, samplesFit, tables, nearRules, placeRules, plainRules, plainAnswer}
 use Rattle.job.specs.Gives.{Ready}
 use Rattle.job.proofs.Ready.{plain-ready}
 use Rattle.job.proofs.Tiles.{counts-length, counts-placed}
@@ -28,6 +28,10 @@ module _ (J : Job) (p : List Float) (h : plainAnswer J p true ≡ 0) where
   unfolding plainAnswer numbered
   passed = all-pass (plainRules J p true) refl h
 
+  sized : J .size ≡ tileSize
+  unfolding tileSized
+  sized = eqb-true (J .size) tileSize (passed .0)
+
   ready : Ready J
   ready = plain-ready J p true h .ready
 
@@ -39,19 +43,19 @@ module _ (J : Job) (p : List Float) (h : plainAnswer J p true ≡ 0) where
   countable = record {
     few = ready .sizes .tiles;
     placed = λ i l. counts-placed J ready i l;
-    short = λ i l. omega (arith, ready .short i l, counts-length J ready i l);
-    full = λ i l. unfold units in ready .full i l;
+    short = λ i l. omega (arith, sized, ready .short i l, counts-length J ready i l);
+    full = λ i l. unfold units in omega (arith, sized, ready .full i l);
   }
 
   -- with another palette
   pub repainted : (x : List Float) → length x ≡ 3 * (J .S * J .C) → componentsFit two x ≡ true → plainAnswer J x true ≡ 0
   unfolding plainAnswer
   repainted x long fit =
-      let q = passed .1 .1 .1 in
+      let q = passed .1 .1 .1 .1 in
       let r = q .1 .1 .1 .1 in
-      let v = r .1 .1 .1 .1 in
+      let near : Passed (tables J ++ nearRules x (J .colours)) = (r .0, (r .1 .0, (r .1 .1 .0, (r .1 .1 .1 .0, (fit, (r .1 .1 .1 .1 .1 .0, tt)))))) in
       sym (pass-all (plainRules J x true)
-      (passed .0, (passed .1 .0, (passed .1 .1 .0, (q .0, (q .1 .0, (eq-eqb (length x) (3 * (J .S * J .C)) long, (refl, (r .0, (r .1 .0, (r .1 .1 .0, (r .1 .1 .1 .0, (fit, (v .1 .0, tt))))))))))))))
+      (passed .0, (passed .1 .0, (passed .1 .1 .0, (passed .1 .1 .1 .0, (q .0, (q .1 .0, (eq-eqb (length x) (3 * (J .S * J .C)) long, (refl, near)))))))))
 
   -- with its samples
   n : ℕ
@@ -67,7 +71,9 @@ module _ (J : Job) (p : List Float) (h : plainAnswer J p true ≡ 0) where
       → Passed (jobRules (course J (unitsTo (J .tiles) (J .counts) (J .T)) (samplesTo (J .tiles) (J .counts) (J .T))) true)
   unfolding n
   run-passed some few =
-      let q = passed .1 .1 .1 in
+      let q = passed .1 .1 .1 .1 in
       let r = q .1 .1 .1 .1 in
-      let v = r .1 .1 .1 .1 in
-      (passed .0, (passed .1 .0, (passed .1 .1 .0, (le-leb n mostSamples few, (q .0, (q .1 .0, (eq-eqb (length (samplesTo (J .tiles) (J .counts) (J .T))) (2 * n) (length-samples (J .tiles) (J .counts) (J .T)), (refl, (le-leb 1 n some, (r .0, (r .1 .0, (r .1 .1 .0, (r .1 .1 .1 .0, (v .1 .0, (all-named, tt)))))))))))))))
+      let paired = eq-eqb (length (samplesTo (J .tiles) (J .counts) (J .T))) (2 * n) (length-samples (J .tiles) (J .counts) (J .T)) in
+      let placed : Passed (tables J ++ placeRules (J .T) (J .tiles) (J .colours) n (samplesTo (J .tiles) (J .counts) (J .T))) =
+      (r .0, (r .1 .0, (r .1 .1 .0, (r .1 .1 .1 .0, (r .1 .1 .1 .1 .1 .0, (all-named, tt)))))) in
+      (passed .0, (passed .1 .0, (passed .1 .1 .0, (passed .1 .1 .1 .0, (le-leb n mostSamples few, (q .0, (q .1 .0, (paired, (refl, (le-leb 1 n some, placed))))))))))

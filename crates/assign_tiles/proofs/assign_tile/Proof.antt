@@ -1,13 +1,15 @@
 -- `assign_tiles::assign_tile` meets its contract: an empty tile gets 0 and keeps its hint, another its winner in both places. Assumes nothing.
 use mathlib.Core.Path.{refl}
 use native.Mathlib.Omega.{arith}
-use Rattle.assign_tiles.proofs.Fills.{turn-listed, turn-none, turn-asked, turn-fits, turn-some}
 use borrow.Author.Needs.{needs}
+use Rattle.palette_tile.proofs.Asks.{colours-asked}
+use Rattle.palette_tile.proofs.Turns.{turn-fitted}
+use Rattle.assign_tiles.proofs.Fills.{turn-paired, turn-none, turn-fits, turn-some}
 use Rattle.assign_tiles.proofs.assign_tile.Statement.{statement}
 use Rattle.assign_tiles.proofs.assign_tile.Tie as tie
 
 is-empty-requires : tie.Need-is-empty-requires
-is-empty-requires c κs = turn-listed _ _ _ _ (c .before .before .before .before .before .before .pre)
+is-empty-requires c κs = colours-asked _ _ _ _ _ _ (turn-paired _ _ _ _ _ (c .before .before .before .before .before .before .pre)) .listed
 
 mul-out : tie.Need-mul-out
 mul-out c = search needs
@@ -22,10 +24,10 @@ returns : tie.Need-returns
 returns c = turn-none _ _ _ _ _ (c .before .before .before .before .before .before .before .before .pre) _ (c .before .is-empty .ensures) (c .if1 .taken)
 
 tile-fit-requires : tie.Need-tile-fit-requires
-tile-fit-requires c κs = turn-asked _ _ _ _ _ (c .before .before .before .before .before .before .before .before .before .pre) _ (c .before .before .is-empty .ensures) (c .before .if1 .left)
+tile-fit-requires c κs = turn-fitted _ _ _ _ _ _ (turn-paired _ _ _ _ _ (c .before .before .before .before .before .before .before .before .before .pre)) _ (c .before .before .is-empty .ensures) (c .before .if1 .left)
 
 cast-sub : tie.Need-cast-sub
-cast-sub c = omega (arith, turn-fits _ _ _ _ _ (c .before .before .before .before .before .before .before .before .before .before .before .before .before .pre) _ (c .before .before .before .before .before .before .is-empty .ensures) (c .before .before .before .before .before .if1 .left) _ (c .before .before .before .tile-fit .ensures .0))
+cast-sub c = omega (arith, turn-fits _ _ _ _ _ (c .before .before .before .before .before .before .before .before .before .before .before .before .before .pre) _ (c .before .before .before .tile-fit .ensures .0))
 
 mul-out-2 : tie.Need-mul-out-2
 mul-out-2 c = search needs
@@ -40,7 +42,7 @@ same-length-3 : tie.Need-same-length-3
 same-length-3 c = search needs
 
 returns-2 : tie.Need-returns-2
-returns-2 c = turn-some _ _ _ _ _ (c .before .before .before .before .before .before .before .before .before .before .before .before .before .pre) _ (c .before .before .before .before .before .before .is-empty .ensures) (c .before .before .before .before .before .if1 .left) _ (c .before .before .before .tile-fit .ensures .0) _ (c .before .before .before .tile-fit .ensures .1)
+returns-2 c = turn-some _ _ _ _ _ (c .before .before .before .before .before .before .before .before .before .before .before .before .before .pre) _ (c .before .before .before .tile-fit .ensures .0) _ (c .before .before .before .before .before .before .is-empty .ensures) (c .before .before .before .before .before .if1 .left) _ (c .before .before .before .tile-fit .ensures .1)
 
 pub assign-tile-spec : {M : Type 1} → statement M
 assign-tile-spec =

@@ -1,24 +1,25 @@
 -- `assign_tiles::assign_tiles` meets its contract. The invariant: the memory is what the first i tiles leave. Assumes nothing.
-use Prim.Native.Nat.{_≤_, _-_}
-use mathlib.Core.Path.{sym, _∙_}
+use Prim.Native.Nat.{_-_}
+use mathlib.Core.Path.{refl}
 use borrow.Author.Needs.{needs}
 use Rattle.job.specs.Job.{jobOf}
+use Rattle.palette_tile.proofs.Walks.{walked-start}
 use Rattle.assign_tiles.specs.Tiles.{held}
-use Rattle.assign_tiles.proofs.Fills.{Filled, filled-none, filled-more, filled-end}
+use Rattle.assign_tiles.proofs.Fills.{Filled, filled-lengths, filled-ready, filled-more, filled-end}
 use Rattle.assign_tiles.proofs.assign_tiles.Statement.{statement}
 use Rattle.assign_tiles.proofs.assign_tiles.Tie as tie
 
 abbrev Inv-loop : tie.InvT-loop
-Inv-loop z tiles colours counts palette hints₀ out₀ i₀ hints out i = (i ≤ z .t) × Filled (jobOf z tiles colours counts) palette (held hints₀ out₀) (held hints out) i
+Inv-loop z tiles colours counts palette hints₀ out₀ i₀ hints out i = Filled (jobOf z tiles colours counts) palette (held hints₀ out₀) (held hints out) i
 
 abbrev μ-loop : tie.MeasureT-loop
 μ-loop z tiles colours counts palette hints₀ out₀ i₀ hints out i = z .t - i
 
 loop-holds : tie.Need-loop-holds Inv-loop μ-loop
-loop-holds c = (search needs, filled-none _ _ _ (c .before .before .before .before .before .before .pre))
+loop-holds c = (walked-start refl, walked-start refl)
 
 assign-tile-requires : tie.Need-assign-tile-requires Inv-loop μ-loop
-assign-tile-requires c κs = record { ready = c .before .before .before .before .loop .inv .1 .ready; tile = c .before .before .if1 .taken }
+assign-tile-requires c κs = record { ready = filled-ready _ _ _ _ _ (c .before .before .before .before .loop .inv) (c .before .before .before .before .before .before .before .before .before .before .before .pre); tile = c .before .before .if1 .taken }
 
 add-i : tie.Need-add-i Inv-loop μ-loop
 add-i c = search needs
@@ -27,16 +28,16 @@ loop-less : tie.Need-loop-less Inv-loop μ-loop
 loop-less c = search needs
 
 loop-again : tie.Need-loop-again Inv-loop μ-loop
-loop-again c = let k = c .before .before .before .before .assign-tile in (search needs, filled-more _ _ _ _ _ _ (c .before .before .before .before .before .before .before .before .before .loop .inv .1) _ _ (k .kept .1 .1 .1 .1 .1 .0) (k .kept .1 .1 .1 .1 .1 .1 .0) (k .ensures))
+loop-again c = filled-more _ _ _ _ _ (c .before .before .before .before .before .before .before .before .before .loop .inv) (c .before .before .before .before .before .before .before .if1 .taken) _ (c .before .before .before .before .assign-tile .ensures)
 
 same-length : tie.Need-same-length Inv-loop μ-loop
-same-length c = c .before .before .loop .inv .1 .ready .hints ∙ sym (c .before .before .before .before .before .before .before .before .before .pre .hints)
+same-length c = filled-lengths _ _ _ _ _ (c .before .before .loop .inv) .0
 
 same-length-2 : tie.Need-same-length-2 Inv-loop μ-loop
-same-length-2 c = c .before .before .loop .inv .1 .ready .out ∙ sym (c .before .before .before .before .before .before .before .before .before .pre .out)
+same-length-2 c = filled-lengths _ _ _ _ _ (c .before .before .loop .inv) .1
 
 returns : tie.Need-returns Inv-loop μ-loop
-returns c = filled-end _ _ _ _ _ _ (c .before .before .loop .inv .1) _ (c .before .before .loop .inv .0) (c .if1 .left)
+returns c = filled-end _ _ _ _ _ (c .before .before .loop .inv) (c .if1 .left)
 
 pub assign-tiles-spec : {M : Type 1} → statement M
 assign-tiles-spec =

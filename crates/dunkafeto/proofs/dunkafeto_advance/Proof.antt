@@ -3,34 +3,53 @@ use Rattle.dunkafeto.proofs.Forwards.{advance-told, few}
 use Rattle.dunkafeto.proofs.dunkafeto_advance.Statement.{statement}
 use Rattle.dunkafeto.proofs.dunkafeto_advance.Tie as tie
 
+sizes-of-requires : tie.Need-sizes-of-requires
+sizes-of-requires c κs = tt
+
 advance-requires : tie.Need-advance-requires
 advance-requires c κs = tt
 
 pack-requires : tie.Need-pack-requires
-pack-requires c κs = few _ _ _ _ _ _ _ (c .before .before .before .before .before .before .before .before .before .before .advance .ensures)
+pack-requires c κs =
+    let after-advance = c .before .before .before .before .before .before .before .before .before .before in
+    few _ _ _ _ _ _ (after-advance .advance .ensures)
 
 same-length : tie.Need-same-length
-same-length c = c .before .before .before .before .before .before .before .before .before .before .before .advance .kept .1 .1 .1 .1 .1 .1 .1 .1 .1 .0
+same-length c =
+    let after-advance = c .before .before .before .before .before .before .before .before .before .before .before in
+    after-advance .advance .kept .1 .1 .1 .1 .1 .0
 
 same-length-2 : tie.Need-same-length-2
-same-length-2 c = c .before .before .before .before .before .before .before .before .before .before .before .advance .kept .1 .1 .1 .1 .1 .1 .1 .1 .1 .1 .0
+same-length-2 c =
+    let after-advance = c .before .before .before .before .before .before .before .before .before .before .before in
+    after-advance .advance .kept .1 .1 .1 .1 .1 .1 .0
 
 same-length-3 : tie.Need-same-length-3
-same-length-3 c = c .before .before .before .before .before .before .before .before .before .before .before .advance .kept .1 .1 .1 .1 .1 .1 .1 .1 .1 .1 .1 .0
+same-length-3 c =
+    let after-advance = c .before .before .before .before .before .before .before .before .before .before .before in
+    after-advance .advance .kept .1 .1 .1 .1 .1 .1 .1 .0
 
 same-length-4 : tie.Need-same-length-4
-same-length-4 c = c .before .before .before .before .before .before .before .before .before .before .before .advance .kept .1 .1 .1 .1 .1 .1 .1 .1 .1 .1 .1 .1 .0
+same-length-4 c =
+    let after-advance = c .before .before .before .before .before .before .before .before .before .before .before in
+    after-advance .advance .kept .1 .1 .1 .1 .1 .1 .1 .1 .0
 
 same-length-5 : tie.Need-same-length-5
-same-length-5 c = c .before .before .before .before .before .before .before .before .before .before .before .advance .kept .1 .1 .1 .1 .1 .1 .1 .1 .1 .1 .1 .1 .1 .0
+same-length-5 c =
+    let after-advance = c .before .before .before .before .before .before .before .before .before .before .before in
+    after-advance .advance .kept .1 .1 .1 .1 .1 .1 .1 .1 .1 .0
 
 returns : tie.Need-returns
-returns c = advance-told _ _ _ _ _ _ _ (c .before .before .before .before .before .before .before .before .before .before .before .advance .ensures) _ (c .pack .ensures)
+returns c =
+    let after-advance = c .before .before .before .before .before .before .before .before .before .before .before in
+    let after-sizes-of = after-advance .before .before .before .before .before .before in
+    advance-told _ _ (after-sizes-of .sizes-of .ensures) _ _ _ _ _ _ _ _ _ (after-advance .advance .ensures) _ (c .pack .ensures)
 
 pub dunkafeto-advance-spec : {M : Type 1} → statement M
 dunkafeto-advance-spec =
     tie.close
     (tie.spec
+    sizes-of-requires
     advance-requires
     pack-requires
     same-length

@@ -1,8 +1,11 @@
 -- `dunkafeto_assign` tells what `assign::assign` ensures. Assumes nothing.
-use Rattle.dunkafeto.proofs.Forwards.{tiles-told}
+use Rattle.dunkafeto.proofs.Forwards.{assign-told}
 use borrow.Author.Needs.{needs}
 use Rattle.dunkafeto.proofs.dunkafeto_assign.Statement.{statement}
 use Rattle.dunkafeto.proofs.dunkafeto_assign.Tie as tie
+
+sizes-of-requires : tie.Need-sizes-of-requires
+sizes-of-requires c κs = tt
 
 assign-requires : tie.Need-assign-requires
 assign-requires c κs = tt
@@ -11,14 +14,14 @@ cast-result : tie.Need-cast-result
 cast-result c = search needs
 
 same-length : tie.Need-same-length
-same-length c = c .before .before .before .before .assign .kept .1 .1 .1 .1 .1 .1 .1 .1 .0
+same-length c = c .before .before .before .before .assign .kept .1 .1 .1 .1 .1 .0
 
 same-length-2 : tie.Need-same-length-2
-same-length-2 c = c .before .before .before .before .assign .kept .1 .1 .1 .1 .1 .1 .1 .1 .1 .0
+same-length-2 c = c .before .before .before .before .assign .kept .1 .1 .1 .1 .1 .1 .0
 
 returns : tie.Need-returns
-returns c = tiles-told _ _ _ (c .before .before .before .before .assign .ensures)
+returns c = assign-told _ _ (c .before .before .before .before .before .before .before .sizes-of .ensures) _ _ _ _ _ _ _ (c .before .before .before .before .assign .ensures)
 
 pub dunkafeto-assign-spec : {M : Type 1} → statement M
 dunkafeto-assign-spec =
-    tie.close (tie.spec assign-requires cast-result same-length same-length-2 returns)
+    tie.close (tie.spec sizes-of-requires assign-requires cast-result same-length same-length-2 returns)

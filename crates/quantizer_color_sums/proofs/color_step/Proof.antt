@@ -1,7 +1,8 @@
 -- `quantizer_color_sums::color_step` meets its contract: the tile's matches go to its subpalette's sums. Assumes nothing.
 use native.Mathlib.Omega.{arith}
-use Rattle.quantizer_color_sums.proofs.Spreads.{owner-colours, owner-counts, owner-part, owner-row, owner-matched, owner-done}
 use borrow.Author.Needs.{needs}
+use Rattle.palette_tile.proofs.Asks.{colours-asked, counts-asked}
+use Rattle.quantizer_color_sums.proofs.Spreads.{owner-paired, owner-part, owner-row, owner-matched, owner-done}
 use Rattle.quantizer_color_sums.proofs.color_step.Statement.{statement}
 use Rattle.quantizer_color_sums.proofs.color_step.Tie as tie
 
@@ -12,10 +13,10 @@ part-requires : tie.Need-part-requires
 part-requires c κs = owner-part _ _ _ _ _ (c .before .before .before .before .before .before .before .before .pre) _ (c .nearest-palette-of .ensures)
 
 tile-part-requires : tie.Need-tile-part-requires
-tile-part-requires c κs = owner-colours _ _ _ _ _ (c .before .before .before .before .before .before .before .before .before .pre)
+tile-part-requires c κs = colours-asked _ _ _ _ _ _ (owner-paired _ _ _ _ _ (c .before .before .before .before .before .before .before .before .before .pre))
 
 counts-part-requires : tie.Need-counts-part-requires
-counts-part-requires c κs = owner-counts _ _ _ _ _ (c .before .before .before .before .before .before .before .before .before .before .pre)
+counts-part-requires c κs = counts-asked _ _ _ _ _ _ (owner-paired _ _ _ _ _ (c .before .before .before .before .before .before .before .before .before .before .pre))
 
 mul-for-each-match-two : tie.Need-mul-for-each-match-two
 mul-for-each-match-two c = omega (arith, owner-row _ _ _ _ _ (c .before .before .before .before .before .before .before .before .before .before .before .before .pre) _ (c .before .before .before .before .nearest-palette-of .ensures))

@@ -4,22 +4,27 @@ use mathlib.Core.Path.{sym, ap, _∙_}
 use native.Mathlib.Omega.{arith}
 use lib.ListN.{length}
 use Rattle.job.specs.Job.{jobOf}
-use Rattle.quantizer.specs.Replacing.{shares}
-use Rattle.quantizer_color_sums.proofs.Spreads.{Spreading, spreading-start, spreading-wide, spreading-turn, spreading-more, spreading-end}
+use Rattle.palette_tile.proofs.Walks.{Walked, walked-start, walked-more, walked-end}
+use Rattle.quantizer.specs.Sums.{places}
+use Rattle.quantizer.specs.Replacing.{shares, noShares, ownerOf, spreadStep}
+use Rattle.quantizer.proofs.Lists.{no-shares}
+use Rattle.quantizer_color_sums.proofs.Spreads.{walked-wide}
 use Rattle.quantizer_color_sums.proofs.color_sums.Statement.{statement}
 use Rattle.quantizer_color_sums.proofs.color_sums.Tie as tie
 
 abbrev Inv-loop : tie.InvT-loop
-Inv-loop z tiles colours counts pal hints total₀ second₀ i₀ total second i = Spreading (jobOf z tiles colours counts) pal (shares total second) i
+Inv-loop z tiles colours counts pal hints total₀ second₀ i₀ total second i =
+    let J = jobOf z tiles colours counts in
+    Walked (J .T) (λ k. spreadStep J pal (ownerOf J pal k) k) (noShares places) (shares total second) i
 
 abbrev μ-loop : tie.MeasureT-loop
 μ-loop z tiles colours counts pal hints total₀ second₀ i₀ total second i = z .t - i
 
 loop-holds : tie.Need-loop-holds Inv-loop μ-loop
-loop-holds c = spreading-start _ _ _ (c .before .before .before .before .before .before .before .pre .0) _ _ (c .before .before .before .before .before .before .before .pre .1 .0) (c .before .before .before .before .before .before .before .pre .1 .1)
+loop-holds c = walked-start (no-shares _ _ places (c .before .before .before .before .before .before .before .pre .1 .0) (c .before .before .before .before .before .before .before .pre .1 .1))
 
 color-step-requires : tie.Need-color-step-requires Inv-loop μ-loop
-color-step-requires c κs = spreading-turn _ _ _ (c .before .before .before .before .before .before .before .before .before .before .before .before .pre .0) _ _ (c .before .before .before .before .loop .inv) (c .before .before .if1 .taken)
+color-step-requires c κs = record { owned = c .before .before .before .before .before .before .before .before .before .before .before .before .pre .0; tile = c .before .before .if1 .taken; wide = walked-wide _ _ (c .before .before .before .before .loop .inv) }
 
 add-i : tie.Need-add-i Inv-loop μ-loop
 add-i c = omega arith
@@ -28,16 +33,16 @@ loop-less : tie.Need-loop-less Inv-loop μ-loop
 loop-less c = omega arith
 
 loop-again : tie.Need-loop-again Inv-loop μ-loop
-loop-again c = spreading-more _ _ _ (c .before .before .before .before .before .before .before .before .before .before .before .before .before .before .before .before .before .pre .0) _ _ (c .before .before .before .before .before .before .before .before .before .loop .inv) (c .before .before .before .before .before .before .before .if1 .taken) _ (c .before .before .before .before .color-step .ensures)
+loop-again c = walked-more (c .before .before .before .before .before .before .before .before .before .loop .inv) (c .before .before .before .before .before .before .before .if1 .taken) (c .before .before .before .before .color-step .ensures)
 
 same-length : tie.Need-same-length Inv-loop μ-loop
-same-length c = spreading-wide _ _ _ (c .before .before .before .before .before .before .before .before .before .before .pre .0) _ _ (c .before .before .loop .inv) .had ∙ sym (ap length (c .before .before .before .before .before .before .before .before .before .before .pre .1 .0))
+same-length c = walked-wide _ _ (c .before .before .loop .inv) .had ∙ sym (ap length (c .before .before .before .before .before .before .before .before .before .before .pre .1 .0))
 
 same-length-2 : tie.Need-same-length-2 Inv-loop μ-loop
-same-length-2 c = spreading-wide _ _ _ (c .before .before .before .before .before .before .before .before .before .before .pre .0) _ _ (c .before .before .loop .inv) .lost ∙ sym (ap length (c .before .before .before .before .before .before .before .before .before .before .pre .1 .1))
+same-length-2 c = walked-wide _ _ (c .before .before .loop .inv) .lost ∙ sym (ap length (c .before .before .before .before .before .before .before .before .before .before .pre .1 .1))
 
 returns : tie.Need-returns Inv-loop μ-loop
-returns c = spreading-end _ _ _ (c .before .before .before .before .before .before .before .before .before .before .pre .0) _ _ (c .before .before .loop .inv) (c .if1 .left)
+returns c = walked-end (c .before .before .loop .inv) (c .if1 .left)
 
 pub color-sums-spec : {M : Type 1} → statement M
 color-sums-spec =

@@ -1,11 +1,13 @@
 -- `quantizer_palette_sums::palette_sums` meets its contract. The loop's invariant: the sums and the hints are those after the first i tiles. Assumes nothing.
 use Prim.Native.Nat.{_-_}
-use mathlib.Core.Path.{sym, ap, _∙_}
+use mathlib.Core.Path.{refl, sym, ap, _∙_}
 use native.Mathlib.Omega.{arith}
 use lib.ListN.{length}
-use Rattle.job.specs.Job.{jobOf}
+use Rattle.job.specs.Job.{jobOf, mostSubpalettes}
+use Rattle.palette_tile.proofs.Walks.{walked-start, walked-end}
 use Rattle.quantizer.specs.Replacing.{shares}
-use Rattle.quantizer_palette_sums.proofs.Pairs.{Pairing, pairing-start, pairing-length, pairing-wide, pairing-paired, pairing-room, pairing-more, pairing-end}
+use Rattle.quantizer.proofs.Lists.{no-shares}
+use Rattle.quantizer_palette_sums.proofs.Pairs.{Pairing, pairing-length, pairing-wide, pairing-paired, pairing-room, pairing-more}
 use Rattle.quantizer_palette_sums.proofs.palette_sums.Statement.{statement}
 use Rattle.quantizer_palette_sums.proofs.palette_sums.Tie as tie
 
@@ -16,21 +18,13 @@ abbrev μ-loop : tie.MeasureT-loop
 μ-loop z tiles colours counts pal hints₀ total₀ removed₀ i₀ hints total removed i = z .t - i
 
 loop-holds : tie.Need-loop-holds Inv-loop μ-loop
-loop-holds c = pairing-start _ _ (c .before .before .before .before .before .before .before .pre .0) _ (c .before .before .before .before .before .before .before .pre .1 .0) _ _ (c .before .before .before .before .before .before .before .pre .1 .1 .0) (c .before .before .before .before .before .before .before .pre .1 .1 .1)
+loop-holds c = (walked-start (no-shares _ _ mostSubpalettes (c .before .before .before .before .before .before .before .pre .1 .1 .0) (c .before .before .before .before .before .before .before .pre .1 .1 .1)), walked-start refl)
 
 tile-two-requires : tie.Need-tile-two-requires Inv-loop μ-loop
-tile-two-requires c κs =
-    let i = c .before in
-    let v = i .before .before in
-    let z = v .before .before .before .before .before .before .before .before in
-    pairing-paired _ _ (z .pre .0) _ (z .pre .1 .0) _ _ _ (v .loop .inv) (i .if1 .taken)
+tile-two-requires c κs = pairing-paired _ _ (c .before .before .before .before .before .before .before .before .before .before .before .pre .0) _ _ _ _ (c .before .before .before .loop .inv) (c .before .before .before .before .before .before .before .before .before .before .before .pre .1 .0) (c .before .if1 .taken)
 
 add-two-requires : tie.Need-add-two-requires Inv-loop μ-loop
-add-two-requires c κs =
-    let g = c .before .before .before .before in
-    let v = g .before .before .before .before in
-    let z = v .before .before .before .before .before .before .before .before in
-    pairing-room _ _ (z .pre .0) _ (z .pre .1 .0) _ _ _ (v .loop .inv) _ (g .tile-two .ensures .0)
+add-two-requires c κs = pairing-room _ _ (c .before .before .before .before .before .before .before .before .before .before .before .before .before .before .before .before .pre .0) _ _ _ _ (c .before .before .before .before .before .before .before .before .loop .inv) _ (c .before .before .before .before .tile-two .ensures .0)
 
 add-i : tie.Need-add-i Inv-loop μ-loop
 add-i c = omega arith
@@ -39,25 +33,19 @@ loop-less : tie.Need-loop-less Inv-loop μ-loop
 loop-less c = omega arith
 
 loop-again : tie.Need-loop-again Inv-loop μ-loop
-loop-again c =
-    let h = c .before .before .before .before in
-    let g = h .before .before .before .before .before in
-    let i = g .before .before in
-    let v = i .before .before in
-    let z = v .before .before .before .before .before .before .before .before in
-    pairing-more _ _ (z .pre .0) _ (z .pre .1 .0) _ _ _ (v .loop .inv) _ (g .tile-two .ensures .0) (i .if1 .taken) _ _ (h .add-two .ensures) (g .tile-two .ensures .1)
+loop-again c = pairing-more _ _ (c .before .before .before .before .before .before .before .before .before .before .before .before .before .before .before .before .before .before .before .before .before .pre .0) _ _ _ _ (c .before .before .before .before .before .before .before .before .before .before .before .before .before .loop .inv) _ (c .before .before .before .before .before .before .before .before .before .tile-two .ensures .0) (c .before .before .before .before .before .before .before .before .before .before .before .if1 .taken) _ _ (c .before .before .before .before .add-two .ensures) (c .before .before .before .before .before .before .before .before .before .tile-two .ensures .1)
 
 same-length : tie.Need-same-length Inv-loop μ-loop
-same-length c = pairing-length _ _ (c .before .before .before .before .before .before .before .before .before .before .pre .0) _ (c .before .before .before .before .before .before .before .before .before .before .pre .1 .0) _ _ _ (c .before .before .loop .inv)
+same-length c = pairing-length _ _ (c .before .before .before .before .before .before .before .before .before .before .pre .0) _ _ _ _ (c .before .before .loop .inv)
 
 same-length-2 : tie.Need-same-length-2 Inv-loop μ-loop
-same-length-2 c = pairing-wide _ _ (c .before .before .before .before .before .before .before .before .before .before .pre .0) _ (c .before .before .before .before .before .before .before .before .before .before .pre .1 .0) _ _ _ (c .before .before .loop .inv) .had ∙ sym (ap length (c .before .before .before .before .before .before .before .before .before .before .pre .1 .1 .0))
+same-length-2 c = pairing-wide _ _ (c .before .before .before .before .before .before .before .before .before .before .pre .0) _ _ _ _ (c .before .before .loop .inv) .had ∙ sym (ap length (c .before .before .before .before .before .before .before .before .before .before .pre .1 .1 .0))
 
 same-length-3 : tie.Need-same-length-3 Inv-loop μ-loop
-same-length-3 c = pairing-wide _ _ (c .before .before .before .before .before .before .before .before .before .before .pre .0) _ (c .before .before .before .before .before .before .before .before .before .before .pre .1 .0) _ _ _ (c .before .before .loop .inv) .lost ∙ sym (ap length (c .before .before .before .before .before .before .before .before .before .before .pre .1 .1 .1))
+same-length-3 c = pairing-wide _ _ (c .before .before .before .before .before .before .before .before .before .before .pre .0) _ _ _ _ (c .before .before .loop .inv) .lost ∙ sym (ap length (c .before .before .before .before .before .before .before .before .before .before .pre .1 .1 .1))
 
 returns : tie.Need-returns Inv-loop μ-loop
-returns c = pairing-end _ _ (c .before .before .before .before .before .before .before .before .before .before .pre .0) _ (c .before .before .before .before .before .before .before .before .before .before .pre .1 .0) _ _ _ (c .before .before .loop .inv) (c .if1 .left)
+returns c = (walked-end (c .before .before .loop .inv .0) (c .if1 .left), walked-end (c .before .before .loop .inv .1) (c .if1 .left))
 
 pub palette-sums-spec : {M : Type 1} → statement M
 palette-sums-spec =

@@ -1,59 +1,31 @@
 -- `quantizer_worst::distance_step` meets its contract: an empty tile is left, another's distance is added to its winner's sum. Assumes nothing.
 use native.Mathlib.Omega.{arith}
 use borrow.Author.Needs.{needs}
-use Rattle.quantizer_worst.proofs.Turns.{turn-listed, turn-none, turn-fitted, turn-below, turn-done}
+use Rattle.palette_tile.proofs.Turns.{turn-fitted}
+use Rattle.quantizer_worst.proofs.Turns.{turn-none, turn-below, turn-done}
 use Rattle.quantizer_worst.proofs.distance_step.Statement.{statement}
 use Rattle.quantizer_worst.proofs.distance_step.Tie as tie
 
 is-empty-requires : tie.Need-is-empty-requires
-is-empty-requires c κs =
-    let z = c .before .before .before .before .before .before in
-    turn-listed _ _ _ _ _ _ (z .pre)
+is-empty-requires c κs = search needs
 
 returns : tie.Need-returns
-returns c =
-    let e = c .before in
-    let z = e .before .before .before .before .before .before .before in
-    turn-none _ _ _ _ _ _ (z .pre) _ (e .is-empty .ensures) (c .if1 .taken)
+returns c = turn-none _ _ _ _ _ _ (c .before .before .before .before .before .before .before .before .pre) _ (c .before .is-empty .ensures) (c .if1 .taken)
 
 tile-fit-requires : tie.Need-tile-fit-requires
-tile-fit-requires c κs =
-    let o = c .before in
-    let e = o .before in
-    let z = e .before .before .before .before .before .before .before in
-    turn-fitted _ _ _ _ _ _ (z .pre) _ (e .is-empty .ensures) (o .if1 .left)
+tile-fit-requires c κs = turn-fitted _ _ _ _ _ _ (c .before .before .before .before .before .before .before .before .before .pre .paired) _ (c .before .before .is-empty .ensures) (c .before .if1 .left)
 
 mul-distances : tie.Need-mul-distances
-mul-distances c =
-    let f = c .before .before in
-    let o = f .before .before in
-    let e = o .before in
-    let z = e .before .before .before .before .before .before .before in
-    omega (arith, turn-below _ _ _ _ _ _ (z .pre) _ (e .is-empty .ensures) (o .if1 .left) _ (f .tile-fit .ensures .0))
+mul-distances c = omega (arith, turn-below _ _ _ _ _ _ (c .before .before .before .before .before .before .before .before .before .before .before .before .pre) _ (c .before .before .tile-fit .ensures .0))
 
 slice-read-distances : tie.Need-slice-read-distances
-slice-read-distances c =
-    let f = c .before .before .before in
-    let o = f .before .before in
-    let e = o .before in
-    let z = e .before .before .before .before .before .before .before in
-    omega (arith, turn-below _ _ _ _ _ _ (z .pre) _ (e .is-empty .ensures) (o .if1 .left) _ (f .tile-fit .ensures .0))
+slice-read-distances c = omega (arith, turn-below _ _ _ _ _ _ (c .before .before .before .before .before .before .before .before .before .before .before .before .before .pre) _ (c .before .before .before .tile-fit .ensures .0))
 
 mul-distances-2 : tie.Need-mul-distances-2
-mul-distances-2 c =
-    let f = c .before .before .before .before in
-    let o = f .before .before in
-    let e = o .before in
-    let z = e .before .before .before .before .before .before .before in
-    omega (arith, turn-below _ _ _ _ _ _ (z .pre) _ (e .is-empty .ensures) (o .if1 .left) _ (f .tile-fit .ensures .0))
+mul-distances-2 c = omega (arith, turn-below _ _ _ _ _ _ (c .before .before .before .before .before .before .before .before .before .before .before .before .before .before .pre) _ (c .before .before .before .before .tile-fit .ensures .0))
 
 slice-write-distances : tie.Need-slice-write-distances
-slice-write-distances c =
-    let f = c .before .before .before .before in
-    let o = f .before .before in
-    let e = o .before in
-    let z = e .before .before .before .before .before .before .before in
-    omega (arith, turn-below _ _ _ _ _ _ (z .pre) _ (e .is-empty .ensures) (o .if1 .left) _ (f .tile-fit .ensures .0))
+slice-write-distances c = omega (arith, turn-below _ _ _ _ _ _ (c .before .before .before .before .before .before .before .before .before .before .before .before .before .before .pre) _ (c .before .before .before .before .tile-fit .ensures .0))
 
 same-length : tie.Need-same-length
 same-length c = search needs
@@ -62,12 +34,7 @@ same-length-2 : tie.Need-same-length-2
 same-length-2 c = search needs
 
 returns-2 : tie.Need-returns-2
-returns-2 c =
-    let f = c .before .before .before .before in
-    let o = f .before .before in
-    let e = o .before in
-    let z = e .before .before .before .before .before .before .before in
-    turn-done _ _ _ _ _ _ (z .pre) _ (e .is-empty .ensures) (o .if1 .left) _ (f .tile-fit .ensures .0) _ (f .tile-fit .ensures .1)
+returns-2 c = turn-done _ _ _ _ _ _ (c .before .before .before .before .before .before .before .before .before .before .before .before .before .before .pre) _ (c .before .before .before .before .tile-fit .ensures .0) _ (c .before .before .before .before .before .before .before .is-empty .ensures) (c .before .before .before .before .before .before .if1 .left) _ (c .before .before .before .before .tile-fit .ensures .1)
 
 pub distance-step-spec : {M : Type 1} → statement M
 distance-step-spec =

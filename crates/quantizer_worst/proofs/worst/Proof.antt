@@ -4,34 +4,32 @@ use Prim.Native.Nat.{_-_}
 use mathlib.Core.Path.{refl, sym}
 use native.Mathlib.Omega.{arith}
 use borrow.Author.Needs.{needs}
-use Rattle.job.specs.Job.{jobOf}
-use Rattle.quantizer_worst.proofs.Turns.{Going, going-start, going-length, going-whole, going-turn, going-more, going-end, sums-room, sums-asked, worst-done}
+use Rattle.job.specs.Job.{jobOf, mostSubpalettes}
+use Rattle.palette_tile.specs.Tiles.{hintStep}
+use Rattle.palette_tile.proofs.Walks.{Walked, walked-start, walked-more, walked-end}
+use Rattle.palette_tile.proofs.Hints.{walked-hints, walked-paired}
+use Rattle.quantizer.specs.Sums.{zeros}
+use Rattle.quantizer.specs.Seeding.{distanceStep}
+use Rattle.quantizer_worst.proofs.Turns.{walked-sums, sums-room, sums-asked, worst-done}
 use Rattle.quantizer_worst.proofs.worst.Statement.{statement}
 use Rattle.quantizer_worst.proofs.worst.Tie as tie
 
 abbrev Inv-loop : tie.InvT-loop
-Inv-loop z tiles colours counts pal subs hints₀ distances₀ i₀ hints distances i = Going (jobOf z tiles colours counts) pal subs hints₀ hints distances i
+Inv-loop z tiles colours counts pal subs hints₀ distances₀ i₀ hints distances i =
+    let J = jobOf z tiles colours counts in
+    Walked (J .T) (distanceStep J pal subs) (zeros mostSubpalettes) distances i × Walked (J .T) (hintStep J pal subs 1) hints₀ hints i
 
 abbrev μ-loop : tie.MeasureT-loop
 μ-loop z tiles colours counts pal subs hints₀ distances₀ i₀ hints distances i = z .t - i
 
 loop-holds : tie.Need-loop-holds Inv-loop μ-loop
-loop-holds c =
-    let z = c .before .before .before .before .before in
-    going-start _ _ _ (z .pre .0) _ (z .pre .1) _ refl
+loop-holds c = (walked-start refl, walked-start refl)
 
 slice-aggregate-distance-step : tie.Need-slice-aggregate-distance-step Inv-loop μ-loop
-slice-aggregate-distance-step c =
-    let v = c .before .before .before .before in
-    let z = v .before .before .before .before .before .before in
-    sym (going-whole _ _ _ (z .pre .0) _ (z .pre .1) _ _ _ (v .loop .inv))
+slice-aggregate-distance-step c = sym (walked-sums _ _ _ (c .before .before .before .before .loop .inv .0))
 
 distance-step-requires : tie.Need-distance-step-requires Inv-loop μ-loop
-distance-step-requires c κs =
-    let i = c .before .before in
-    let v = i .before .before in
-    let z = v .before .before .before .before .before .before in
-    going-turn _ _ _ (z .pre .0) _ (z .pre .1) _ _ _ (v .loop .inv) (i .if1 .taken)
+distance-step-requires c κs = record { paired = walked-paired _ _ _ _ (c .before .before .before .before .loop .inv .1) (c .before .before .before .before .before .before .before .before .before .before .pre .0) (c .before .before .before .before .before .before .before .before .before .before .pre .1) (c .before .before .if1 .taken); whole = walked-sums _ _ _ (c .before .before .before .before .loop .inv .0) }
 
 add-i : tie.Need-add-i Inv-loop μ-loop
 add-i c = omega arith
@@ -40,12 +38,7 @@ loop-less : tie.Need-loop-less Inv-loop μ-loop
 loop-less c = omega arith
 
 loop-again : tie.Need-loop-again Inv-loop μ-loop
-loop-again c =
-    let g = c .before .before .before in
-    let i = g .before .before .before in
-    let v = i .before .before in
-    let z = v .before .before .before .before .before .before in
-    going-more _ _ _ (z .pre .0) _ (z .pre .1) _ _ _ (v .loop .inv) (i .if1 .taken) _ _ (g .distance-step .ensures .0) (g .distance-step .ensures .1)
+loop-again c = (walked-more (c .before .before .before .before .before .before .before .before .loop .inv .0) (c .before .before .before .before .before .before .if1 .taken) (c .before .before .before .distance-step .ensures .0), walked-more (c .before .before .before .before .before .before .before .before .loop .inv .1) (c .before .before .before .before .before .before .if1 .taken) (c .before .before .before .distance-step .ensures .1))
 
 sub-argmax : tie.Need-sub-argmax Inv-loop μ-loop
 sub-argmax c = search needs
@@ -54,32 +47,16 @@ part-argmax-start : tie.Need-part-argmax-start Inv-loop μ-loop
 part-argmax-start c = search needs
 
 part-argmax-end : tie.Need-part-argmax-end Inv-loop μ-loop
-part-argmax-end c =
-    let i = c .before in
-    let v = i .before .before in
-    let z = v .before .before .before .before .before .before in
-    sums-room _ _ _ (z .pre .0) _ (going-end _ _ _ (z .pre .0) _ (z .pre .1) _ _ _ (v .loop .inv) (i .if1 .left) .0)
+part-argmax-end c = sums-room _ _ _ (c .before .before .before .before .before .before .before .before .before .pre .0) _ (walked-end (c .before .before .before .loop .inv .0) (c .before .if1 .left))
 
 argmax-requires : tie.Need-argmax-requires Inv-loop μ-loop
-argmax-requires c κs =
-    let i = c .before .before in
-    let v = i .before .before in
-    let z = v .before .before .before .before .before .before in
-    sums-asked _ _ _ (z .pre .0) _ (going-end _ _ _ (z .pre .0) _ (z .pre .1) _ _ _ (v .loop .inv) (i .if1 .left) .0)
+argmax-requires c κs = sums-asked _ _ _ (c .before .before .before .before .before .before .before .before .before .before .pre .0) _ (walked-end (c .before .before .before .before .loop .inv .0) (c .before .before .if1 .left))
 
 same-length : tie.Need-same-length Inv-loop μ-loop
-same-length c =
-    let v = c .before .before .before .before .before in
-    let z = v .before .before .before .before .before .before in
-    going-length _ _ _ (z .pre .0) _ (z .pre .1) _ _ _ (v .loop .inv)
+same-length c = walked-hints _ _ _ _ (c .before .before .before .before .before .loop .inv .1)
 
 returns : tie.Need-returns Inv-loop μ-loop
-returns c =
-    let i = c .before .before .before in
-    let v = i .before .before in
-    let z = v .before .before .before .before .before .before in
-    let done = going-end _ _ _ (z .pre .0) _ (z .pre .1) _ _ _ (v .loop .inv) (i .if1 .left) in
-    (worst-done _ _ _ (z .pre .0) _ (done .0) _ (c .argmax .ensures), done .1)
+returns c = (worst-done _ _ _ (c .before .before .before .before .before .before .before .before .before .before .before .pre .0) _ (walked-end (c .before .before .before .before .before .loop .inv .0) (c .before .before .before .if1 .left)) _ (c .argmax .ensures), walked-end (c .before .before .before .before .before .loop .inv .1) (c .before .before .before .if1 .left))
 
 pub worst-spec : {M : Type 1} → statement M
 worst-spec =

@@ -18,16 +18,28 @@ mul-put-trained : tie.Need-mul-put-trained
 mul-put-trained c = search needs
 
 slice-aggregate-put-trained : tie.Need-slice-aggregate-put-trained
-slice-aggregate-put-trained c = front-long _ _ (c ^pre .0 .tiled)
+slice-aggregate-put-trained c =
+    let after-colours-to = c .before .before in
+    let start = after-colours-to .before .before .before .before .before .before in
+    front-long _ _ (start .pre .0 .tiled)
 
 mul-put-trained-2 : tie.Need-mul-put-trained-2
-mul-put-trained-2 c = omega (arith, c ^colours-to .ensures, c ^pre .0 .few)
+mul-put-trained-2 c =
+    let after-colours-to = c .before .before in
+    let start = after-colours-to .before .before .before .before .before .before in
+    omega (arith, after-colours-to .colours-to .ensures, start .pre .0 .few)
 
 slice-aggregate-put-trained-2 : tie.Need-slice-aggregate-put-trained-2
-slice-aggregate-put-trained-2 c = front-long _ _ (omega (arith, c ^colours-to .ensures, c ^pre .0 .coloured))
+slice-aggregate-put-trained-2 c =
+    let after-colours-to = c .before .before .before in
+    let start = after-colours-to .before .before .before .before .before .before in
+    front-long _ _ (omega (arith, after-colours-to .colours-to .ensures, start .pre .0 .coloured))
 
 slice-aggregate-put-trained-3 : tie.Need-slice-aggregate-put-trained-3
-slice-aggregate-put-trained-3 c = front-long _ _ (omega (arith, c ^colours-to .ensures, c ^pre .0 .counted))
+slice-aggregate-put-trained-3 c =
+    let after-colours-to = c .before .before .before .before in
+    let start = after-colours-to .before .before .before .before .before .before in
+    front-long _ _ (omega (arith, after-colours-to .colours-to .ensures, start .pre .0 .counted))
 
 mul-put-trained-3 : tie.Need-mul-put-trained-3
 mul-put-trained-3 c = search needs
@@ -39,11 +51,19 @@ slice-relend-prefix-put-trained : tie.Need-slice-relend-prefix-put-trained
 slice-relend-prefix-put-trained c = search needs
 
 slice-aggregate-put-trained-4 : tie.Need-slice-aggregate-put-trained-4
-slice-aggregate-put-trained-4 c = front-long _ _ (c ^pre .0 .given)
+slice-aggregate-put-trained-4 c =
+    let after-colours-to = c .before .before .before .before .before .before in
+    let start = after-colours-to .before .before .before .before .before .before in
+    front-long _ _ (start .pre .0 .given)
 
 put-trained-requires : tie.Need-put-trained-requires
 put-trained-requires c κs =
-    (parts-hold (c ^args .z) _ _ _ _ (c ^colours-to .ensures) (λ (J : Job). Writable J (frontPalette (c ^args .z) (c ^args .palette .now))) (c ^pre .0 .writable), c ^pre .1)
+    let after-colours-to = c .before .before .before .before .before .before .before in
+    let start = after-colours-to .before .before .before .before .before .before in
+    let a = start .args in (
+      parts-hold (a .z) _ _ _ _ (after-colours-to .colours-to .ensures) (λ (J : Job). Writable J (frontPalette (a .z) (a .palette .now))) (start .pre .0 .writable),
+      start .pre .1,
+    )
 
 same-length : tie.Need-same-length
 same-length c = search needs
@@ -53,8 +73,16 @@ same-length-2 c = search needs
 
 returns : tie.Need-returns
 returns c =
-    let text = c ^put-trained in
-    (front-holds (c ^args .z) _ _ _ _ (c ^colours-to .ensures) (λ (J : Job). Stored (c ^args .out .now) (text .last .1 .1 .1 .1 .1 .0) 0 (text .result) (jobText J)) (text .ensures .0), text .ensures .1)
+    let after-put-trained = c .before .before .before .before in
+    let after-struct-known = after-put-trained .before .before .before .before .before .before .before in
+    let after-colours-to = after-struct-known .before in
+    let start = after-colours-to .before .before .before .before .before .before in
+    let a = start .args in
+    let text = after-put-trained .put-trained in (
+      front-holds (a .z) _ _ _ _ (after-colours-to .colours-to .ensures) (λ (J : Job). Stored (a .out .now) (text .last .1 .1 .1 .1 .1 .0) 0 (text .result) (jobText J))
+          (text .ensures .0),
+      text .ensures .1,
+    )
 
 pub put-job-spec : {M : Type 1} → statement M
 put-job-spec =

@@ -88,7 +88,8 @@ returns-2 c =
     let past-if1 = after-palette-room .before .before .before .before in
     let line = after-put-refused .put-refused in
     let n = after-n .n .given in
-    told _ _ _ _ _ (past-if1 .if1 .left) (refused-text _ _ (rooms after-palette-room) _ _ (after-read .read .ensures) (λ J p. jobText J) _ _ _ (n .0 .0) (n .1) (line .ensures))
+    told _ _ _ _ _ (past-if1 .if1 .left) (refused-text _ _ (rooms after-palette-room) _ _ (after-read .read .ensures) (λ J p. jobText J) _ _ _ (n .0 .0) (n .1)
+    (line .ensures))
     (omega (arith, line .ensures .place, refused-most (n .0 .0))) (line .kept .0)
 
 same-length-2 : tie.Need-same-length-2
@@ -96,7 +97,7 @@ same-length-2 c = search needs
 
 returns-3 : tie.Need-returns-3
 returns-3 c =
-    let after-put-job = c .before .before in
+    let after-put-job = c .before .before .before in
     let after-z = after-put-job .before .before .before .before .before .before .before in
     let after-read = after-z .before .before .before .before .before .before in
     let after-palette-room = after-read .before .before .before .before .before in

@@ -1,7 +1,6 @@
 -- `turns` meets its contract. The loop's invariant: the memory is what so many turns leave. Assumes nothing.
 use Prim.Native.Nat.{_-_}
 use native.Mathlib.Omega.{arith}
-use Rattle.job.specs.Job.{job}
 use Rattle.quantizer.specs.Course.{courseOf}
 use Rattle.stages.specs.Calls.{memory}
 use Rattle.sheet_parts.proofs.Parts.{front-long}
@@ -14,7 +13,7 @@ Inv-loop z tiles colours counts samples order₀ hints₀ palette₀ least₀ wo
     Turned (courseOf z tiles colours counts samples) passed (memory order₀ hints₀ palette₀ least₀ words₀) (memory order hints palette least words)
 
 abbrev μ-loop : tie.MeasureT-loop
-μ-loop s c t n weight tiles colours counts samples order₀ hints₀ palette₀ least₀ words₀ passed₀ order hints palette least words passed =
+μ-loop z tiles colours counts samples order₀ hints₀ palette₀ least₀ words₀ passed₀ order hints palette least words passed =
     3 - passed
 
 loop-holds : tie.Need-loop-holds Inv-loop μ-loop
@@ -24,25 +23,76 @@ advance-requires : tie.Need-advance-requires Inv-loop μ-loop
 advance-requires c κs = tt
 
 cut-requires : tie.Need-cut-requires Inv-loop μ-loop
-cut-requires c κs = omega (arith, c .before .before .before .before .before .before .before .before .before .before .before .before .before .before .before .before .before .before .before .before .before .before .before .before .before .before .before .before .pre, c .before .before .before .before .before .before .before .before .before .before .before .before .before .before .before .before .before .before .loop .inv .palette, c .before .before .before .before .before .before .before .before .before .before .before .advance .kept .1 .1 .1 .1 .1 .1 .1 .1 .1 .1 .1 .0)
+cut-requires c κs =
+    let after-palette = c .before .before .before .before .before .before in
+    let after-advance = after-palette .before .before .before .before .before in
+    let at-loop = after-advance .before .before .before .before .before .before .before in
+    let lent = at-loop .before .before .before .before .before .before .before in
+    let start = lent .before .before .before in
+    omega (arith, start .pre, at-loop .loop .inv .palette, after-advance .advance .kept .1 .1 .1 .1 .1 .1 .1 .0)
 
 array-share-prefix-reduced : tie.Need-array-share-prefix-reduced Inv-loop μ-loop
-array-share-prefix-reduced c = omega (arith, c .before .before .before .before .before .cut .ensures .0, c .before .before .before .before .before .before .before .before .before .before .before .before .before .before .before .before .before .before .before .before .before .before .before .before .before .before .before .before .before .before .before .before .before .before .pre, c .before .before .before .before .before .before .before .before .before .before .before .before .before .before .before .before .before .before .before .before .before .before .before .before .loop .inv .palette, c .before .before .before .before .before .before .before .before .before .before .before .before .before .before .before .before .before .advance .kept .1 .1 .1 .1 .1 .1 .1 .1 .1 .1 .1 .0)
+array-share-prefix-reduced c =
+    let after-cut = c .before .before .before .before .before in
+    let after-palette = after-cut .before .before .before .before .before .before .before in
+    let after-advance = after-palette .before .before .before .before .before in
+    let at-loop = after-advance .before .before .before .before .before .before .before in
+    let lent = at-loop .before .before .before .before .before .before .before in
+    let start = lent .before .before .before in
+    omega (arith, after-cut .cut .ensures .0, start .pre, at-loop .loop .inv .palette, after-advance .advance .kept .1 .1 .1 .1 .1 .1 .1 .0)
 
 slice-aggregate-hand-in : tie.Need-slice-aggregate-hand-in Inv-loop μ-loop
-slice-aggregate-hand-in c = front-long _ (c .before .before .before .before .before .before .cut .result) (omega (arith, c .before .before .before .before .before .before .cut .ensures .0, c .before .before .before .before .before .before .before .before .before .before .before .before .before .before .before .before .before .before .before .before .before .before .before .before .before .before .before .before .before .before .before .before .before .before .before .pre, c .before .before .before .before .before .before .before .before .before .before .before .before .before .before .before .before .before .before .before .before .before .before .before .before .before .loop .inv .palette, c .before .before .before .before .before .before .before .before .before .before .before .before .before .before .before .before .before .before .advance .kept .1 .1 .1 .1 .1 .1 .1 .1 .1 .1 .1 .0))
+slice-aggregate-hand-in c =
+    let after-cut = c .before .before .before .before .before .before in
+    let after-palette = after-cut .before .before .before .before .before .before .before in
+    let after-advance = after-palette .before .before .before .before .before in
+    let at-loop = after-advance .before .before .before .before .before .before .before in
+    let lent = at-loop .before .before .before .before .before .before .before in
+    let start = lent .before .before .before in
+    front-long _ (after-cut .cut .result) (omega (
+      arith,
+      after-cut .cut .ensures .0,
+      start .pre,
+      at-loop .loop .inv .palette,
+      after-advance .advance .kept .1 .1 .1 .1 .1 .1 .1 .0,
+    ))
 
 hand-in-requires : tie.Need-hand-in-requires Inv-loop μ-loop
 hand-in-requires c κs = tt
 
 add-passed : tie.Need-add-passed Inv-loop μ-loop
-add-passed c = next-fits _ _ _ _ (c .before .before .before .before .before .before .before .before .before .before .before .before .before .before .before .before .before .before .before .before .before .before .before .before .before .before .before .before .before .before .before .before .loop .inv) (c .before .before .before .before .before .before .before .before .before .before .before .before .before .before .before .before .before .before .before .before .before .before .before .before .before .before .before .before .before .before .before .loop-test .taken)
+add-passed c =
+    let after-reduced = c .before .before .before .before .before .before .before in
+    let after-cut = after-reduced .before .before .before .before .before .before in
+    let after-palette = after-cut .before .before .before .before .before .before .before in
+    let after-advance = after-palette .before .before .before .before .before in
+    let after-In-loop = after-advance .before .before .before .before .before .before in
+    let at-loop = after-In-loop .before in
+    next-fits _ _ _ _ (at-loop .loop .inv) (after-In-loop .loop-test .taken)
 
 loop-less : tie.Need-loop-less Inv-loop μ-loop
-loop-less c = nearer _ _ _ _ (c .before .before .before .before .before .before .before .before .before .before .before .before .before .before .before .before .before .before .before .before .before .before .before .before .before .before .before .before .before .before .before .before .loop .inv) (c .before .before .before .before .before .before .before .before .before .before .before .before .before .before .before .before .before .before .before .before .before .before .before .before .before .before .before .before .before .before .before .loop-test .taken)
+loop-less c =
+    let after-reduced = c .before .before .before .before .before .before .before in
+    let after-cut = after-reduced .before .before .before .before .before .before in
+    let after-palette = after-cut .before .before .before .before .before .before .before in
+    let after-advance = after-palette .before .before .before .before .before in
+    let after-In-loop = after-advance .before .before .before .before .before .before in
+    let at-loop = after-In-loop .before in
+    nearer _ _ _ _ (at-loop .loop .inv) (after-In-loop .loop-test .taken)
 
 loop-again : tie.Need-loop-again Inv-loop μ-loop
-loop-again c = one-more _ _ _ _ (c .before .before .before .before .before .before .before .before .before .before .before .before .before .before .before .before .before .before .before .before .before .before .before .before .before .before .before .before .before .before .before .before .loop .inv) (c .before .before .before .before .before .before .before .before .before .before .before .before .before .before .before .before .before .before .before .before .before .before .before .before .before .before .before .before .before .before .before .loop-test .taken) _ _ _ _ _ _ (c .before .before .before .before .before .before .before .before .before .before .before .before .before .before .before .before .before .before .before .before .before .before .before .before .before .advance .ensures) (c .before .before .before .before .before .before .before .before .before .before .before .before .before .cut .ensures .1) (c .before .before .before .before .before .before .hand-in .ensures) (c .before .before .before .before .before .before .before .before .before .before .before .before .before .before .before .before .before .before .before .before .before .before .before .before .before .advance .kept .1 .1 .1 .1 .1 .1 .1 .1 .1 .0) (c .before .before .before .before .before .before .before .before .before .before .before .before .before .before .before .before .before .before .before .before .before .before .before .before .before .advance .kept .1 .1 .1 .1 .1 .1 .1 .1 .1 .1 .0) (c .before .before .before .before .before .before .hand-in .kept .1 .1 .1 .1 .1 .1 .1 .1 .1 .1 .0) (c .before .before .before .before .before .before .before .before .before .before .before .before .before .before .before .before .before .before .before .before .before .before .before .before .before .advance .kept .1 .1 .1 .1 .1 .1 .1 .1 .1 .1 .1 .0) (c .before .before .before .before .before .before .hand-in .kept .1 .1 .1 .1 .1 .1 .1 .1 .1 .1 .1 .0) (c .before .before .before .before .before .before .before .before .before .before .before .before .before .before .before .before .before .before .before .before .before .before .before .before .before .advance .kept .1 .1 .1 .1 .1 .1 .1 .1 .1 .1 .1 .1 .0) (c .before .before .before .before .before .before .before .before .before .before .before .before .before .before .before .before .before .before .before .before .before .before .before .before .before .advance .kept .1 .1 .1 .1 .1 .1 .1 .1 .1 .1 .1 .1 .1 .0) (c .before .before .before .before .before .before .hand-in .kept .1 .1 .1 .1 .1 .1 .1 .1 .1 .1 .1 .1 .1 .0)
+loop-again c =
+    let after-hand-in = c .before .before .before .before .before .before in
+    let after-cut = after-hand-in .before .before .before .before .before .before .before in
+    let after-palette = after-cut .before .before .before .before .before .before .before in
+    let after-advance = after-palette .before .before .before .before .before in
+    let after-In-loop = after-advance .before .before .before .before .before .before in
+    let at-loop = after-In-loop .before in
+    one-more _ _ _ _ (at-loop .loop .inv) (after-In-loop .loop-test .taken) _ _ _ _ _ _ (after-advance .advance .ensures) (after-cut .cut .ensures .1)
+    (after-hand-in .hand-in .ensures) (after-advance .advance .kept .1 .1 .1 .1 .1 .0) (after-advance .advance .kept .1 .1 .1 .1 .1 .1 .0)
+    (after-hand-in .hand-in .kept .1 .1 .1 .1 .1 .1 .0) (after-advance .advance .kept .1 .1 .1 .1 .1 .1 .1 .0) (after-hand-in .hand-in .kept .1 .1 .1 .1 .1 .1 .1 .0)
+    (after-advance .advance .kept .1 .1 .1 .1 .1 .1 .1 .1 .0) (after-advance .advance .kept .1 .1 .1 .1 .1 .1 .1 .1 .1 .0)
+    (after-hand-in .hand-in .kept .1 .1 .1 .1 .1 .1 .1 .1 .1 .0)
 
 same-length : tie.Need-same-length Inv-loop μ-loop
 same-length c = c .before .loop .inv .order
