@@ -12,7 +12,7 @@ use Rattle.lists.proofs.Tests.{and-i}
 use Rattle.job.specs.Job.{Job, tileSize, mostSamples, two}
 use Rattle.job.specs.Rules.{Passed, numbered}
 use Rattle.job.proofs.Passing.{all-pass, pass-all}
-use Rattle.job.specs.Checks.{tileSized, componentsFit, sampleTest, sampleFits, samplesFit, tables, nearRules, placeRules, plainRules, plainAnswer}
+use Rattle.job.specs.Checks.{tileSized, componentsFit, sampleTest, sampleFits, samplesFit, tables, boundRules, placeRules, plainRules, plainAnswer}
 use Rattle.job.specs.Gives.{Ready}
 use Rattle.job.proofs.Ready.{plain-ready}
 use Rattle.job.proofs.Tiles.{counts-length, counts-placed}
@@ -53,7 +53,7 @@ module _ (J : Job) (p : List Float) (h : plainAnswer J p true ≡ 0) where
   repainted x long fit =
       let q = passed .1 .1 .1 .1 in
       let r = q .1 .1 .1 .1 in
-      let near : Passed (tables J ++ nearRules x (J .colours)) = (r .0, (r .1 .0, (r .1 .1 .0, (r .1 .1 .1 .0, (fit, (r .1 .1 .1 .1 .1 .0, tt)))))) in
+      let near : Passed (tables J ++ boundRules x (J .colours)) = (r .0, (r .1 .0, (r .1 .1 .0, (r .1 .1 .1 .0, (fit, (r .1 .1 .1 .1 .1 .0, tt)))))) in
       sym (pass-all (plainRules J x true)
       (passed .0, (passed .1 .0, (passed .1 .1 .0, (passed .1 .1 .1 .0, (q .0, (q .1 .0, (eq-eqb (length x) (3 * (J .S * J .C)) long, (refl, near)))))))))
 
