@@ -45,7 +45,7 @@ pub fn best_two(
     ensures { λ r. ⌜ (r ≡ bestTwo (paletteWith (now (pal .entry)) c have n) (tileWith (now (tile .entry)) (now (counts .entry))) w) × (now (hints .exit) ≡ set (now (hints .entry)) t (r .index)) ⌝ }
 {
     let hint = palette::least(hints[t] as usize, n - 1);
-    let two = palette_two::best_two_from(pal, c, have, n, tile, counts, w, hint);
+    let two = palette_two_fit::best_two_from(pal, c, have, n, tile, counts, w, hint);
     let winner = two.index;
     hints[t] = winner as u32;
     two

@@ -1,4 +1,4 @@
--- `palette_two::best_two_from` meets its contract. The loop's invariant: b is where the walk from the hint stands before i. Assumes nothing.
+-- `palette_two_fit::best_two_from` meets its contract. The loop's invariant: b is where the walk from the hint stands before i. Assumes nothing.
 use Prim.Native.Nat.{_≤_, _-_}
 use mathlib.Core.Path.{refl, sym, _∙_}
 use native.Mathlib.Omega.{arith}
@@ -7,9 +7,9 @@ use lib.Ieee.{ofBits, div}
 use Rattle.stats.proofs.Runner.{Runner}
 use Rattle.palette.specs.Palette.{paletteWith, tileWith, distAt}
 use Rattle.palette.proofs.Parts.{part-asks, sub-measured}
-use Rattle.palette_two.proofs.Turns.{turn-start, turn-skips, turn-walks, turn-over, turn-weighs, turn-end}
-use Rattle.palette_two.proofs.best_two_from.Statement.{statement}
-use Rattle.palette_two.proofs.best_two_from.Tie as tie
+use Rattle.palette_two_fit.proofs.Turns.{turn-start, turn-skips, turn-walks, turn-over, turn-weighs, turn-end}
+use Rattle.palette_two_fit.proofs.best_two_from.Statement.{statement}
+use Rattle.palette_two_fit.proofs.best_two_from.Tie as tie
 
 abbrev Inv-loop : tie.InvT-loop
 Inv-loop pal c have n tile counts w hint first b₀ i₀ b i = (i ≤ n) × Runner (distAt (paletteWith pal c have n) (tileWith tile counts) w) n hint i b
