@@ -30,7 +30,11 @@ enum-known-f : tie.Need-enum-known-f Inv-loop μ-loop
 enum-known-f c = c .match .keys1
 
 returns : tie.Need-returns Inv-loop μ-loop
-returns c = turn-fault (tile edition1) (c .before .before .before .before .before .before .before .args .s .now) (c .before .before .before .before .before .before .before .args .t) (c .before .before .before .before .before .loop .i) (c .before .before .before .before .before .loop .q) _ (c .before .before .before .before .before .loop .inv .2) (c .before .f .given .0 .0) (omega arith) (step-fault (bits (c .before .before .before .before .before .before .before .args .s .now)) _ (c .before .f .given .0 .0) (sym (c .before .f .given .1) ∙ c .before .before .before .one-tile .ensures))
+returns c =
+    let after-f = c .before in let after-one-tile = after-f .before .before in let at-loop = after-one-tile .before .before in
+    let start = at-loop .before .before in let turn = at-loop .loop in let a = start .args in
+    turn-fault (tile edition1) (a .s .now) (a .t) (turn .i) (turn .q) _ (turn .inv .2) (after-f .f .given .0 .0) (omega arith)
+    (step-fault (bits (a .s .now)) _ (after-f .f .given .0 .0) (sym (after-f .f .given .1) ∙ after-one-tile .one-tile .ensures))
 
 enum-known-z : tie.Need-enum-known-z Inv-loop μ-loop
 enum-known-z c = c .match .keys2
@@ -54,7 +58,9 @@ loop-again : tie.Need-loop-again Inv-loop μ-loop
 loop-again c = again c
 
 returns-2 : tie.Need-returns-2 Inv-loop μ-loop
-returns-2 c = turn-end (tile edition1) (c .before .before .before .args .s .now) (c .before .before .before .args .t) (c .before .loop .i) (c .before .loop .q) _ (c .before .loop .inv .2) (omega arith) (omega arith)
+returns-2 c =
+    let at-loop = c .before in let start = at-loop .before .before in let turn = at-loop .loop in let a = start .args in
+    turn-end (tile edition1) (a .s .now) (a .t) (turn .i) (turn .q) _ (turn .inv .2) (omega arith) (omega arith)
 
 pub all-tiles-spec : {M : Type 1} → statement M
 all-tiles-spec =
