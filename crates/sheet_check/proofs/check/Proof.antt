@@ -24,16 +24,23 @@ enum-known-subs : tie.Need-enum-known-subs
 enum-known-subs c = search needs
 
 -- the head that was read
-headed : (c : tie.After-known-told2) → Headed (c .before .before .before .before .before .before .args .s .now) (c .before .subs .given .0 .0) (c .before .subs .given .0 .1 .0) (c .before .subs .given .0 .1 .1 .0) (c .before .subs .given .0 .1 .1 .1 .0)
+headed : (c : tie.After-known-told2) →
+    let found = c .before .subs .given .0 in
+    Headed (c .before .before .before .before .before .before .args .s .now) (found .0) (found .1 .0) (found .1 .1 .0) (found .1 .1 .1 .0)
 headed c =
-    headed-of (c .before .before .before .before .before .before .args .s .now) (c .before .subs .given .0 .0) (c .before .subs .given .0 .1 .0) (c .before .subs .given .0 .1 .1 .0) (c .before .subs .given .0 .1 .1 .1 .0)
-    (sym (c .before .subs .given .1) ∙ c .before .before .before .head .ensures)
+    let found = c .before .subs .given in
+    headed-of _ (found .0 .0) (found .0 .1 .0) (found .0 .1 .1 .0) (found .0 .1 .1 .1 .0) (sym (found .1) ∙ c .before .before .before .head .ensures)
 
 -- and the palette and the tiles behind it
-parted : (c : tie.After-known-told4) → Parted (c .before .before .before .before .before .before .before .before .before .before .args .s .now) (3 * (c .before .before .before .before .before .subs .given .0 .0 * c .before .before .before .before .before .subs .given .0 .1 .0)) (c .before .before .before .before .before .subs .given .0 .1 .1 .0) (c .before .z .given .0 .0)
+parted : (c : tie.After-known-told4) →
+    let after-subs = c .before .before .before .before .before in
+    let found = after-subs .subs .given .0 in
+    Parted (after-subs .before .before .before .before .before .args .s .now) (3 * (found .0 * found .1 .0)) (found .1 .1 .0) (c .before .z .given .0 .0)
 parted c =
-    parted-of (c .before .before .before .before .before .before .before .before .before .before .args .s .now) (3 * (c .before .before .before .before .before .subs .given .0 .0 * c .before .before .before .before .before .subs .given .0 .1 .0)) (c .before .before .before .before .before .subs .given .0 .1 .1 .0) (c .before .z .given .0 .0)
-    (headed (c .before .before .before .before) .long) (sym (c .before .z .given .1) ∙ c .before .before .before .palette-then-tiles .ensures)
+    let z = c .before .z .given in
+    let found = c .before .before .before .before .before .subs .given .0 in
+    parted-of _ (3 * (found .0 * found .1 .0)) (found .1 .1 .0) (z .0 .0) (headed (c .before .before .before .before) .long)
+    (sym (z .1) ∙ c .before .before .before .palette-then-tiles .ensures)
 
 mul-n : tie.Need-mul-n
 mul-n c = omega (arith, headed c .cells)

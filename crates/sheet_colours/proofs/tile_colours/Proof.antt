@@ -87,14 +87,22 @@ add-i c = omega arith
 loop-less : tie.Need-loop-less Inv-loop μ-loop
 loop-less c = omega arith
 
-again : (c : tie.After-known-told2 Inv-loop μ-loop) → Inv-loop (c .before .before .before .before .before .before .before .before .before .before .args .s .now) (c .before .before .before .before .before .before .before .before .before .before .args .p) (c .before .before .before .before .before .before .before .before .before .before .args .n) 0 0 0 0 (c .before .z .given .0 .0) (c .before .before .before .before .before .before .before .before .loop .sum + (c .before .before .before .before .before .get .result + 1)) (c .before .before .before .before .before .before .before .before .loop .i + 1)
+again : (c : tie.After-known-told2 Inv-loop μ-loop) →
+    let after-get = c .before .before .before .before .before in let at-loop = after-get .before .before .before in
+    let a = at-loop .before .before .args in let turn = at-loop .loop in
+    Inv-loop (a .s .now) (a .p) (a .n) 0 0 0 0 (c .before .z .given .0 .0) (turn .sum + (after-get .get .result + 1)) (turn .i + 1)
 again c =
+    let after-get = c .before .before .before .before .before in let at-loop = after-get .before .before .before in
+    let a = at-loop .before .before .args in let turn = at-loop .loop in
     let z : ℕ = c .before .z .given .0 .0 in
-    let x = step-at (times 3 component) (times-lawful 3 component component-lawful) (bits (c .before .before .before .before .before .before .before .before .before .before .args .s .now)) (c .before .before .before .before .before .before .before .before .loop .q + 6) (rw length-bits (omega arith)) z (sym (c .before .z .given .1) ∙ c .before .before .before .components .ensures) in (
+    let found = sym (c .before .z .given .1) ∙ c .before .before .before .components .ensures in
+    let x = step-at (times 3 component) (times-lawful 3 component component-lawful) (bits (a .s .now)) (turn .q + 6) (rw length-bits (omega arith)) z found in
+    let count = after-get .get .result in
+    let entry = entry-read edition1 (a .s .now) (turn .q) (turn .sum) count _ (omega arith) (after-get .get .ensures) (omega arith) (x .1) in (
       omega arith,
-      omega (arith, x .2, length-bits (c .before .before .before .before .before .before .before .before .before .before .args .s .now)),
+      omega (arith, x .2, length-bits (a .s .now)),
       omega arith,
-      colours-got edition1 (c .before .before .before .before .before .before .before .before .before .before .args .s .now) (c .before .before .before .before .before .before .before .before .before .before .args .n) (c .before .before .before .before .before .before .before .before .loop .i) (c .before .before .before .before .before .before .before .before .loop .q) (c .before .before .before .before .before .before .before .before .loop .sum) _ (c .before .before .before .before .before .before .before .before .loop .inv .3) (c .before .before .before .before .before .get .result + 1, x .0) z (omega arith) (entry-read edition1 (c .before .before .before .before .before .before .before .before .before .before .args .s .now) (c .before .before .before .before .before .before .before .before .loop .q) (c .before .before .before .before .before .before .before .before .loop .sum) (c .before .before .before .before .before .get .result) _ (omega arith) (c .before .before .before .before .before .get .ensures) (omega arith) (x .1)),
+      colours-got edition1 (a .s .now) (a .n) (turn .i) (turn .q) (turn .sum) _ (turn .inv .3) (count + 1, x .0) z (omega arith) entry,
     )
 
 loop-again : tie.Need-loop-again Inv-loop μ-loop

@@ -25,8 +25,13 @@ enum-known-f c = search needs
 enum-known-q : tie.Need-enum-known-q
 enum-known-q c = search needs
 
-abbrev reading : (c : tie.After-known-told2) → (a : List ℕ) × (times (c .before .before .before .before .before .args .n) component .parse (drop (c .before .before .before .before .before .args .p) (bits (c .before .before .before .before .before .args .s .now))) ≡ got a (drop (c .before .q .given .0 .0) (bits (c .before .before .before .before .before .args .s .now)))) × (c .before .q .given .0 .0 ≤ length (bits (c .before .before .before .before .before .args .s .now)))
-reading c = step-at (times (c .before .before .before .before .before .args .n) component) (times-lawful (c .before .before .before .before .before .args .n) component component-lawful) (bits (c .before .before .before .before .before .args .s .now)) (c .before .before .before .before .before .args .p) (rw length-bits (omega arith)) (c .before .q .given .0 .0) (sym (c .before .q .given .1) ∙ c .before .before .before .components .ensures)
+abbrev reading : (c : tie.After-known-told2) →
+    let a = c .before .before .before .before .before .args in let q = c .before .q .given .0 .0 in
+    (x : List ℕ) × (times (a .n) component .parse (drop (a .p) (bits (a .s .now))) ≡ got x (drop q (bits (a .s .now)))) × (q ≤ length (bits (a .s .now)))
+reading c =
+    let a = c .before .before .before .before .before .args in let q = c .before .q .given in
+    step-at (times (a .n) component) (times-lawful (a .n) component component-lawful) (bits (a .s .now)) (a .p) (rw length-bits (omega arith)) (q .0 .0)
+    (sym (q .1) ∙ c .before .before .before .components .ensures)
 
 all-tiles-requires : tie.Need-all-tiles-requires
 all-tiles-requires c κs = omega (arith, reading c .2, length-bits (c .before .before .before .before .before .args .s .now))
