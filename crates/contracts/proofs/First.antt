@@ -1,6 +1,5 @@
 -- The functions keep the first demand, and so do their exports. Assumes nothing.
 use Prim.Native.Nat.{ℕ}
-use mathlib.Core.Path.{refl}
 use mathlib.Core.List.{List}
 use lib.ListN.{length}
 use lib.Ieee.{Float}
@@ -12,7 +11,6 @@ use Rattle.assign.specs.Assign.{roomFor, assignDef}
 use Rattle.quantizer.specs.Course.{Course}
 use Rattle.stages.specs.Calls.{Memory, startCall, advanceCall, handInCall, resultCall}
 use Rattle.dunkafeto.specs.Told.{toldRun, toldColours, toldTiles}
-use Rattle.dunkafeto.proofs.Forwards.{run-told, colours-told, tiles-told}
 use Rattle.dunkafeto.proofs.Apart.{start-apart, advance-apart, hand-in-apart, result-apart, assign-apart}
 use Rattle.demands.specs.First.{startRules, advanceRules, handInRules, resultRules}
 use Rattle.demands.proofs.First.{first-demand}
@@ -28,7 +26,7 @@ use Rattle.contracts.specs.Read as read
 use Rattle.contracts.specs.Write as write
 use Rattle.contracts.specs.Answers.{Tells}
 use Rattle.contracts.specs.Contracts.{First-kept, First-told}
-use Rattle.contracts.proofs.Keeps.{keeps, answers, tells}
+use Rattle.contracts.proofs.Keeps.{keeps, answers, alone, tells}
 use Rattle.contracts.proofs.Contracts.{contracts, exports}
 
 pub first-kept : First-kept
@@ -69,20 +67,20 @@ first-kept =
 -- what is told of each definition, over plain arguments
 module _ (K : Course) (m : Memory) where
   start-tells : (seed : ℕ) → Tells Memory (answer (startRules K m)) m (toldRun (startCall K m seed))
-  start-tells seed = tells (first-demand .start K m seed .call) toldRun m (start-apart K m seed .low) (run-told _ _ _ refl)
+  start-tells seed = tells (first-demand .start K m seed .call) toldRun m (start-apart K m seed .low) (unfold toldRun in alone _ m)
 
   advance-tells : (a : ℕ) → Tells Memory (answer (advanceRules K m)) m (toldRun (advanceCall K m a))
-  advance-tells a = tells (first-demand .advance K m a .call) toldRun m (advance-apart K m a .low) (run-told _ _ _ refl)
+  advance-tells a = tells (first-demand .advance K m a .call) toldRun m (advance-apart K m a .low) (unfold toldRun in alone _ m)
 
   hand-in-tells : (reduced : List Float) → Tells Memory (answer (handInRules K m reduced)) m (toldRun (handInCall K m reduced))
-  hand-in-tells reduced = tells (first-demand .hand-in K m reduced .call) toldRun m (hand-in-apart K m reduced .low) (run-told _ _ _ refl)
+  hand-in-tells reduced = tells (first-demand .hand-in K m reduced .call) toldRun m (hand-in-apart K m reduced .low) (unfold toldRun in alone _ m)
 
   result-tells : (out : List Float) → Tells (List Float) (answer (resultRules K m out)) out (toldColours (resultCall K m out))
-  result-tells out = tells (first-demand .result K m out .call) toldColours out (result-apart K m out .low) (colours-told _ _ _ refl)
+  result-tells out = tells (first-demand .result K m out .call) toldColours out (result-apart K m out .low) (unfold toldColours in alone _ out)
 
 assign-tells : (J : Job) (palette : List Float) (h : Held)
     → Tells Held (answer (plainRules J palette (roomFor (J .T) (length (h .hints)) (length (h .out))))) h (toldTiles (assignDef J palette h))
-assign-tells J palette h = tells (first-demand .assign J palette h .call) toldTiles h (assign-apart J palette h .low) (tiles-told _ _ _ refl)
+assign-tells J palette h = tells (first-demand .assign J palette h .call) toldTiles h (assign-apart J palette h .low) (unfold toldTiles in alone _ h)
 
 pub first-told : First-told
 first-told =

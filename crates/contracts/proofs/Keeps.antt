@@ -1,6 +1,7 @@
 -- A function whose caller sees what is defined keeps every law of what is defined. Assumes nothing.
 use Prim.Native.Nat.{ℕ, _%_}
 use mathlib.Core.Path.{_≡_, sym, ap, subst⁻¹, _∙_}
+use native.Mathlib.Nat.{zero-add}
 use contract.Lifetimes.{Lfts}
 use contract.Monad.{fact-mono, fm→mono}
 use contract.Running.{givenOf}
@@ -8,7 +9,7 @@ use denote.Triple.Entry.{Args}
 use denote.Triple.Clauses.{atExit}
 use denote.Triple.Table.{run-framed}
 use denote.Triple.Weaken.{weaken}
-use Rattle.told.specs.Packed.{Told, told}
+use Rattle.told.specs.Packed.{packed, Told, told}
 use Rattle.demands.specs.Calls.{Call}
 use Rattle.contracts.specs.Answers.{Answers, Tells}
 use Rattle.contracts.specs.Keeps.{Compiled, Defined, Law, promising, Keeps, Sees}
@@ -22,6 +23,10 @@ module _ {O : Type 0} (f : Compiled O) (defined : Defined f) (P : Law f) where
       fact-mono 𝓤 (x ≡ defined κs a) (P κs a x) (λ e. subst⁻¹ (P κs a) e (law κs a)))
       (𝓡 .run (f .code)) (λ vs. fm→mono 𝓤 (𝓡 .run (f .code) vs) (run-framed 𝓤 H 𝓜 𝓡 (f .code) vs)) (met M 𝓤 H 𝓜 𝓖 𝓡)
 
+-- with no draws the number is the answer
+pub alone : {A : Type 0} (k : ℕ) (lent : A) → told k lent ≡ told (packed k 0) lent
+alone k lent = ap (λ (n : ℕ). told n lent) (sym (zero-add k))
+
 -- the first demand of a definition is one of what its caller sees
 module _ {O : Type 0} {definition : O} {number : O → ℕ} {table : ℕ} {refusal : ℕ → O} (c : Call O definition number table refusal) where
   pub answers : Answers O number table refusal definition
@@ -29,4 +34,4 @@ module _ {O : Type 0} {definition : O} {number : O → ℕ} {table : ℕ} {refus
 
   -- and of what an export tells of it: where the number is the remainder, and what is told of a refusal its number alone
   pub tells : {A : Type 0} (tell : O → Told A) (lent : A) → tell definition .answer % 256 ≡ number definition → told table lent ≡ tell (refusal table) → Tells A table lent (tell definition)
-  tells tell lent low alone = record { numbered = low ∙ c .numbers; refuses = λ h. ap tell (c .refuses h) ∙ sym alone }
+  tells tell lent low refused = record { numbered = low ∙ c .numbers; refuses = λ h. ap tell (c .refuses h) ∙ sym refused }

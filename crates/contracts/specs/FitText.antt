@@ -1,8 +1,6 @@
 -- What the program `fit` prints for the bytes of a sheet: what its text function is given, what its caller sees, what is defined of it.
 -- Definitions only. Assumes nothing.
-use Prim.Native.Nat.{ℕ}
 use mathlib.Core.Path.{_≡_}
-use mathlib.Core.List.{List}
 use contract.Lifetimes.{Lfts}
 use denote.Ref.{now}
 use denote.Triple.Entry.{Args, Res}

@@ -1,10 +1,10 @@
 -- The examples marked P, as one table. Assumes nothing.
-use Prim.Native.Nat.{ℕ, _+_, _*_, _/_, _≤_, _<_}
+use Prim.Native.Nat.{ℕ, _+_, _*_, _/_}
 use mathlib.Core.Path.{_≡_, refl, ap, subst⁻¹, _∙_}
 use mathlib.Core.List.{List, [], _∷_}
 use native.Mathlib.Omega.{arith}
 use lib.ListN.{length, getD}
-use lib.Dec.{lit≤, lit<}
+use lib.Dec.{lit<}
 use lib.Ieee.{ofBits, neg, le, lt, eq}
 use Rattle.lists.specs.Every.{every, sum}
 use Rattle.lists.specs.Count.{count}

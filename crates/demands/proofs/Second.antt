@@ -1,5 +1,4 @@
 -- The second demand, put together. Assumes nothing.
-use Prim.Native.Nat.{ℕ, _≤_}
 use Rattle.demands.specs.Second.{Second}
 use Rattle.demands.proofs.Fits.{single-fits, both-fit, assigns}
 use Rattle.demands.proofs.Draws.{tiles-chosen, draw-moves, advance-moves, advance-many, one-moves}

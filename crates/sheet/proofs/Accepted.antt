@@ -95,4 +95,5 @@ module _ (s : List ℕ) where
           let eb : z .0 .1 .0 ≡ b = ap (λ (o : Sheet). o .each) same ∙ sym (k .1) in
           let et : z .0 .1 .1 .0 ≡ t = ap (λ (o : Sheet). o .tiles) same ∙ sym (k .2) in
           let ew : z .0 .1 .1 .1 ≡ w = ap (λ (o : Sheet). o .weight) same ∙ sym (k .3) in
-          subst (λ (o : ℕ). Accepted s a b t o) ew (subst (λ (o : ℕ). Accepted s a b o (z .0 .1 .1 .1)) et (subst (λ (o : ℕ). Accepted s a o (z .0 .1 .1 .0) (z .0 .1 .1 .1)) eb (subst (λ (o : ℕ). Accepted s o (z .0 .1 .0) (z .0 .1 .1 .0) (z .0 .1 .1 .1)) ea A)))
+          subst (λ (o : ℕ). Accepted s a b t o) ew (subst (λ (o : ℕ). Accepted s a b o (z .0 .1 .1 .1)) et
+          (subst (λ (o : ℕ). Accepted s a o (z .0 .1 .1 .0) (z .0 .1 .1 .1)) eb (subst (λ (o : ℕ). Accepted s o (z .0 .1 .0) (z .0 .1 .1 .0) (z .0 .1 .1 .1)) ea A)))

@@ -125,7 +125,8 @@ module _ (J : Job) (palette : List Float) (old : List ℕ) (n : ℕ) (new : List
       ap (λ (b : Bool). readInto (cond b (readSheet edition1 (take n new)) (refused 3)) h) r
       ∙ ap (λ (b : List ℕ). readInto (readSheet edition1 b) h) front
       ∙ ap (λ (a : Answer Sheet). readInto a h) (read-written (sheetOf J palette) g (W .small))
-      ∙ ap₂ {C = ReadOutcome} (λ K p. readOutcome (reading.Sheet (sizesOf (K .S) (K .C) (K .T) 0 (K .weight))) (room (sets (h .tiles) 0 (K .tiles)) (sets (h .colours) 0 (K .colours)) (sets (h .counts) 0 (K .counts)) (sets (h .palette) 0 p)))
+      ∙ ap₂ {C = ReadOutcome} (λ K p. readOutcome (reading.Sheet (sizesOf (K .S) (K .C) (K .T) 0 (K .weight)))
+      (room (sets (h .tiles) 0 (K .tiles)) (sets (h .colours) 0 (K .colours)) (sets (h .counts) 0 (K .counts)) (sets (h .palette) 0 p)))
       (job-back J (P .ready) sized Fc Fw palette (P .lent) Fp) (palette-back J (P .ready) sized Fc Fw palette (P .lent) Fp)
 
 -- ---- read, then written
@@ -137,7 +138,8 @@ write-back b x h e old room =
     let A = accepted-job b x h e in
     let r = written-read b x h e in
     let file : encode (sheet edition1) (sheetOf (jobIn x) (floats (x .palette))) ≡ b = ap (encode (sheet edition1)) (sheet-again x (r .1)) ∙ r .0 in
-    ap (λ (t : Bool). cond t (storedIn (encode (sheet edition1) (sheetOf (jobIn x) (floats (x .palette)))) old) (writeOutcome (Refused (plainAnswer (jobIn x) (floats (x .palette)) true)) old)) (eq-eqb (plainAnswer (jobIn x) (floats (x .palette)) true) 0 A)
+    ap (λ (t : Bool). cond t (storedIn (encode (sheet edition1) (sheetOf (jobIn x) (floats (x .palette)))) old) (writeOutcome (Refused (plainAnswer (jobIn x) (floats (x .palette)) true)) old))
+    (eq-eqb (plainAnswer (jobIn x) (floats (x .palette)) true) 0 A)
     ∙ ap (λ (l : List ℕ). storedIn l old) file
     ∙ ap (λ (t : Bool). cond t (cond (leb (length b) (length old)) (writeOutcome (Bytes (length b)) (sets old 0 b)) (writeOutcome (Refused 3) old)) (writeOutcome (Refused 13) old)) (le-leb (length b) 65536 (within-limit b x e .0))
     ∙ ap (λ (t : Bool). cond t (writeOutcome (Bytes (length b)) (sets old 0 b)) (writeOutcome (Refused 3) old)) (le-leb (length b) (length old) room)

@@ -18,7 +18,8 @@ use Rattle.ieee.specs.Terms.{zeroF, Within}
 use Rattle.color.specs.Color.{Bounded}
 use Rattle.format.specs.Format.{above, times}
 use Rattle.format.proofs.Tests.{and-l, and-r}
-use Rattle.job.specs.Checks.{firstNot, tileSized, among, within, weightFits, tileTest, tileFits, tilesFit, countTest, countFits, partFits, tileCountsFit, countsFit, componentFits, firstBad, componentsFit, boundRules, tables, plainRules, plainAnswer}
+use Rattle.job.specs.Checks.{firstNot, tileSized, among, within, weightFits, tileTest, tileFits, tilesFit, countTest, countFits, partFits, tileCountsFit, countsFit, componentFits, firstBad, componentsFit}
+use Rattle.job.specs.Checks.{boundRules, tables, plainRules, plainAnswer}
 use Rattle.job.specs.Rules.{Passed}
 use Rattle.job.proofs.First.{first-none}
 use Rattle.job.proofs.Passing.{pass-all}
@@ -160,7 +161,8 @@ module _ (tb : List ℕ) (f : List Float) (cs : List ℕ) where
   tile-at (suc j) (suc m) i k (x ∷ v) h et ec ef l =
       let g = and-l (tile edition1 .good x) (times m (tile edition1) .good v) h in
       let z : i + suc j ≡ suc i + j = omega arith in
-      let r = tile-at j m (suc i) (k + length x) v (and-r (tile edition1 .good x) (times m (tile edition1) .good v) h) (table-left tb f cs i k x v g et ec ef) (counts-left tb f cs i k x v g et ec ef) (colours-left tb f cs i k x v g et ec ef) (omega arith) in
+      let r = tile-at j m (suc i) (k + length x) v (and-r (tile edition1 .good x) (times m (tile edition1) .good v) h)
+      (table-left tb f cs i k x v g et ec ef) (counts-left tb f cs i k x v g et ec ef) (colours-left tb f cs i k x v g et ec ef) (omega arith) in
       (ap (countsPart tb cs) z ∙ r .0, r .1)
 
 -- ---- all tiles
@@ -219,7 +221,8 @@ taken x h fit =
     let at = tile-at (tableOf 0 v) (allFloats v) (allCounts v) in
     let few : (i : ℕ) → i < x .tiles → length (getD v i []) ≤ 64 = λ i l.
     let g = at i (x .tiles) 0 0 v (content-good x h) refl refl refl l .1 in
-    leb→le (length (getD v i [])) 64 (and-r (ltb (length (getD v i [])) (2 ^ 7)) (leb (length (getD v i [])) 64) (and-l (ltb (length (getD v i [])) (2 ^ 7) && leb (length (getD v i [])) 64) (colours edition1 (length (getD v i [])) 0 .good (getD v i [])) g)) in
+    let many : ℕ = length (getD v i []) in
+    leb→le many 64 (and-r (ltb many (2 ^ 7)) (leb many 64) (and-l (ltb many (2 ^ 7) && leb many 64) (colours edition1 many 0 .good (getD v i [])) g)) in
     let parts-fit : every (tileCountsFit tileSize (tableOf 0 v) (allCounts v)) (x .tiles) ≡ true =
     every-all (tileCountsFit tileSize (tableOf 0 v) (allCounts v)) (x .tiles) λ i l.
     let z : 0 + i ≡ i = omega arith in

@@ -19,7 +19,8 @@ pub fn read(
     counts: &mut [u32],
     palette: &mut [f32],
 ) -> Reading
-    ensures { λ r. ⌜ readOutcome r (room (now (tiles .exit)) (now (colours .exit)) (now (counts .exit)) (now (palette .exit))) ≡ readDef (now (bytes .entry)) (room (now (tiles .entry)) (now (colours .entry)) (now (counts .entry)) (now (palette .entry))) ⌝ }
+    ensures { λ r. ⌜ readOutcome r (room (now (tiles .exit)) (now (colours .exit)) (now (counts .exit)) (now (palette .exit)))
+        ≡ readDef (now (bytes .entry)) (room (now (tiles .entry)) (now (colours .entry)) (now (counts .entry)) (now (palette .entry))) ⌝ }
 {
     if !sheet_room::has_room(tiles.len(), colours.len(), counts.len(), palette.len()) {
         return Reading::Refused(3);
@@ -63,7 +64,8 @@ pub fn write(
     palette: &[f32],
     dst: &mut [u8],
 ) -> Writing
-    ensures { λ r. ⌜ writeOutcome r (now (dst .exit)) ≡ writeDef (jobOf z (now (tiles .entry)) (now (colours .entry)) (now (counts .entry))) (now (palette .entry)) (now (dst .entry)) ⌝ }
+    ensures { λ r. ⌜ writeOutcome r (now (dst .exit))
+        ≡ writeDef (jobOf z (now (tiles .entry)) (now (colours .entry)) (now (counts .entry))) (now (palette .entry)) (now (dst .entry)) ⌝ }
 {
     let number = job_check::check_job(z, tiles, colours, counts, palette, true);
     if number != 0 {

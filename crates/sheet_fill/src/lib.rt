@@ -18,8 +18,12 @@ pub fn fill_tiles(
     counts: &mut [u32],
     parts: &mut [f32],
 )
-    requires { ⌜ (length (now s) ≤ 65536) × (2 * t ≤ length (now table)) × (total (listAt (times t (tile edition1)) (now s) p) ≤ length (now counts)) × (3 * total (listAt (times t (tile edition1)) (now s) p) ≤ length (now parts)) × (total (listAt (times t (tile edition1)) (now s) p) ≤ 65536) × Reads (times t (tile edition1)) (now s) p ⌝ }
-    ensures { λ r. ⌜ (now (table .exit) ≡ sets (now (table .entry)) 0 (tableOf 0 (listAt (times t (tile edition1)) (now (s .entry)) p))) × (now (counts .exit) ≡ sets (now (counts .entry)) 0 (allCounts (listAt (times t (tile edition1)) (now (s .entry)) p))) × (now (parts .exit) ≡ sets (now (parts .entry)) 0 (allFloats (listAt (times t (tile edition1)) (now (s .entry)) p))) ⌝ }
+    requires { ⌜ (length (now s) ≤ 65536) × (2 * t ≤ length (now table)) × (total (listAt (times t (tile edition1)) (now s) p) ≤ length (now counts))
+        × (3 * total (listAt (times t (tile edition1)) (now s) p) ≤ length (now parts)) × (total (listAt (times t (tile edition1)) (now s) p) ≤ 65536)
+        × Reads (times t (tile edition1)) (now s) p ⌝ }
+    ensures { λ r. ⌜ (now (table .exit) ≡ sets (now (table .entry)) 0 (tableOf 0 (listAt (times t (tile edition1)) (now (s .entry)) p)))
+        × (now (counts .exit) ≡ sets (now (counts .entry)) 0 (allCounts (listAt (times t (tile edition1)) (now (s .entry)) p)))
+        × (now (parts .exit) ≡ sets (now (parts .entry)) 0 (allFloats (listAt (times t (tile edition1)) (now (s .entry)) p))) ⌝ }
 {
     let mut q = p;
     let mut k = 0;

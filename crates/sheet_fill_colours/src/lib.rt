@@ -27,7 +27,8 @@ pub fn fill_components(s: &[u8], p: usize, n: usize, dst: &mut [f32], at: usize)
 // The n colours of a tile from bit p into the places from k.
 pub fn fill_colours(s: &[u8], p: usize, n: usize, counts: &mut [u32], parts: &mut [f32], k: usize)
     requires { ⌜ (length (now s) ≤ 65536) × (k + n ≤ length (now counts)) × (3 * (k + n) ≤ length (now parts)) × Reads (colours edition1 n 0) (now s) p ⌝ }
-    ensures { λ r. ⌜ (now (counts .exit) ≡ sets (now (counts .entry)) k (tileCounts (listAt (colours edition1 n 0) (now (s .entry)) p))) × (now (parts .exit) ≡ sets (now (parts .entry)) (3 * k) (tileFloats (listAt (colours edition1 n 0) (now (s .entry)) p))) ⌝ }
+    ensures { λ r. ⌜ (now (counts .exit) ≡ sets (now (counts .entry)) k (tileCounts (listAt (colours edition1 n 0) (now (s .entry)) p)))
+        × (now (parts .exit) ≡ sets (now (parts .entry)) (3 * k) (tileFloats (listAt (colours edition1 n 0) (now (s .entry)) p))) ⌝ }
 {
     let mut q = p;
     let mut i = 0;

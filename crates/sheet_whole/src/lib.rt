@@ -23,8 +23,10 @@ pub fn pack_sheet(
     dst: &mut [u8],
     size: usize,
 )
-    requires { ⌜ Ready (jobOf z (now tiles) (now colours) (now counts)) × Lent (z .s) (z .c) (now palette) × (size ≡ sizeOf edition1 (z .s) (z .c) (z .t) (length (now counts))) × (bytesFor size ≤ length (now dst)) × (bytesFor size ≤ 65536) ⌝ }
-    ensures { λ r. ⌜ bits (now (dst .exit)) ≡ sets (bits (now (dst .entry))) 0 (sheetBits edition1 (sheetOf (jobOf z (now (tiles .entry)) (now (colours .entry)) (now (counts .entry))) (now (palette .entry))) ++ replicate (8 * bytesFor size - size) false) ⌝ }
+    requires { ⌜ Ready (jobOf z (now tiles) (now colours) (now counts)) × Lent (z .s) (z .c) (now palette)
+        × (size ≡ sizeOf edition1 (z .s) (z .c) (z .t) (length (now counts))) × (bytesFor size ≤ length (now dst)) × (bytesFor size ≤ 65536) ⌝ }
+    ensures { λ r. ⌜ bits (now (dst .exit))
+        ≡ sets (bits (now (dst .entry))) 0 (sheetBits edition1 (sheetOf (jobOf z (now (tiles .entry)) (now (colours .entry)) (now (counts .entry))) (now (palette .entry))) ++ replicate (8 * bytesFor size - size) false) ⌝ }
 {
     let p = sheet_format::HEAD_BITS + 32 * palette.len();
     let spare = 8 * format::bytes_for(size) - size;

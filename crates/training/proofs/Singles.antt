@@ -20,7 +20,8 @@ use Rattle.quantizer.specs.Replacing.{Shares, sharesOf, swapIn, colourSwapped, 
 use Rattle.quantizer.specs.Refining.{Gather, meanStep, meansOf, refined}
 use Rattle.quantizer.specs.Drawing.{moved}
 use Rattle.stages.specs.State.{State, at, painted}
-use Rattle.stages.specs.Stages.{noticed, openSeeding, openGrowing, openReplacing, errorOf, keep, judged, enterReplacing, enterGrowing, enterReducing, closeSeeding, closeGrowing, closeReplacing, finishRound, due, settle, draw, drawWith, step, going, fresh, start, refinedOnce, handIn}
+use Rattle.stages.specs.Stages.{noticed, openSeeding, openGrowing, openReplacing, errorOf, keep, judged, enterReplacing, enterGrowing, enterReducing}
+use Rattle.stages.specs.Stages.{closeSeeding, closeGrowing, closeReplacing, finishRound, due, settle, draw, drawWith, step, going, fresh, start, refinedOnce, handIn}
 use Rattle.sheet.proofs.Floats.{Singles, singles-take, singles-drop, singles-append}
 use Rattle.calls.proofs.Cases.{both, all-stages}
 use Rattle.calls.proofs.Whilsts.{whilst-keeps}

@@ -75,6 +75,14 @@ module _ (K : Course) (S1 : 1 ≤ K .job .S) (C1 : 1 ≤ K .job .C) (few : K .jo
     where
       go : (z : State) → z ≡ advance K all s → Rests K z → handIns (advance K all s .rec .stage) ≡ 2 → advance K all s .rec .stage ≡ 5
       go z q Z k = elim (decide (draws (z .rec .stage))) [
-        | inl t ↦ absurd (omega (arith, some-left K z Z t, made-few K z (Z .place), enough (K .job .S + K .job .C + 18) (omega arith), ap (λ (x : State). x .rec .made) q, advance-made K all s, all-spent K all s (ap (λ (x : State). draws (x .rec .stage)) (sym q) ∙ t)))
+        | inl t ↦ absurd (omega (
+          arith,
+          some-left K z Z t,
+          made-few K z (Z .place),
+          enough (K .job .S + K .job .C + 18) (omega arith),
+          ap (λ (x : State). x .rec .made) q,
+          advance-made K all s,
+          all-spent K all s (ap (λ (x : State). draws (x .rec .stage)) (sym q) ∙ t),
+        ))
         | inr t ↦ drawn-out (advance K all s .rec .stage) k (ap (λ (x : State). draws (x .rec .stage)) (sym q) ∙ t)
       ]

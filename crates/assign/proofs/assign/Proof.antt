@@ -21,7 +21,10 @@ same-length-2 : tie.Need-same-length-2
 same-length-2 c = search needs
 
 returns-2 : tie.Need-returns-2
-returns-2 c = done _ _ _ _ (c .before .before .before .before .before .before .before .before .check-assign .ensures) (c .before .before .before .before .before .before .before .if1 .left) _ (c .before .before .before .before .assign-tiles .ensures)
+returns-2 c =
+    let after-assign-tiles = c .before .before .before .before in let past-if1 = after-assign-tiles .before .before .before in
+    let after-check-assign = past-if1 .before in
+    done _ _ _ _ (after-check-assign .check-assign .ensures) (past-if1 .if1 .left) _ (after-assign-tiles .assign-tiles .ensures)
 
 pub assign-spec : {M : Type 1} → statement M
 assign-spec =

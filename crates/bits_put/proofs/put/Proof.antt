@@ -43,17 +43,19 @@ cast-joined-2 : tie.Need-cast-joined-2
 cast-joined-2 c = search needs
 
 joined-requires : tie.Need-joined-requires
-joined-requires c κs = (
-  omega (arith, c .before .before .get .ensures, field-lt (bits (c .before .before .before .before .before .args .s .now)) (8 * (c .before .before .before .before .before .args .p / 8)) (c .before .before .before .before .before .args .p % 8) 7 (rw length-bits (omega arith)) (omega arith)),
-  omega arith,
-  omega arith,
-  omega (
-    arith,
-    c .get2 .ensures,
-    field-lt (bits (c .before .before .before .before .before .args .s .now)) (c .before .before .before .before .before .args .p + c .before .before .before .before .before .args .k) (8 * ((c .before .before .before .before .before .args .p + c .before .before .before .before .before .args .k + 7) / 8) - (c .before .before .before .before .before .args .p + c .before .before .before .before .before .args .k))
-        (8 * ((c .before .before .before .before .before .args .p + c .before .before .before .before .before .args .k + 7) / 8) - (c .before .before .before .before .before .args .p + c .before .before .before .before .before .args .k)) (rw length-bits (omega arith)) (omega arith),
-  ),
-)
+joined-requires c κs =
+    let after-get = c .before .before in let start = after-get .before .before .before in
+    let a = start .args in (
+      omega (arith, after-get .get .ensures, field-lt (bits (a .s .now)) (8 * (a .p / 8)) (a .p % 8) 7 (rw length-bits (omega arith)) (omega arith)),
+      omega arith,
+      omega arith,
+      omega (
+        arith,
+        c .get2 .ensures,
+        field-lt (bits (a .s .now)) (a .p + a .k) (8 * ((a .p + a .k + 7) / 8) - (a .p + a .k))
+            (8 * ((a .p + a .k + 7) / 8) - (a .p + a .k)) (rw length-bits (omega arith)) (omega arith),
+      ),
+    )
 
 spell-requires : tie.Need-spell-requires
 spell-requires c κs = search needs
@@ -63,8 +65,10 @@ same-length c = search needs
 
 returns : tie.Need-returns
 returns c =
-    put-done (bits (c .before .before .before .before .before .before .before .before .before .before .args .s .now)) _ (c .before .before .before .before .before .before .before .before .before .before .args .p) (c .before .before .before .before .before .before .before .before .before .before .args .k) (c .before .before .before .before .before .before .before .before .before .before .args .v) (c .before .before .before .before .before .before .before .get .result) (c .before .before .before .before .before .get2 .result) (c .before .before .before .before .joined .result)
-    (rw length-bits (omega arith)) (c .before .before .before .before .before .before .before .get .ensures) (c .before .before .before .before .before .get2 .ensures) (c .before .before .before .before .joined .ensures) (c .before .before .spell .ensures)
+    let after-spell = c .before .before in let after-joined = after-spell .before .before in let after-get2 = after-joined .before in
+    let after-get = after-get2 .before .before in let start = after-get .before .before .before in let a = start .args in
+    put-done (bits (a .s .now)) _ (a .p) (a .k) (a .v) (after-get .get .result) (after-get2 .get2 .result) (after-joined .joined .result)
+    (rw length-bits (omega arith)) (after-get .get .ensures) (after-get2 .get2 .ensures) (after-joined .joined .ensures) (after-spell .spell .ensures)
 
 pub put-spec : {M : Type 1} → statement M
 put-spec =

@@ -44,12 +44,14 @@ loop-less : tie.Need-loop-less Inv-loop μ-loop
 loop-less c = omega arith
 
 loop-again : tie.Need-loop-again Inv-loop μ-loop
-loop-again c = (
-  omega arith,
-  omega arith,
-  length-set (c .before .loop .s) (c .before .loop .j) _ ∙ c .before .loop .inv .2,
-  spell-step (c .before .loop .s) _ (c .before .before .args .x) (c .before .loop .j) (c .before .before .args .end) _ (omega arith) (omega arith) refl (c .before .loop .inv .3),
-)
+loop-again c =
+    let at-loop = c .before in let start = at-loop .before in let turn = at-loop .loop in
+    let a = start .args in (
+      omega arith,
+      omega arith,
+      length-set (turn .s) (turn .j) _ ∙ turn .inv .2,
+      spell-step (turn .s) _ (a .x) (turn .j) (a .end) _ (omega arith) (omega arith) refl (turn .inv .3),
+    )
 
 same-length : tie.Need-same-length Inv-loop μ-loop
 same-length c = omega arith

@@ -42,12 +42,14 @@ loop-less : tie.Need-loop-less Inv-loop μ-loop
 loop-less c = omega arith
 
 loop-again : tie.Need-loop-again Inv-loop μ-loop
-loop-again c = (
-  omega arith,
-  length-set (c .before .before .loop .out) _ _ ∙ c .before .before .loop .inv .1,
-  digits-again (c .before .before .loop .out) _ _ (c .before .before .before .before .args .base) (c .before .before .before .before .args .at) (c .before .before .loop .i) (c .before .before .loop .rest) (omega arith)
-      (ap (set (c .before .before .loop .out) (c .before .before .before .before .args .at + (c .before .before .loop .i - 1))) (c .glyph .ensures)) (c .before .before .loop .inv .2),
-)
+loop-again c =
+    let at-loop = c .before .before in let start = at-loop .before .before in let turn = at-loop .loop in
+    let a = start .args in (
+      omega arith,
+      length-set (turn .out) _ _ ∙ turn .inv .1,
+      digits-again (turn .out) _ _ (a .base) (a .at) (turn .i) (turn .rest) (omega arith)
+          (ap (set (turn .out) (a .at + (turn .i - 1))) (c .glyph .ensures)) (turn .inv .2),
+    )
 
 add-result : tie.Need-add-result Inv-loop μ-loop
 add-result c = omega arith
@@ -56,10 +58,12 @@ same-length : tie.Need-same-length Inv-loop μ-loop
 same-length c = omega arith
 
 returns : tie.Need-returns Inv-loop μ-loop
-returns c = record {
-  text = digits-end (c .before .loop .out) _ (c .before .before .before .args .base) (c .before .before .before .args .at) (c .before .loop .i) (c .before .loop .rest) (omega arith) (c .before .loop .inv .2);
-  place = ap (λ (n : ℕ). c .before .before .before .args .at + n) (sym (length-digits (c .before .before .before .args .base) (c .before .before .before .args .k) (c .before .before .before .args .n)));
-}
+returns c =
+    let at-loop = c .before in let start = at-loop .before .before in let turn = at-loop .loop in let a = start .args in
+    record {
+      text = digits-end (turn .out) _ (a .base) (a .at) (turn .i) (turn .rest) (omega arith) (turn .inv .2);
+      place = ap (λ (n : ℕ). a .at + n) (sym (length-digits (a .base) (a .k) (a .n)));
+    }
 
 pub put-digits-spec : {M : Type 1} → statement M
 put-digits-spec =

@@ -18,7 +18,9 @@ width-requires : tie.Need-width-requires
 width-requires c κs = search needs
 
 put-digits-requires : tie.Need-put-digits-requires
-put-digits-requires c κs = omega (arith, c .width .ensures, width-most (c .before .before .before .before .before .before .before .before .args .n))
+put-digits-requires c κs =
+    let after-put-word = c .before .before .before .before in let start = after-put-word .before .before .before .before in
+    omega (arith, c .width .ensures, width-most (start .args .n))
 
 same-length : tie.Need-same-length
 same-length c = search needs
@@ -26,9 +28,12 @@ same-length c = search needs
 returns : tie.Need-returns
 unfolding decimal
 returns c =
-    both-stored (c .before .before .before .before .before .before .before .put-word .ensures)
-    (subst (λ (x : List ℕ). Stored (c .before .before .before .before .before .before .before .put-word .last .0) (c .before .before .put-digits .last .0) (c .before .before .before .before .before .before .before .put-word .result) (c .before .before .put-digits .result) x)
-    (ap (λ (k : ℕ). digits 10 k (c .before .before .before .before .before .before .before .before .before .before .before .args .n)) (c .before .before .before .width .ensures)) (c .before .before .put-digits .ensures))
+    let after-put-digits = c .before .before in let after-width = after-put-digits .before in
+    let after-put-word = after-width .before .before .before .before in let start = after-put-word .before .before .before .before in
+    both-stored (after-put-word .put-word .ensures)
+    (subst (λ (x : List ℕ). Stored (after-put-word .put-word .last .0) (after-put-digits .put-digits .last .0) (after-put-word .put-word .result)
+    (after-put-digits .put-digits .result) x)
+    (ap (λ (k : ℕ). digits 10 k (start .args .n)) (after-width .width .ensures)) (after-put-digits .put-digits .ensures))
 
 pub put-field-spec : {M : Type 1} → statement M
 put-field-spec =

@@ -17,7 +17,9 @@ slice-aggregate-put-word : tie.Need-slice-aggregate-put-word
 slice-aggregate-put-word c = search needs
 
 put-word-requires : tie.Need-put-word-requires
-put-word-requires c κs = omega (arith, c .before .before .before .before .put-field .ensures .place, field-most refusedWord (c .before .before .before .before .before .before .before .before .args .n))
+put-word-requires c κs =
+    let after-put-field = c .before .before .before .before in let start = after-put-field .before .before .before .before in
+    omega (arith, after-put-field .put-field .ensures .place, field-most refusedWord (start .args .n))
 
 same-length : tie.Need-same-length
 same-length c = search needs

@@ -17,22 +17,52 @@ slice-aggregate-put-field-2 : tie.Need-slice-aggregate-put-field-2
 slice-aggregate-put-field-2 c = search needs
 
 put-field-requires-2 : tie.Need-put-field-requires-2
-put-field-requires-2 c κs = omega (arith, c .before .before .before .before .put-field .ensures .place, field-most tileWord (c .before .before .before .before .before .before .before .before .args .tile))
+put-field-requires-2 c κs =
+    let after-put-field = c .before .before .before .before in let start = after-put-field .before .before .before .before in
+    omega (arith, after-put-field .put-field .ensures .place, field-most tileWord (start .args .tile))
 
 slice-aggregate-put-word : tie.Need-slice-aggregate-put-word
 slice-aggregate-put-word c = search needs
 
 put-word-requires : tie.Need-put-word-requires
-put-word-requires c κs = omega (arith, c .before .before .before .before .before .before .before .before .before .put-field .ensures .place, c .before .before .before .before .put-field2 .ensures .place, field-most tileWord (c .before .before .before .before .before .before .before .before .before .before .before .before .before .args .tile), field-most subWord (c .before .before .before .before .before .before .before .before .before .before .before .before .before .args .sub))
+put-word-requires c κs =
+    let after-put-field2 = c .before .before .before .before in let after-put-field = after-put-field2 .before .before .before .before .before in
+    let start = after-put-field .before .before .before .before in let a = start .args in
+    omega (arith, after-put-field .put-field .ensures .place, after-put-field2 .put-field2 .ensures .place, field-most tileWord (a .tile), field-most subWord (a .sub))
 
 put-digits-requires : tie.Need-put-digits-requires
-put-digits-requires c κs = omega (arith, c .before .before .before .before .before .before .before .before .before .before .before .before .before .put-field .ensures .place, c .before .before .before .before .before .before .before .before .put-field2 .ensures .place, field-most tileWord (c .before .before .before .before .before .before .before .before .before .before .before .before .before .before .before .before .before .args .tile), field-most subWord (c .before .before .before .before .before .before .before .before .before .before .before .before .before .before .before .before .before .args .sub), c .before .before .before .put-word .ensures .place)
+put-digits-requires c κs =
+    let after-put-word = c .before .before .before in let after-put-field2 = after-put-word .before .before .before .before .before in
+    let after-put-field = after-put-field2 .before .before .before .before .before in let start = after-put-field .before .before .before .before in
+    let a = start .args in
+    omega (
+      arith,
+      after-put-field .put-field .ensures .place,
+      after-put-field2 .put-field2 .ensures .place,
+      field-most tileWord (a .tile),
+      field-most subWord (a .sub),
+      after-put-word .put-word .ensures .place,
+    )
 
 slice-aggregate-put-word-2 : tie.Need-slice-aggregate-put-word-2
 slice-aggregate-put-word-2 c = search needs
 
 put-word-requires-2 : tie.Need-put-word-requires-2
-put-word-requires-2 c κs = omega (arith, c .before .before .before .before .before .before .before .before .before .before .before .before .before .before .before .before .before .before .put-field .ensures .place, c .before .before .before .before .before .before .before .before .before .before .before .before .before .put-field2 .ensures .place, field-most tileWord (c .before .before .before .before .before .before .before .before .before .before .before .before .before .before .before .before .before .before .before .before .before .before .args .tile), field-most subWord (c .before .before .before .before .before .before .before .before .before .before .before .before .before .before .before .before .before .before .before .before .before .before .args .sub), c .before .before .before .before .before .before .before .before .put-word .ensures .place, c .before .before .before .before .put-digits .ensures .place, length-digits 16 8 (c .before .before .before .before .before .before .before .before .before .before .before .before .before .before .before .before .before .before .before .before .before .before .args .dist))
+put-word-requires-2 c κs =
+    let after-put-digits = c .before .before .before .before in let after-put-word = after-put-digits .before .before .before .before in
+    let after-put-field2 = after-put-word .before .before .before .before .before in
+    let after-put-field = after-put-field2 .before .before .before .before .before in let start = after-put-field .before .before .before .before in
+    let a = start .args in
+    omega (
+      arith,
+      after-put-field .put-field .ensures .place,
+      after-put-field2 .put-field2 .ensures .place,
+      field-most tileWord (a .tile),
+      field-most subWord (a .sub),
+      after-put-word .put-word .ensures .place,
+      after-put-digits .put-digits .ensures .place,
+      length-digits 16 8 (a .dist),
+    )
 
 same-length : tie.Need-same-length
 same-length c = search needs
@@ -40,7 +70,12 @@ same-length c = search needs
 returns : tie.Need-returns
 unfolding tileLine
 returns c =
-    both-stored (both-stored (both-stored (both-stored (c .before .before .before .before .before .before .before .before .before .before .before .before .before .before .before .before .before .before .before .before .before .put-field .ensures) (c .before .before .before .before .before .before .before .before .before .before .before .before .before .before .before .before .put-field2 .ensures)) (c .before .before .before .before .before .before .before .before .before .before .before .put-word .ensures)) (c .before .before .before .before .before .before .before .put-digits .ensures)) (c .before .before .put-word2 .ensures)
+    let after-put-word2 = c .before .before in let after-put-digits = after-put-word2 .before .before .before .before .before in
+    let after-put-word = after-put-digits .before .before .before .before in
+    let after-put-field2 = after-put-word .before .before .before .before .before in
+    let after-put-field = after-put-field2 .before .before .before .before .before in
+    both-stored (both-stored (both-stored (both-stored (after-put-field .put-field .ensures) (after-put-field2 .put-field2 .ensures)) (after-put-word .put-word .ensures))
+    (after-put-digits .put-digits .ensures)) (after-put-word2 .put-word2 .ensures)
 
 pub put-tile-spec : {M : Type 1} → statement M
 put-tile-spec =

@@ -34,11 +34,13 @@ loop-less : tie.Need-loop-less Inv-loop μ-loop
 loop-less c = omega arith
 
 loop-again : tie.Need-loop-again Inv-loop μ-loop
-loop-again c = (
-  omega arith,
-  length-set (c .before .before .loop .out) _ _ ∙ c .before .before .loop .inv .1,
-  word-again (c .before .before .before .args .word .now) (c .before .before .loop .out) _ _ (c .before .before .before .args .at) (c .before .before .loop .i) (omega arith) refl (c .before .before .loop .inv .2),
-)
+loop-again c =
+    let at-loop = c .before .before in let start = at-loop .before in let turn = at-loop .loop in
+    let a = start .args in (
+      omega arith,
+      length-set (turn .out) _ _ ∙ turn .inv .1,
+      word-again (a .word .now) (turn .out) _ _ (a .at) (turn .i) (omega arith) refl (turn .inv .2),
+    )
 
 add-result : tie.Need-add-result Inv-loop μ-loop
 add-result c = omega arith
@@ -47,10 +49,12 @@ same-length : tie.Need-same-length Inv-loop μ-loop
 same-length c = omega arith
 
 returns : tie.Need-returns Inv-loop μ-loop
-returns c = record {
-  text = word-end (c .before .before .args .word .now) (c .before .loop .out) _ (c .before .before .args .at) (c .before .loop .i) (omega arith) (c .before .loop .inv .2);
-  place = omega arith;
-}
+returns c =
+    let at-loop = c .before in let start = at-loop .before in let turn = at-loop .loop in let a = start .args in
+    record {
+      text = word-end (a .word .now) (turn .out) _ (a .at) (turn .i) (omega arith) (turn .inv .2);
+      place = omega arith;
+    }
 
 pub put-word-spec : {M : Type 1} → statement M
 put-word-spec =

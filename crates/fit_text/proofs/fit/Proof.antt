@@ -66,12 +66,9 @@ rooms c = lengths (c .before .before .before .tiles-room .ensures) (c .before .b
 
 put-job-requires : tie.Need-put-job-requires
 put-job-requires c κs =
-    let after-z = c .before .before .before .before .before .before in
-    let after-read = after-z .before .before .before .before .before .before in
+    let after-z = c .before .before .before .before .before .before in let after-read = after-z .before .before .before .before .before .before in
     let after-palette-room = after-read .before .before .before .before .before in
-    let past-if1 = after-palette-room .before .before .before .before in
-    let lent = past-if1 .before .before in
-    let start = lent .before in
+    let past-if1 = after-palette-room .before .before .before .before in let lent = past-if1 .before .before in let start = lent .before in
     let bytes = are-bytes (start .args .bytes .now) (λ i. omega (arith, lent .shared-slice-known .given i)) in
     let z = after-z .z .given in
     (held _ _ (rooms after-palette-room) _ _ (after-read .read .ensures) bytes (z .0 .0) (z .1), past-if1 .if1 .left)
@@ -81,8 +78,7 @@ same-length c = search needs
 
 returns-2 : tie.Need-returns-2
 returns-2 c =
-    let after-put-refused = c .before .before in
-    let after-n = after-put-refused .before .before .before in
+    let after-put-refused = c .before .before in let after-n = after-put-refused .before .before .before in
     let after-read = after-n .before .before .before .before .before .before in
     let after-palette-room = after-read .before .before .before .before .before in
     let past-if1 = after-palette-room .before .before .before .before in
@@ -96,13 +92,10 @@ same-length-2 c = search needs
 
 returns-3 : tie.Need-returns-3
 returns-3 c =
-    let after-put-job = c .before .before in
-    let after-z = after-put-job .before .before .before .before .before .before .before in
+    let after-put-job = c .before .before in let after-z = after-put-job .before .before .before .before .before .before .before in
     let after-read = after-z .before .before .before .before .before .before in
     let after-palette-room = after-read .before .before .before .before .before in
-    let past-if1 = after-palette-room .before .before .before .before in
-    let lent = past-if1 .before .before in
-    let start = lent .before in
+    let past-if1 = after-palette-room .before .before .before .before in let lent = past-if1 .before .before in let start = lent .before in
     let lines = after-put-job .put-job in
     let bytes = are-bytes (start .args .bytes .now) (λ i. omega (arith, lent .shared-slice-known .given i)) in
     let z = after-z .z .given in

@@ -25,20 +25,17 @@ mul-put-fit c = search needs
 
 slice-aggregate-put-fit : tie.Need-slice-aggregate-put-fit
 slice-aggregate-put-fit c =
-    let after-no-hints = c .before .before .before in
-    let start = after-no-hints .before .before .before .before .before .before in
+    let after-no-hints = c .before .before .before in let start = after-no-hints .before .before .before .before .before .before in
     front-long _ _ (start .pre .0 .tiled)
 
 mul-put-fit-2 : tie.Need-mul-put-fit-2
 mul-put-fit-2 c =
-    let after-colours-to = c .before .before in
-    let start = after-colours-to .before .before .before .before .before .before .before in
+    let after-colours-to = c .before .before in let start = after-colours-to .before .before .before .before .before .before .before in
     omega (arith, after-colours-to .colours-to .ensures, start .pre .0 .few)
 
 slice-aggregate-put-fit-2 : tie.Need-slice-aggregate-put-fit-2
 slice-aggregate-put-fit-2 c =
-    let after-colours-to = c .before .before .before in
-    let start = after-colours-to .before .before .before .before .before .before .before in
+    let after-colours-to = c .before .before .before in let start = after-colours-to .before .before .before .before .before .before .before in
     front-long _ _ (omega (arith, after-colours-to .colours-to .ensures, start .pre .0 .coloured))
 
 slice-aggregate-put-fit-3 : tie.Need-slice-aggregate-put-fit-3
@@ -67,17 +64,14 @@ array-borrow-prefix-hints c =
 
 slice-aggregate-put-fit-5 : tie.Need-slice-aggregate-put-fit-5
 slice-aggregate-put-fit-5 c =
-    let after-colours-to = c .before .before .before .before .before .before .before in
-    let after-no-hints = after-colours-to .before in
+    let after-colours-to = c .before .before .before .before .before .before .before in let after-no-hints = after-colours-to .before in
     let start = after-no-hints .before .before .before .before .before .before in
     front-long _ _ (omega (arith, after-no-hints .no-hints .ensures .0, start .pre .0 .shown .ready .sizes .tiles))
 
 put-fit-requires : tie.Need-put-fit-requires
 put-fit-requires c κs =
-    let after-hints = c .before in
-    let after-colours-to = after-hints .before .before .before .before .before .before .before in
-    let after-no-hints = after-colours-to .before in
-    let start = after-no-hints .before .before .before .before .before .before in
+    let after-hints = c .before in let after-colours-to = after-hints .before .before .before .before .before .before .before in
+    let after-no-hints = after-colours-to .before in let start = after-no-hints .before .before .before .before .before .before in
     let a = start .args in (
       parts-hold (a .z) _ _ _ _ (after-colours-to .colours-to .ensures) (λ (J : Job). Shown J (frontPalette (a .z) (a .palette .now)) (a .z .s) (a .z .c))
           (start .pre .0 .shown),
@@ -90,11 +84,9 @@ same-length c = search needs
 
 returns : tie.Need-returns
 returns c =
-    let after-put-fit = c .before .before .before in
-    let after-hints = after-put-fit .before .before in
+    let after-put-fit = c .before .before .before in let after-hints = after-put-fit .before .before in
     let after-colours-to = after-hints .before .before .before .before .before .before .before in
-    let start = after-colours-to .before .before .before .before .before .before .before in
-    let a = start .args in
+    let start = after-colours-to .before .before .before .before .before .before .before in let a = start .args in
     let printed = front-holds (a .z) _ _ _ _ (after-colours-to .colours-to .ensures)
     (λ (J : Job). Stored (a .out .now) (after-put-fit .put-fit .last .1 .1 .1 .1 .1 .1 .0) 0 (after-put-fit .put-fit .result)
     (fitText J (frontPalette (a .z) (a .palette .now)))) (after-put-fit .put-fit .ensures) in (

@@ -22,8 +22,7 @@ slice-aggregate-put-tiles c = search needs
 put-tiles-requires : tie.Need-put-tiles-requires
 put-tiles-requires c κs =
     let after-put-head = c .before .before .before .before .before in
-    let lent = after-put-head .before .before .before .before .before .before .before in
-    let start = lent .before .before .before in
+    let lent = after-put-head .before .before .before .before .before .before .before in let start = lent .before .before .before in
     let a = start .args in (
       start .pre .0,
       start .pre .1,
@@ -39,8 +38,7 @@ put-loads-requires : tie.Need-put-loads-requires
 put-loads-requires c κs =
     let after-put-tiles = c .before .before .before .before .before .before .before in
     let after-put-head = after-put-tiles .before .before .before .before .before .before in
-    let lent = after-put-head .before .before .before .before .before .before .before in
-    let start = lent .before .before .before in
+    let lent = after-put-head .before .before .before .before .before .before .before in let start = lent .before .before .before in
     let a = start .args in (
       omega (arith, after-put-tiles .put-tiles .kept .1 .1 .1 .1 .1 .1 .0, start .pre .0 .ready .sizes .few),
       start .pre .0 .ready .sizes .few,
@@ -65,12 +63,9 @@ same-length-2 c = search needs
 
 returns : tie.Need-returns
 returns c =
-    let after-put-loads = c .before .before in
-    let after-hints = after-put-loads .before .before .before .before .before .before .before in
-    let after-put-tiles = after-hints .before in
-    let after-put-head = after-put-tiles .before .before .before .before .before .before in
-    let lent = after-put-head .before .before .before .before .before .before .before in
-    let start = lent .before .before .before in
+    let after-put-loads = c .before .before in let after-hints = after-put-loads .before .before .before .before .before .before .before in
+    let after-put-tiles = after-hints .before in let after-put-head = after-put-tiles .before .before .before .before .before .before in
+    let lent = after-put-head .before .before .before .before .before .before .before in let start = lent .before .before .before in
     let a = start .args in
     all-stored (jobOf (a .z) (a .tiles .now) (a .colours .now) (a .counts .now)) (a .palette .now) (after-put-tiles .put-tiles .last .1 .1 .1 .1 .1 .1 .0) _ _ _ _
     (after-put-head .put-head .result) (after-put-tiles .put-tiles .result) (after-put-loads .put-loads .result)

@@ -40,11 +40,8 @@ loop-less c = omega arith
 
 loop-again : tie.Need-loop-again Inv-loop μ-loop
 loop-again c =
-    let after-put-load = c .before .before in
-    let at-loop = after-put-load .before .before .before .before in
-    let start = at-loop .before .before .before in
-    let turn = at-loop .loop in
-    let a = start .args in
+    let after-put-load = c .before .before in let at-loop = after-put-load .before .before .before .before in
+    let start = at-loop .before .before .before in let turn = at-loop .loop in let a = start .args in
     let room = load-most (turn .k) (getD (a .loads .now) (turn .k) 0) in (
       omega arith,
       after-put-load .put-load .kept .0 ∙ turn .inv .1,
@@ -58,10 +55,7 @@ same-length c = omega arith
 
 returns : tie.Need-returns Inv-loop μ-loop
 returns c =
-    let at-loop = c .before in
-    let start = at-loop .before .before .before in
-    let turn = at-loop .loop in
-    let a = start .args in
+    let at-loop = c .before in let start = at-loop .before .before .before in let turn = at-loop .loop in let a = start .args in
     let e : turn .k ≡ a .s = omega arith in
     subst (λ (k : ℕ). Stored (a .out .now) (turn .out) (a .at) (turn .q) (loadLines (λ j. getD (a .loads .now) j 0) k)) e (turn .inv .3)
 

@@ -35,16 +35,14 @@ loop-holds c =
 
 tile-found-requires : tie.Need-tile-found-requires Inv-loop μ-loop
 tile-found-requires c κs =
-    let at-loop = c .before .before .before in
-    let lent = at-loop .before .before .before .before .before .before .before in
+    let at-loop = c .before .before .before in let lent = at-loop .before .before .before .before .before .before .before in
     let start = lent .before in
     record { shown = start .pre .0; tile = omega arith; each = at-loop .loop .inv .1 }
 
 cast-put-tile : tie.Need-cast-put-tile Inv-loop μ-loop
 cast-put-tile c =
     let at-loop = c .before .before .before .before .before .before .before in
-    let lent = at-loop .before .before .before .before .before .before .before in
-    let start = lent .before in
+    let lent = at-loop .before .before .before .before .before .before .before in let start = lent .before in
     omega (arith, start .pre .0 .ready .sizes .tiles)
 
 put-tile-requires : tie.Need-put-tile-requires Inv-loop μ-loop
@@ -52,12 +50,8 @@ put-tile-requires c κs = omega arith
 
 count-tile-requires : tie.Need-count-tile-requires Inv-loop μ-loop
 count-tile-requires c κs =
-    let f = c .before .before .before .before .before .before .before in
-    let l = f .before .before .before .before in
-    let lent = l .before .before .before .before .before .before .before in
-    let start = lent .before in
-    let turn = l .loop in
-    let a = start .args in
+    let f = c .before .before .before .before .before .before .before in let l = f .before .before .before .before in
+    let lent = l .before .before .before .before .before .before .before in let start = lent .before in let turn = l .loop in let a = start .args in
     let J : Job = jobOf (a .z) (a .tiles .now) (a .colours .now) (a .counts .now) in (
       omega (arith, f .tile-found .ensures .0, sub-below J (a .palette .now) (start .pre .0) (turn .i)),
       omega (arith, turn .inv .6 (f .tile-found .result .sub), load-few J (a .palette .now) (f .tile-found .result .sub) (turn .i), start .pre .0 .ready .sizes .tiles),
@@ -71,14 +65,9 @@ loop-less c = omega arith
 
 loop-again : tie.Need-loop-again Inv-loop μ-loop
 loop-again c =
-    let n = c .before .before in
-    let p = n .before .before .before .before in
-    let f = p .before .before .before .before in
-    let l = f .before .before .before .before in
-    let lent = l .before .before .before .before .before .before .before in
-    let start = lent .before in
-    let turn = l .loop in
-    let a = start .args in
+    let n = c .before .before in let p = n .before .before .before .before in let f = p .before .before .before .before in
+    let l = f .before .before .before .before in let lent = l .before .before .before .before .before .before .before in let start = lent .before in
+    let turn = l .loop in let a = start .args in
     let J : Job = jobOf (a .z) (a .tiles .now) (a .colours .now) (a .counts .now) in
     let k = f .tile-found .result .sub in
     let room = tile-most (turn .i) k (f .tile-found .result .bits) in (
@@ -105,11 +94,8 @@ same-length-3 c = omega arith
 
 returns : tie.Need-returns Inv-loop μ-loop
 returns c =
-    let at-loop = c .before .before in
-    let lent = at-loop .before .before .before .before .before .before .before in
-    let start = lent .before in
-    let turn = at-loop .loop in
-    let a = start .args in
+    let at-loop = c .before .before in let lent = at-loop .before .before .before .before .before .before .before in let start = lent .before in
+    let turn = at-loop .loop in let a = start .args in
     let e : turn .i ≡ a .z .t = omega arith in (
       subst (λ (k : ℕ). Stored (a .out .now) (turn .out) (a .at) (turn .q)
           (tileLines (jobOf (a .z) (a .tiles .now) (a .colours .now) (a .counts .now)) (a .palette .now) k)) e (turn .inv .5),

@@ -23,9 +23,7 @@ returns c =
 
 tile-fit-requires : tie.Need-tile-fit-requires
 tile-fit-requires c κs =
-    let past-if1 = c .before in
-    let after-is-empty = past-if1 .before in
-    let start = after-is-empty .before .before .before .before .before .before in
+    let past-if1 = c .before in let after-is-empty = past-if1 .before in let start = after-is-empty .before .before .before .before .before .before in
     let a = start .args in
     record {
       paired = start .pre;
@@ -34,10 +32,8 @@ tile-fit-requires c κs =
 
 cast-sub : tie.Need-cast-sub
 cast-sub c =
-    let after-tile-fit = c .before .before .before in
-    let after-is-empty = after-tile-fit .before .before .before in
-    let start = after-is-empty .before .before .before .before .before .before in
-    let a = start .args in
+    let after-tile-fit = c .before .before .before in let after-is-empty = after-tile-fit .before .before .before in
+    let start = after-is-empty .before .before .before .before .before .before in let a = start .args in
     omega (
       arith,
       ap (λ (b : Near). b .index) (after-tile-fit .tile-fit .ensures .0),
@@ -48,10 +44,8 @@ cast-sub c =
 
 float-to-bits-bits : tie.Need-float-to-bits-bits
 float-to-bits-bits c =
-    let after-tile-fit = c .before .before .before .before in
-    let after-is-empty = after-tile-fit .before .before .before in
-    let start = after-is-empty .before .before .before .before .before .before in
-    let a = start .args in
+    let after-tile-fit = c .before .before .before .before in let after-is-empty = after-tile-fit .before .before .before in
+    let start = after-is-empty .before .before .before .before .before .before in let a = start .args in
     subst⁻¹ (λ (x : Float). T (not (isNan x))) (ap (λ (b : Near). b .dist) (after-tile-fit .tile-fit .ensures .0))
     (dist-real (jobOf (a .z) (a .tiles .now) (a .colours .now) (a .counts .now)) (a .palette .now) (start .pre .shown) (a .i) (start .pre .tile))
 
@@ -60,11 +54,8 @@ same-length c = search needs
 
 returns-2 : tie.Need-returns-2
 returns-2 c =
-    let after-tile-fit = c .before .before .before .before in
-    let past-if1 = after-tile-fit .before .before in
-    let after-is-empty = past-if1 .before in
-    let start = after-is-empty .before .before .before .before .before .before in
-    let a = start .args in
+    let after-tile-fit = c .before .before .before .before in let past-if1 = after-tile-fit .before .before in
+    let after-is-empty = past-if1 .before in let start = after-is-empty .before .before .before .before .before .before in let a = start .args in
     full-sub (jobOf (a .z) (a .tiles .now) (a .colours .now) (a .counts .now)) (a .palette .now) (a .i) (after-is-empty .is-empty .result)
     (after-tile-fit .tile-fit .result .index) (after-tile-fit .tile-fit .result .dist) (after-is-empty .is-empty .ensures) (past-if1 .if1 .left)
     (ap (λ (b : Near). b .index) (after-tile-fit .tile-fit .ensures .0)) (ap (λ (b : Near). b .dist) (after-tile-fit .tile-fit .ensures .0))

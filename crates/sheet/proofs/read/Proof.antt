@@ -93,9 +93,7 @@ sizes-of-requires c κs = search needs
 
 returns-2 : tie.Need-returns-2
 returns-2 c =
-    let after-n = c .before in
-    let after-check = after-n .before .before in
-    let past-if1 = after-check .before in
+    let after-n = c .before in let after-check = after-n .before .before in let past-if1 = after-check .before in
     let after-has-room = past-if1 .before in
     refused-out _ _ _ (after-has-room .has-room .ensures) (past-if1 .if1 .left) (after-n .n .given .0 .0) (sym (after-n .n .given .1) ∙ after-check .check .ensures)
 
@@ -113,13 +111,10 @@ same-length-4 c = search needs
 
 returns-3 : tie.Need-returns-3
 returns-3 c =
-    let after-weight = c .before in
-    let after-fill-tiles = after-weight .before .before .before .before .before .before .before in
+    let after-weight = c .before in let after-fill-tiles = after-weight .before .before .before .before .before .before .before in
     let after-fill-components = after-fill-tiles .before .before .before .before .before .before in
-    let after-known-told2 = after-fill-components .before .before in
-    let after-subs = after-known-told2 .before in
-    let past-if1 = after-subs .before .before .before in
-    let after-has-room = past-if1 .before in
+    let after-known-told2 = after-fill-components .before .before in let after-subs = after-known-told2 .before in
+    let past-if1 = after-subs .before .before .before in let after-has-room = past-if1 .before in
     let found = after-subs .subs .given in
     accepted-out _ _ _ (after-has-room .has-room .ensures) (past-if1 .if1 .left) (found .0 .0) (found .0 .1 .0) (found .0 .1 .1 .0) (found .0 .1 .1 .1 .0) _ _ _ _ _
     (says (after-known-told2))

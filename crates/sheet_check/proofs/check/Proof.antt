@@ -24,16 +24,23 @@ enum-known-subs : tie.Need-enum-known-subs
 enum-known-subs c = search needs
 
 -- the head that was read
-headed : (c : tie.After-known-told2) → Headed (c .before .before .before .before .before .before .args .s .now) (c .before .subs .given .0 .0) (c .before .subs .given .0 .1 .0) (c .before .subs .given .0 .1 .1 .0) (c .before .subs .given .0 .1 .1 .1 .0)
+headed : (c : tie.After-known-told2) →
+    let found = c .before .subs .given .0 in
+    Headed (c .before .before .before .before .before .before .args .s .now) (found .0) (found .1 .0) (found .1 .1 .0) (found .1 .1 .1 .0)
 headed c =
-    headed-of (c .before .before .before .before .before .before .args .s .now) (c .before .subs .given .0 .0) (c .before .subs .given .0 .1 .0) (c .before .subs .given .0 .1 .1 .0) (c .before .subs .given .0 .1 .1 .1 .0)
-    (sym (c .before .subs .given .1) ∙ c .before .before .before .head .ensures)
+    let found = c .before .subs .given in
+    headed-of _ (found .0 .0) (found .0 .1 .0) (found .0 .1 .1 .0) (found .0 .1 .1 .1 .0) (sym (found .1) ∙ c .before .before .before .head .ensures)
 
 -- and the palette and the tiles behind it
-parted : (c : tie.After-known-told4) → Parted (c .before .before .before .before .before .before .before .before .before .before .args .s .now) (3 * (c .before .before .before .before .before .subs .given .0 .0 * c .before .before .before .before .before .subs .given .0 .1 .0)) (c .before .before .before .before .before .subs .given .0 .1 .1 .0) (c .before .z .given .0 .0)
+parted : (c : tie.After-known-told4) →
+    let after-subs = c .before .before .before .before .before in
+    let found = after-subs .subs .given .0 in
+    Parted (after-subs .before .before .before .before .before .args .s .now) (3 * (found .0 * found .1 .0)) (found .1 .1 .0) (c .before .z .given .0 .0)
 parted c =
-    parted-of (c .before .before .before .before .before .before .before .before .before .before .args .s .now) (3 * (c .before .before .before .before .before .subs .given .0 .0 * c .before .before .before .before .before .subs .given .0 .1 .0)) (c .before .before .before .before .before .subs .given .0 .1 .1 .0) (c .before .z .given .0 .0)
-    (headed (c .before .before .before .before) .long) (sym (c .before .z .given .1) ∙ c .before .before .before .palette-then-tiles .ensures)
+    let z = c .before .z .given in
+    let found = c .before .before .before .before .before .subs .given .0 in
+    parted-of _ (3 * (found .0 * found .1 .0)) (found .1 .1 .0) (z .0 .0) (headed (c .before .before .before .before) .long)
+    (sym (z .1) ∙ c .before .before .before .palette-then-tiles .ensures)
 
 mul-n : tie.Need-mul-n
 mul-n c = omega (arith, headed c .cells)
@@ -60,20 +67,36 @@ only-spare-requires : tie.Need-only-spare-requires
 only-spare-requires c κs = (omega arith, parted c .reach)
 
 returns-2 : tie.Need-returns-2
-returns-2 c = read-head edition1 (c .before .before .before .before .before .before .args .s .now) (omega arith) (c .before .f .given .0 .0) (head-fault _ (c .before .f .given .0 .0) (sym (c .before .f .given .1) ∙ c .before .before .before .head .ensures))
+returns-2 c =
+    let after-f = c .before in let after-head = after-f .before .before in let start = after-head .before .before .before in
+    read-head edition1 (start .args .s .now) (omega arith) (after-f .f .given .0 .0)
+    (head-fault _ (after-f .f .given .0 .0) (sym (after-f .f .given .1) ∙ after-head .head .ensures))
 
 returns-3 : tie.Need-returns-3
 returns-3 c =
-    read-rest edition1 (c .before .before .before .before .before .before .before .before .before .before .args .s .now) (omega arith) (c .before .before .before .before .before .subs .given .0 .0) (c .before .before .before .before .before .subs .given .0 .1 .0) (c .before .before .before .before .before .subs .given .0 .1 .1 .0) (c .before .before .before .before .before .subs .given .0 .1 .1 .1 .0) _ (headed (c .before .before .before .before) .reads) (c .before .f2 .given .0 .0)
-    (step-fault (bits (c .before .before .before .before .before .before .before .before .before .before .args .s .now)) _ (c .before .f2 .given .0 .0) (sym (c .before .f2 .given .1) ∙ c .before .before .before .palette-then-tiles .ensures))
+    let after-f2 = c .before in let after-palette-then-tiles = after-f2 .before .before in let after-known-told2 = after-palette-then-tiles .before in
+    let after-subs = after-known-told2 .before in let start = after-subs .before .before .before .before .before in let a = start .args in
+    read-rest edition1 (a .s .now) (omega arith) (after-subs .subs .given .0 .0) (after-subs .subs .given .0 .1 .0) (after-subs .subs .given .0 .1 .1 .0)
+    (after-subs .subs .given .0 .1 .1 .1 .0) _ (headed after-known-told2 .reads) (after-f2 .f2 .given .0 .0)
+    (step-fault (bits (a .s .now)) _ (after-f2 .f2 .given .0 .0) (sym (after-f2 .f2 .given .1) ∙ after-palette-then-tiles .palette-then-tiles .ensures))
 
 returns-4 : tie.Need-returns-4
 returns-4 c =
-    read-end edition1 (c .before .before .before .before .before .before .before .before .before .before .before .before .args .s .now) (omega arith) (c .before .before .before .before .before .before .before .subs .given .0 .0) (c .before .before .before .before .before .before .before .subs .given .0 .1 .0) (c .before .before .before .before .before .before .before .subs .given .0 .1 .1 .0) (c .before .before .before .before .before .before .before .subs .given .0 .1 .1 .1 .0) _ (headed (c .before .before .before .before .before .before) .reads) (parted (c .before .before) .parts) _ true (parted (c .before .before) .reads) (sym (c .before .only-spare .ensures) ∙ c .if2 .taken)
+    let after-only-spare = c .before in let after-known-told4 = after-only-spare .before in
+    let after-known-told2 = after-known-told4 .before .before .before .before in let after-subs = after-known-told2 .before in
+    let start = after-subs .before .before .before .before .before in
+    read-end edition1 (start .args .s .now) (omega arith) (after-subs .subs .given .0 .0) (after-subs .subs .given .0 .1 .0) (after-subs .subs .given .0 .1 .1 .0)
+    (after-subs .subs .given .0 .1 .1 .1 .0) _ (headed after-known-told2 .reads) (parted after-known-told4 .parts) _ true (parted after-known-told4 .reads)
+    (sym (after-only-spare .only-spare .ensures) ∙ c .if2 .taken)
 
 returns-5 : tie.Need-returns-5
 returns-5 c =
-    read-end edition1 (c .before .before .before .before .before .before .before .before .before .before .before .before .args .s .now) (omega arith) (c .before .before .before .before .before .before .before .subs .given .0 .0) (c .before .before .before .before .before .before .before .subs .given .0 .1 .0) (c .before .before .before .before .before .before .before .subs .given .0 .1 .1 .0) (c .before .before .before .before .before .before .before .subs .given .0 .1 .1 .1 .0) _ (headed (c .before .before .before .before .before .before) .reads) (parted (c .before .before) .parts) _ false (parted (c .before .before) .reads) (sym (c .before .only-spare .ensures) ∙ c .if2 .left)
+    let after-only-spare = c .before in let after-known-told4 = after-only-spare .before in
+    let after-known-told2 = after-known-told4 .before .before .before .before in let after-subs = after-known-told2 .before in
+    let start = after-subs .before .before .before .before .before in
+    read-end edition1 (start .args .s .now) (omega arith) (after-subs .subs .given .0 .0) (after-subs .subs .given .0 .1 .0) (after-subs .subs .given .0 .1 .1 .0)
+    (after-subs .subs .given .0 .1 .1 .1 .0) _ (headed after-known-told2 .reads) (parted after-known-told4 .parts) _ false (parted after-known-told4 .reads)
+    (sym (after-only-spare .only-spare .ensures) ∙ c .if2 .left)
 
 pub check-spec : {M : Type 1} → statement M
 check-spec =

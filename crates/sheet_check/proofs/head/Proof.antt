@@ -22,19 +22,31 @@ get-requires : tie.Need-get-requires
 get-requires c κs = search needs
 
 returns-2 : tie.Need-returns-2
-returns-2 c = sym (ap headOf (opening-wrong edition1 (c .before .before .before .before .args .s .now) (c .before .get .result) (omega arith) (c .before .get .ensures) (c .if2 .taken)))
+returns-2 c =
+    let after-get = c .before in let start = after-get .before .before .before in
+    sym (ap headOf (opening-wrong edition1 (start .args .s .now) (after-get .get .result) (omega arith) (after-get .get .ensures) (c .if2 .taken)))
 
 returns-3 : tie.Need-returns-3
-returns-3 c = sym (ap headOf (edition-short edition1 (c .before .before .before .before .before .args .s .now) (c .before .before .get .result) (c .before .before .get .ensures) (c .before .if2 .left) (omega arith) (omega arith)))
+returns-3 c =
+    let past-if2 = c .before in let after-get = past-if2 .before in let start = after-get .before .before .before in
+    sym (ap headOf (edition-short edition1 (start .args .s .now) (after-get .get .result) (after-get .get .ensures) (past-if2 .if2 .left) (omega arith) (omega arith)))
 
 get-requires-2 : tie.Need-get-requires-2
 get-requires-2 c κs = search needs
 
 returns-4 : tie.Need-returns-4
-returns-4 c = sym (ap headOf (edition-wrong edition1 (c .before .before .before .before .before .before .before .args .s .now) (c .before .before .before .before .get .result) (c .before .before .before .before .get .ensures) (c .before .before .before .if2 .left) (c .before .get2 .result) (omega arith) (c .before .get2 .ensures) (c .if4 .taken)))
+returns-4 c =
+    let after-get2 = c .before in let past-if2 = after-get2 .before .before in let after-get = past-if2 .before in
+    let start = after-get .before .before .before in
+    sym (ap headOf (edition-wrong edition1 (start .args .s .now) (after-get .get .result) (after-get .get .ensures) (past-if2 .if2 .left) (after-get2 .get2 .result)
+    (omega arith) (after-get2 .get2 .ensures) (c .if4 .taken)))
 
 returns-5 : tie.Need-returns-5
-returns-5 c = sym (ap headOf (sizes-short edition1 (c .before .before .before .before .before .before .before .before .args .s .now) (c .before .before .before .before .before .get .result) (c .before .before .before .before .before .get .ensures) (c .before .before .before .before .if2 .left) (c .before .before .get2 .result) (c .before .before .get2 .ensures) (c .before .if4 .left) (omega arith) (omega arith)))
+returns-5 c =
+    let past-if4 = c .before in let after-get2 = past-if4 .before in let past-if2 = after-get2 .before .before in let after-get = past-if2 .before in
+    let start = after-get .before .before .before in
+    sym (ap headOf (sizes-short edition1 (start .args .s .now) (after-get .get .result) (after-get .get .ensures) (past-if2 .if2 .left) (after-get2 .get2 .result)
+    (after-get2 .get2 .ensures) (past-if4 .if4 .left) (omega arith) (omega arith)))
 
 get-requires-3 : tie.Need-get-requires-3
 get-requires-3 c κs = search needs
@@ -44,32 +56,49 @@ is-weight-requires c κs = search needs
 
 returns-6 : tie.Need-returns-6
 returns-6 c =
-    sym (ap headOf (weight-wrong edition1 (c .before .before .before .before .before .before .before .before .before .before .before .args .s .now) (c .before .before .before .before .before .before .before .before .get .result) (c .before .before .before .before .before .before .before .before .get .ensures) (c .before .before .before .before .before .before .before .if2 .left) (c .before .before .before .before .before .get2 .result) (c .before .before .before .before .before .get2 .ensures) (c .before .before .before .before .if4 .left) (c .before .before .get3 .result) (omega arith) (c .before .before .get3 .ensures)
-    (sym (c .before .is-weight .ensures) ∙ not-true (c .before .is-weight .result) (c .if6 .taken))))
+    let after-is-weight = c .before in let after-get3 = after-is-weight .before in let past-if4 = after-get3 .before .before in
+    let after-get2 = past-if4 .before in let past-if2 = after-get2 .before .before in let after-get = past-if2 .before in
+    let start = after-get .before .before .before in
+    sym (ap headOf (weight-wrong edition1 (start .args .s .now) (after-get .get .result) (after-get .get .ensures) (past-if2 .if2 .left) (after-get2 .get2 .result)
+    (after-get2 .get2 .ensures) (past-if4 .if4 .left) (after-get3 .get3 .result) (omega arith) (after-get3 .get3 .ensures)
+    (sym (after-is-weight .is-weight .ensures) ∙ not-true (after-is-weight .is-weight .result) (c .if6 .taken))))
 
 get-requires-4 : tie.Need-get-requires-4
 get-requires-4 c κs = search needs
 
 add-t8 : tie.Need-add-t8
-add-t8 c = omega (arith, c .get4 .ensures, field-lt (bits (c .before .before .before .before .before .before .before .before .before .before .before .before .args .s .now)) 36 4 4 (rw length-bits (omega arith)) (omega arith))
+add-t8 c =
+    let past-if3 = c .before .before .before .before .before .before .before in let start = past-if3 .before .before .before .before .before in
+    omega (arith, c .get4 .ensures, field-lt (bits (start .args .s .now)) 36 4 4 (rw length-bits (omega arith)) (omega arith))
 
 get-requires-5 : tie.Need-get-requires-5
 get-requires-5 c κs = search needs
 
 add-t10 : tie.Need-add-t10
-add-t10 c = omega (arith, c .get5 .ensures, field-lt (bits (c .before .before .before .before .before .before .before .before .before .before .before .before .before .args .s .now)) 40 4 4 (rw length-bits (omega arith)) (omega arith))
+add-t10 c =
+    let after-get2 = c .before .before .before .before .before .before .before in
+    let start = after-get2 .before .before .before .before .before .before in
+    omega (arith, c .get5 .ensures, field-lt (bits (start .args .s .now)) 40 4 4 (rw length-bits (omega arith)) (omega arith))
 
 get-requires-6 : tie.Need-get-requires-6
 get-requires-6 c κs = search needs
 
 add-t12 : tie.Need-add-t12
-add-t12 c = omega (arith, c .get6 .ensures, field-lt (bits (c .before .before .before .before .before .before .before .before .before .before .before .before .before .before .args .s .now)) 44 10 10 (rw length-bits (omega arith)) (omega arith))
+add-t12 c =
+    let past-if4 = c .before .before .before .before .before .before .before in
+    let start = past-if4 .before .before .before .before .before .before .before in
+    omega (arith, c .get6 .ensures, field-lt (bits (start .args .s .now)) 44 10 10 (rw length-bits (omega arith)) (omega arith))
 
 returns-7 : tie.Need-returns-7
 returns-7 c =
-    sym (ap headOf (head-read edition1 (c .before .before .before .before .before .before .before .before .before .before .before .before .before .before .args .s .now) (c .before .before .before .before .before .before .before .before .before .before .before .get .result) (c .before .before .before .before .before .before .before .before .before .before .before .get .ensures) (c .before .before .before .before .before .before .before .before .before .before .if2 .left) (c .before .before .before .before .before .before .before .before .get2 .result) (c .before .before .before .before .before .before .before .before .get2 .ensures) (c .before .before .before .before .before .before .before .if4 .left) (c .before .before .before .before .before .get3 .result) (omega arith) (c .before .before .before .before .before .get3 .ensures)
-    (sym (c .before .before .before .before .is-weight .ensures) ∙ not-false (c .before .before .before .before .is-weight .result) (c .before .before .before .if6 .left))
-    (c .before .before .get4 .result) (c .before .get5 .result) (c .get6 .result) (c .before .before .get4 .ensures) (c .before .get5 .ensures) (c .get6 .ensures)))
+    let after-get5 = c .before in let after-get4 = after-get5 .before in let past-if6 = after-get4 .before in
+    let after-is-weight = past-if6 .before in let after-get3 = after-is-weight .before in let past-if4 = after-get3 .before .before in
+    let after-get2 = past-if4 .before in let past-if2 = after-get2 .before .before in let after-get = past-if2 .before in
+    let start = after-get .before .before .before in
+    sym (ap headOf (head-read edition1 (start .args .s .now) (after-get .get .result) (after-get .get .ensures) (past-if2 .if2 .left) (after-get2 .get2 .result)
+    (after-get2 .get2 .ensures) (past-if4 .if4 .left) (after-get3 .get3 .result) (omega arith) (after-get3 .get3 .ensures)
+    (sym (after-is-weight .is-weight .ensures) ∙ not-false (after-is-weight .is-weight .result) (past-if6 .if6 .left))
+    (after-get4 .get4 .result) (after-get5 .get5 .result) (c .get6 .result) (after-get4 .get4 .ensures) (after-get5 .get5 .ensures) (c .get6 .ensures)))
 
 pub head-spec : {M : Type 1} → statement M
 head-spec =

@@ -29,7 +29,9 @@ sub-if1 : tie.Need-sub-if1 Inv-loop μ-loop
 sub-if1 c = omega arith
 
 returns : tie.Need-returns Inv-loop μ-loop
-returns c = turn-fault component (c .before .before .before .before .args .s .now) (c .before .before .before .before .args .n) (c .before .before .loop .i) (c .before .before .loop .q) _ (c .before .before .loop .inv .2) 13 (omega arith) (component-short (c .before .before .before .before .args .s .now) (c .before .before .loop .q) (omega arith))
+returns c =
+    let at-loop = c .before .before in let start = at-loop .before .before in let turn = at-loop .loop in let a = start .args in
+    turn-fault component (a .s .now) (a .n) (turn .i) (turn .q) _ (turn .inv .2) 13 (omega arith) (component-short (a .s .now) (turn .q) (omega arith))
 
 get-requires : tie.Need-get-requires Inv-loop μ-loop
 get-requires c κs = omega arith
@@ -47,13 +49,29 @@ loop-less : tie.Need-loop-less Inv-loop μ-loop
 loop-less c = omega arith
 
 loop-again : tie.Need-loop-again Inv-loop μ-loop
-loop-again c = (omega arith, omega arith, turn-got component (c .before .before .before .before .before .before .before .args .s .now) (c .before .before .before .before .before .before .before .args .n) (c .before .before .before .before .before .loop .i) (c .before .before .before .before .before .loop .q) _ (c .before .before .before .before .before .loop .inv .2) (c .before .before .get .result) (c .before .before .before .before .before .loop .q + 32) (omega arith) (component-read (c .before .before .before .before .before .before .before .args .s .now) (c .before .before .before .before .before .loop .q) (c .before .before .get .result) true (omega arith) (c .before .before .get .ensures) (sym (c .before .is-small .ensures) ∙ c .if2 .taken)))
+loop-again c =
+    let after-is-small = c .before in let after-get = after-is-small .before in let at-loop = after-get .before .before .before in
+    let start = at-loop .before .before in let turn = at-loop .loop in
+    let a = start .args in (
+      omega arith,
+      omega arith,
+      turn-got component (a .s .now) (a .n) (turn .i) (turn .q) _ (turn .inv .2) (after-get .get .result) (turn .q + 32) (omega arith)
+          (component-read (a .s .now) (turn .q) (after-get .get .result) true (omega arith) (after-get .get .ensures)
+          (sym (after-is-small .is-small .ensures) ∙ c .if2 .taken)),
+    )
 
 returns-2 : tie.Need-returns-2 Inv-loop μ-loop
-returns-2 c = turn-fault component (c .before .before .before .before .before .before .before .args .s .now) (c .before .before .before .before .before .before .before .args .n) (c .before .before .before .before .before .loop .i) (c .before .before .before .before .before .loop .q) _ (c .before .before .before .before .before .loop .inv .2) 7 (omega arith) (component-read (c .before .before .before .before .before .before .before .args .s .now) (c .before .before .before .before .before .loop .q) (c .before .before .get .result) false (omega arith) (c .before .before .get .ensures) (sym (c .before .is-small .ensures) ∙ c .if2 .left))
+returns-2 c =
+    let after-is-small = c .before in let after-get = after-is-small .before in let at-loop = after-get .before .before .before in
+    let start = at-loop .before .before in let turn = at-loop .loop in let a = start .args in
+    turn-fault component (a .s .now) (a .n) (turn .i) (turn .q) _ (turn .inv .2) 7 (omega arith)
+    (component-read (a .s .now) (turn .q) (after-get .get .result) false (omega arith) (after-get .get .ensures)
+    (sym (after-is-small .is-small .ensures) ∙ c .if2 .left))
 
 returns-3 : tie.Need-returns-3 Inv-loop μ-loop
-returns-3 c = turn-end component (c .before .before .before .args .s .now) (c .before .before .before .args .n) (c .before .loop .i) (c .before .loop .q) _ (c .before .loop .inv .2) (omega arith) (omega arith)
+returns-3 c =
+    let at-loop = c .before in let start = at-loop .before .before in let turn = at-loop .loop in let a = start .args in
+    turn-end component (a .s .now) (a .n) (turn .i) (turn .q) _ (turn .inv .2) (omega arith) (omega arith)
 
 pub components-spec : {M : Type 1} → statement M
 components-spec =

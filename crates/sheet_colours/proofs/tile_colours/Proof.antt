@@ -33,19 +33,30 @@ sub-if1 : tie.Need-sub-if1 Inv-loop μ-loop
 sub-if1 c = omega arith
 
 returns : tie.Need-returns Inv-loop μ-loop
-returns c = colours-fault edition1 (c .before .before .before .before .args .s .now) (c .before .before .before .before .args .n) (c .before .before .loop .i) (c .before .before .loop .q) (c .before .before .loop .sum) _ (c .before .before .loop .inv .3) 13 (omega arith) (entry-short edition1 (c .before .before .before .before .args .s .now) (c .before .before .loop .q) (c .before .before .loop .sum) (omega arith))
+returns c =
+    let at-loop = c .before .before in let start = at-loop .before .before in let turn = at-loop .loop in let a = start .args in
+    colours-fault edition1 (a .s .now) (a .n) (turn .i) (turn .q) (turn .sum) _ (turn .inv .3) 13 (omega arith)
+    (entry-short edition1 (a .s .now) (turn .q) (turn .sum) (omega arith))
 
 get-requires : tie.Need-get-requires Inv-loop μ-loop
 get-requires c κs = omega arith
 
 add-c : tie.Need-add-c Inv-loop μ-loop
-add-c c = omega (arith, c .get .ensures, field-lt (bits (c .before .before .before .before .before .args .s .now)) (c .before .before .before .loop .q) 6 6 (rw length-bits (omega arith)) (omega arith))
+add-c c =
+    let at-loop = c .before .before .before in let start = at-loop .before .before in
+    omega (arith, c .get .ensures, field-lt (bits (start .args .s .now)) (at-loop .loop .q) 6 6 (rw length-bits (omega arith)) (omega arith))
 
 add-if2 : tie.Need-add-if2 Inv-loop μ-loop
-add-if2 c = omega (arith, c .get .ensures, field-lt (bits (c .before .before .before .before .before .args .s .now)) (c .before .before .before .loop .q) 6 6 (rw length-bits (omega arith)) (omega arith))
+add-if2 c =
+    let at-loop = c .before .before .before in let start = at-loop .before .before in
+    omega (arith, c .get .ensures, field-lt (bits (start .args .s .now)) (at-loop .loop .q) 6 6 (rw length-bits (omega arith)) (omega arith))
 
 returns-2 : tie.Need-returns-2 Inv-loop μ-loop
-returns-2 c = colours-fault edition1 (c .before .before .before .before .before .before .args .s .now) (c .before .before .before .before .before .before .args .n) (c .before .before .before .before .loop .i) (c .before .before .before .before .loop .q) (c .before .before .before .before .loop .sum) _ (c .before .before .before .before .loop .inv .3) 6 (omega arith) (entry-big edition1 (c .before .before .before .before .before .before .args .s .now) (c .before .before .before .before .loop .q) (c .before .before .before .before .loop .sum) (c .before .get .result) (omega arith) (c .before .get .ensures) (omega arith))
+returns-2 c =
+    let after-get = c .before in let at-loop = after-get .before .before .before in let start = at-loop .before .before in let turn = at-loop .loop in
+    let a = start .args in
+    colours-fault edition1 (a .s .now) (a .n) (turn .i) (turn .q) (turn .sum) _ (turn .inv .3) 6 (omega arith)
+    (entry-big edition1 (a .s .now) (turn .q) (turn .sum) (after-get .get .result) (omega arith) (after-get .get .ensures) (omega arith))
 
 add-components : tie.Need-add-components Inv-loop μ-loop
 add-components c = omega arith
@@ -57,7 +68,12 @@ enum-known-f : tie.Need-enum-known-f Inv-loop μ-loop
 enum-known-f c = c .match .keys1
 
 returns-3 : tie.Need-returns-3 Inv-loop μ-loop
-returns-3 c = colours-fault edition1 (c .before .before .before .before .before .before .before .before .before .before .args .s .now) (c .before .before .before .before .before .before .before .before .before .before .args .n) (c .before .before .before .before .before .before .before .before .loop .i) (c .before .before .before .before .before .before .before .before .loop .q) (c .before .before .before .before .before .before .before .before .loop .sum) _ (c .before .before .before .before .before .before .before .before .loop .inv .3) (c .before .f .given .0 .0) (omega arith) (entry-read edition1 (c .before .before .before .before .before .before .before .before .before .before .args .s .now) (c .before .before .before .before .before .before .before .before .loop .q) (c .before .before .before .before .before .before .before .before .loop .sum) (c .before .before .before .before .before .get .result) _ (omega arith) (c .before .before .before .before .before .get .ensures) (omega arith) (step-fault (bits (c .before .before .before .before .before .before .before .before .before .before .args .s .now)) _ (c .before .f .given .0 .0) (sym (c .before .f .given .1) ∙ c .before .before .before .components .ensures)))
+returns-3 c =
+    let after-f = c .before in let after-components = after-f .before .before in let after-get = after-components .before .before in
+    let at-loop = after-get .before .before .before in let start = at-loop .before .before in let turn = at-loop .loop in let a = start .args in
+    colours-fault edition1 (a .s .now) (a .n) (turn .i) (turn .q) (turn .sum) _ (turn .inv .3) (after-f .f .given .0 .0) (omega arith)
+    (entry-read edition1 (a .s .now) (turn .q) (turn .sum) (after-get .get .result) _ (omega arith) (after-get .get .ensures) (omega arith)
+    (step-fault (bits (a .s .now)) _ (after-f .f .given .0 .0) (sym (after-f .f .given .1) ∙ after-components .components .ensures)))
 
 enum-known-z : tie.Need-enum-known-z Inv-loop μ-loop
 enum-known-z c = c .match .keys2
@@ -71,21 +87,31 @@ add-i c = omega arith
 loop-less : tie.Need-loop-less Inv-loop μ-loop
 loop-less c = omega arith
 
-again : (c : tie.After-known-told2 Inv-loop μ-loop) → Inv-loop (c .before .before .before .before .before .before .before .before .before .before .args .s .now) (c .before .before .before .before .before .before .before .before .before .before .args .p) (c .before .before .before .before .before .before .before .before .before .before .args .n) 0 0 0 0 (c .before .z .given .0 .0) (c .before .before .before .before .before .before .before .before .loop .sum + (c .before .before .before .before .before .get .result + 1)) (c .before .before .before .before .before .before .before .before .loop .i + 1)
+again : (c : tie.After-known-told2 Inv-loop μ-loop) →
+    let after-get = c .before .before .before .before .before in let at-loop = after-get .before .before .before in
+    let a = at-loop .before .before .args in let turn = at-loop .loop in
+    Inv-loop (a .s .now) (a .p) (a .n) 0 0 0 0 (c .before .z .given .0 .0) (turn .sum + (after-get .get .result + 1)) (turn .i + 1)
 again c =
+    let after-get = c .before .before .before .before .before in let at-loop = after-get .before .before .before in
+    let a = at-loop .before .before .args in let turn = at-loop .loop in
     let z : ℕ = c .before .z .given .0 .0 in
-    let x = step-at (times 3 component) (times-lawful 3 component component-lawful) (bits (c .before .before .before .before .before .before .before .before .before .before .args .s .now)) (c .before .before .before .before .before .before .before .before .loop .q + 6) (rw length-bits (omega arith)) z (sym (c .before .z .given .1) ∙ c .before .before .before .components .ensures) in (
+    let found = sym (c .before .z .given .1) ∙ c .before .before .before .components .ensures in
+    let x = step-at (times 3 component) (times-lawful 3 component component-lawful) (bits (a .s .now)) (turn .q + 6) (rw length-bits (omega arith)) z found in
+    let count = after-get .get .result in
+    let entry = entry-read edition1 (a .s .now) (turn .q) (turn .sum) count _ (omega arith) (after-get .get .ensures) (omega arith) (x .1) in (
       omega arith,
-      omega (arith, x .2, length-bits (c .before .before .before .before .before .before .before .before .before .before .args .s .now)),
+      omega (arith, x .2, length-bits (a .s .now)),
       omega arith,
-      colours-got edition1 (c .before .before .before .before .before .before .before .before .before .before .args .s .now) (c .before .before .before .before .before .before .before .before .before .before .args .n) (c .before .before .before .before .before .before .before .before .loop .i) (c .before .before .before .before .before .before .before .before .loop .q) (c .before .before .before .before .before .before .before .before .loop .sum) _ (c .before .before .before .before .before .before .before .before .loop .inv .3) (c .before .before .before .before .before .get .result + 1, x .0) z (omega arith) (entry-read edition1 (c .before .before .before .before .before .before .before .before .before .before .args .s .now) (c .before .before .before .before .before .before .before .before .loop .q) (c .before .before .before .before .before .before .before .before .loop .sum) (c .before .before .before .before .before .get .result) _ (omega arith) (c .before .before .before .before .before .get .ensures) (omega arith) (x .1)),
+      colours-got edition1 (a .s .now) (a .n) (turn .i) (turn .q) (turn .sum) _ (turn .inv .3) (count + 1, x .0) z (omega arith) entry,
     )
 
 loop-again : tie.Need-loop-again Inv-loop μ-loop
 loop-again c = again c
 
 returns-4 : tie.Need-returns-4 Inv-loop μ-loop
-returns-4 c = colours-end edition1 (c .before .before .before .args .s .now) (c .before .before .before .args .n) (c .before .loop .i) (c .before .loop .q) (c .before .loop .sum) _ (c .before .loop .inv .3) (omega arith) (omega arith)
+returns-4 c =
+    let at-loop = c .before in let start = at-loop .before .before in let turn = at-loop .loop in let a = start .args in
+    colours-end edition1 (a .s .now) (a .n) (turn .i) (turn .q) (turn .sum) _ (turn .inv .3) (omega arith) (omega arith)
 
 pub tile-colours-spec : {M : Type 1} → statement M
 tile-colours-spec =

@@ -24,31 +24,38 @@ abbrev μ-loop : tie.MeasureT-loop
 μ-loop s p t table₀ counts₀ parts₀ q₀ k₀ i₀ table counts parts q k i = t - i
 
 loop-holds : tie.Need-loop-holds Inv-loop μ-loop
-loop-holds c = (
-  omega arith,
-  refl,
-  refl,
-  refl,
-  record {
-    reads = subst (λ (j : ℕ). Reads (times j (tile edition1)) (c .before .before .before .before .args .s .now) (c .before .before .before .before .args .p)) (sym (sub-zero (c .before .before .before .before .args .t))) (c .before .before .before .before .pre .5);
-    room = rw sub-zero (zero-add (total (listAt (times (c .before .before .before .before .args .t) (tile edition1)) (c .before .before .before .before .args .s .now) (c .before .before .before .before .args .p))));
-    table = rw sub-zero;
-    counts = rw sub-zero;
-    parts = rw sub-zero;
-  },
-)
+loop-holds c =
+    let start = c .before .before .before .before in let a = start .args in (
+      omega arith,
+      refl,
+      refl,
+      refl,
+      record {
+        reads = subst (λ (j : ℕ). Reads (times j (tile edition1)) (a .s .now) (a .p)) (sym (sub-zero (a .t))) (start .pre .5);
+        room = rw sub-zero (zero-add (total (listAt (times (a .t) (tile edition1)) (a .s .now) (a .p))));
+        table = rw sub-zero;
+        counts = rw sub-zero;
+        parts = rw sub-zero;
+      },
+    )
 
 get-requires : tie.Need-get-requires Inv-loop μ-loop
-get-requires c κs = omega (arith, tiling-turn edition1 (c .before .before .before .before .before .before .args .t) (c .before .loop .i) (c .before .loop .inv .4) (omega arith) (fieldAt (bits (c .before .before .before .before .before .before .args .s .now)) (c .before .loop .q) 7) refl .room)
+get-requires c κs =
+    let at-loop = c .before in let start = at-loop .before .before .before .before .before in let turn = at-loop .loop in let a = start .args in
+    omega (arith, tiling-turn edition1 (a .t) (turn .i) (turn .inv .4) (omega arith) (fieldAt (bits (a .s .now)) (turn .q) 7) refl .room)
 
 cast-n : tie.Need-cast-n Inv-loop μ-loop
-cast-n c = omega (arith, tiling-turn edition1 (c .before .before .before .before .before .before .before .args .t) (c .before .before .loop .i) (c .before .before .loop .inv .4) (omega arith) (c .get .result) (c .get .ensures) .few)
+cast-n c =
+    let at-loop = c .before .before in let start = at-loop .before .before .before .before .before in
+    omega (arith, tiling-turn edition1 (start .args .t) (at-loop .loop .i) (at-loop .loop .inv .4) (omega arith) (c .get .result) (c .get .ensures) .few)
 
 mul-j : tie.Need-mul-j Inv-loop μ-loop
 mul-j c = omega arith
 
 cast-table : tie.Need-cast-table Inv-loop μ-loop
-cast-table c = omega (arith, tiling-fits edition1 (c .before .before .before .before .before .before .before .args .t) (c .before .before .loop .i) (c .before .before .loop .inv .4) (omega arith) (c .get .result) (c .get .ensures))
+cast-table c =
+    let at-loop = c .before .before in let start = at-loop .before .before .before .before .before in
+    omega (arith, tiling-fits edition1 (start .args .t) (at-loop .loop .i) (at-loop .loop .inv .4) (omega arith) (c .get .result) (c .get .ensures))
 
 mul-table : tie.Need-mul-table Inv-loop μ-loop
 mul-table c = omega arith
@@ -57,7 +64,9 @@ slice-write-table : tie.Need-slice-write-table Inv-loop μ-loop
 slice-write-table c = omega arith
 
 cast-table-2 : tie.Need-cast-table-2 Inv-loop μ-loop
-cast-table-2 c = omega (arith, tiling-turn edition1 (c .before .before .before .before .before .before .before .args .t) (c .before .before .loop .i) (c .before .before .loop .inv .4) (omega arith) (c .get .result) (c .get .ensures) .few)
+cast-table-2 c =
+    let at-loop = c .before .before in let start = at-loop .before .before .before .before .before in
+    omega (arith, tiling-turn edition1 (start .args .t) (at-loop .loop .i) (at-loop .loop .inv .4) (omega arith) (c .get .result) (c .get .ensures) .few)
 
 add-table : tie.Need-add-table Inv-loop μ-loop
 add-table c = omega arith
@@ -69,26 +78,41 @@ slice-write-table-2 : tie.Need-slice-write-table-2 Inv-loop μ-loop
 slice-write-table-2 c = simp length-set (omega arith)
 
 add-fill-colours : tie.Need-add-fill-colours Inv-loop μ-loop
-add-fill-colours c = omega (arith, tiling-turn edition1 (c .before .before .before .before .before .before .before .args .t) (c .before .before .loop .i) (c .before .before .loop .inv .4) (omega arith) (c .get .result) (c .get .ensures) .room)
+add-fill-colours c =
+    let at-loop = c .before .before in let start = at-loop .before .before .before .before .before in
+    omega (arith, tiling-turn edition1 (start .args .t) (at-loop .loop .i) (at-loop .loop .inv .4) (omega arith) (c .get .result) (c .get .ensures) .room)
 
 fill-colours-requires : tie.Need-fill-colours-requires Inv-loop μ-loop
 fill-colours-requires c κs =
-    let fits = tiling-fits edition1 (c .before .before .before .before .before .before .before .before .before .args .t) (c .before .before .before .before .loop .i) (c .before .before .before .before .loop .inv .4) (omega arith) (c .before .before .get .result) (c .before .before .get .ensures) in
-    (c .before .before .before .before .before .before .before .before .before .pre .0, omega arith, omega arith, tiling-turn edition1 (c .before .before .before .before .before .before .before .before .before .args .t) (c .before .before .before .before .loop .i) (c .before .before .before .before .loop .inv .4) (omega arith) (c .before .before .get .result) (c .before .before .get .ensures) .here)
+    let after-get = c .before .before in let at-loop = after-get .before .before in let start = at-loop .before .before .before .before .before in
+    let turn = at-loop .loop in let a = start .args in
+    let fits = tiling-fits edition1 (a .t) (turn .i) (turn .inv .4) (omega arith) (after-get .get .result) (after-get .get .ensures) in
+    (start .pre .0, omega arith, omega arith, tiling-turn edition1 (a .t) (turn .i) (turn .inv .4) (omega arith) (after-get .get .result) (after-get .get .ensures) .here)
 
 mul-q : tie.Need-mul-q Inv-loop μ-loop
-mul-q c = omega (arith, tiling-turn edition1 (c .before .before .before .before .before .before .before .before .before .before .before .before .before .before .args .t) (c .before .before .before .before .before .before .before .before .before .loop .i) (c .before .before .before .before .before .before .before .before .before .loop .inv .4) (omega arith) (c .before .before .before .before .before .before .before .get .result) (c .before .before .before .before .before .before .before .get .ensures) .few)
+mul-q c =
+    let after-get = c .before .before .before .before .before .before .before in let at-loop = after-get .before .before in
+    let start = at-loop .before .before .before .before .before in
+    omega (arith, tiling-turn edition1 (start .args .t) (at-loop .loop .i) (at-loop .loop .inv .4) (omega arith) (after-get .get .result) (after-get .get .ensures) .few)
 
 add-q : tie.Need-add-q Inv-loop μ-loop
-add-q c = omega (arith, tiling-turn edition1 (c .before .before .before .before .before .before .before .before .before .before .before .before .before .before .args .t) (c .before .before .before .before .before .before .before .before .before .loop .i) (c .before .before .before .before .before .before .before .before .before .loop .inv .4) (omega arith) (c .before .before .before .before .before .before .before .get .result) (c .before .before .before .before .before .before .before .get .ensures) .few)
+add-q c =
+    let after-get = c .before .before .before .before .before .before .before in let at-loop = after-get .before .before in
+    let start = at-loop .before .before .before .before .before in
+    omega (arith, tiling-turn edition1 (start .args .t) (at-loop .loop .i) (at-loop .loop .inv .4) (omega arith) (after-get .get .result) (after-get .get .ensures) .few)
 
 add-q-2 : tie.Need-add-q-2 Inv-loop μ-loop
 add-q-2 c =
-    let turn = tiling-turn edition1 (c .before .before .before .before .before .before .before .before .before .before .before .before .before .before .args .t) (c .before .before .before .before .before .before .before .before .before .loop .i) (c .before .before .before .before .before .before .before .before .before .loop .inv .4) (omega arith) (c .before .before .before .before .before .before .before .get .result) (c .before .before .before .before .before .before .before .get .ensures) in
+    let after-get = c .before .before .before .before .before .before .before in let at-loop = after-get .before .before in
+    let start = at-loop .before .before .before .before .before in
+    let turn = tiling-turn edition1 (start .args .t) (at-loop .loop .i) (at-loop .loop .inv .4) (omega arith) (after-get .get .result) (after-get .get .ensures) in
     omega (arith, turn .few, turn .room)
 
 add-k : tie.Need-add-k Inv-loop μ-loop
-add-k c = omega (arith, tiling-fits edition1 (c .before .before .before .before .before .before .before .before .before .before .before .before .before .before .args .t) (c .before .before .before .before .before .before .before .before .before .loop .i) (c .before .before .before .before .before .before .before .before .before .loop .inv .4) (omega arith) (c .before .before .before .before .before .before .before .get .result) (c .before .before .before .before .before .before .before .get .ensures))
+add-k c =
+    let after-get = c .before .before .before .before .before .before .before in let at-loop = after-get .before .before in
+    let start = at-loop .before .before .before .before .before in
+    omega (arith, tiling-fits edition1 (start .args .t) (at-loop .loop .i) (at-loop .loop .inv .4) (omega arith) (after-get .get .result) (after-get .get .ensures))
 
 add-i : tie.Need-add-i Inv-loop μ-loop
 add-i c = omega arith
@@ -97,13 +121,16 @@ loop-less : tie.Need-loop-less Inv-loop μ-loop
 loop-less c = omega arith
 
 loop-again : tie.Need-loop-again Inv-loop μ-loop
-loop-again c = (
-  omega arith,
-  simp length-set (c .before .before .before .before .before .before .before .before .before .loop .inv .1),
-  c .before .before .before .before .fill-colours .kept .1 .1 .1 .0 ∙ c .before .before .before .before .before .before .before .before .before .loop .inv .2,
-  c .before .before .before .before .fill-colours .kept .1 .1 .1 .1 .0 ∙ c .before .before .before .before .before .before .before .before .before .loop .inv .3,
-  tiling-again edition1 (c .before .before .before .before .before .before .before .before .before .before .before .before .before .before .args .t) (c .before .before .before .before .before .before .before .before .before .loop .i) (c .before .before .before .before .before .before .before .before .before .loop .inv .4) (omega arith) (c .before .before .before .before .before .before .before .get .result) (c .before .before .before .before .before .before .before .get .ensures) _ _ (c .before .before .before .before .fill-colours .ensures .0) (c .before .before .before .before .fill-colours .ensures .1),
-)
+loop-again c =
+    let after-fill-colours = c .before .before .before .before in let after-get = after-fill-colours .before .before .before in
+    let at-loop = after-get .before .before in let start = at-loop .before .before .before .before .before in let turn = at-loop .loop in (
+      omega arith,
+      simp length-set (turn .inv .1),
+      after-fill-colours .fill-colours .kept .1 .1 .1 .0 ∙ turn .inv .2,
+      after-fill-colours .fill-colours .kept .1 .1 .1 .1 .0 ∙ turn .inv .3,
+      tiling-again edition1 (start .args .t) (turn .i) (turn .inv .4) (omega arith) (after-get .get .result) (after-get .get .ensures) _ _
+          (after-fill-colours .fill-colours .ensures .0) (after-fill-colours .fill-colours .ensures .1),
+    )
 
 same-length : tie.Need-same-length Inv-loop μ-loop
 same-length c = omega arith
@@ -115,7 +142,8 @@ same-length-3 : tie.Need-same-length-3 Inv-loop μ-loop
 same-length-3 c = omega arith
 
 returns : tie.Need-returns Inv-loop μ-loop
-returns c = tiling-end edition1 (c .before .before .before .before .before .before .args .t) (c .before .loop .i) (c .before .loop .inv .4) (omega arith)
+returns c =
+    tiling-end edition1 (c .before .before .before .before .before .before .args .t) (c .before .loop .i) (c .before .loop .inv .4) (omega arith)
 
 pub fill-tiles-spec : {M : Type 1} → statement M
 fill-tiles-spec =

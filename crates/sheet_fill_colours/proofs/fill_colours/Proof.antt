@@ -24,28 +24,33 @@ abbrev μ-loop : tie.MeasureT-loop
 μ-loop s p n counts₀ parts₀ k q₀ i₀ counts parts q i = n - i
 
 loop-holds : tie.Need-loop-holds Inv-loop μ-loop
-loop-holds c = (
-  omega arith,
-  refl,
-  refl,
-  record {
-    sum = 0;
-    reads = subst (λ (j : ℕ). Reads (colours edition1 j 0) (c .before .before .before .args .s .now) (c .before .before .before .args .p)) (sym (sub-zero (c .before .before .before .args .n))) (c .before .before .before .pre .3);
-    counts = rw (add-zero, sub-zero);
-    parts = rw (add-zero, sub-zero);
-  },
-)
+loop-holds c =
+    let start = c .before .before .before in
+    let a = start .args in (
+      omega arith,
+      refl,
+      refl,
+      record {
+        sum = 0;
+        reads = subst (λ (j : ℕ). Reads (colours edition1 j 0) (a .s .now) (a .p)) (sym (sub-zero (a .n))) (start .pre .3);
+        counts = rw (add-zero, sub-zero);
+        parts = rw (add-zero, sub-zero);
+      },
+    )
 
 add-j : tie.Need-add-j Inv-loop μ-loop
 add-j c = omega arith
 
 get-requires : tie.Need-get-requires Inv-loop μ-loop
-get-requires c κs = omega (arith, filling-now edition1 (c .before .before .before .before .before .args .n) (c .before .loop .i) (c .before .before .before .before .before .args .k) (c .before .loop .inv .3) (omega arith) .room)
+get-requires c κs =
+    let at-loop = c .before in let start = at-loop .before .before .before .before in let a = start .args in
+    omega (arith, filling-now edition1 (a .n) (at-loop .loop .i) (a .k) (at-loop .loop .inv .3) (omega arith) .room)
 
 add-counts : tie.Need-add-counts Inv-loop μ-loop
 add-counts c =
-    let room = filling-now edition1 (c .before .before .before .before .before .before .args .n) (c .before .before .loop .i) (c .before .before .before .before .before .before .args .k) (c .before .before .loop .inv .3) (omega arith) .room in
-    omega (arith, c .get .ensures, field-lt (bits (c .before .before .before .before .before .before .args .s .now)) (c .before .before .loop .q) 6 6 (rw length-bits (omega arith)) (omega arith))
+    let at-loop = c .before .before in let start = at-loop .before .before .before .before in let turn = at-loop .loop in let a = start .args in
+    let room = filling-now edition1 (a .n) (turn .i) (a .k) (turn .inv .3) (omega arith) .room in
+    omega (arith, c .get .ensures, field-lt (bits (a .s .now)) (turn .q) 6 6 (rw length-bits (omega arith)) (omega arith))
 
 mul-counts : tie.Need-mul-counts Inv-loop μ-loop
 mul-counts c = omega arith
@@ -54,16 +59,22 @@ slice-write-counts : tie.Need-slice-write-counts Inv-loop μ-loop
 slice-write-counts c = omega arith
 
 add-fill-components : tie.Need-add-fill-components Inv-loop μ-loop
-add-fill-components c = omega (arith, filling-now edition1 (c .before .before .before .before .before .before .args .n) (c .before .before .loop .i) (c .before .before .before .before .before .before .args .k) (c .before .before .loop .inv .3) (omega arith) .room)
+add-fill-components c =
+    let at-loop = c .before .before in let start = at-loop .before .before .before .before in let a = start .args in
+    omega (arith, filling-now edition1 (a .n) (at-loop .loop .i) (a .k) (at-loop .loop .inv .3) (omega arith) .room)
 
 mul-fill-components : tie.Need-mul-fill-components Inv-loop μ-loop
 mul-fill-components c = omega arith
 
 fill-components-requires : tie.Need-fill-components-requires Inv-loop μ-loop
-fill-components-requires c κs = (c .before .before .before .before .before .before .before .pre .0, omega arith, filling-now edition1 (c .before .before .before .before .before .before .before .args .n) (c .before .before .before .loop .i) (c .before .before .before .before .before .before .before .args .k) (c .before .before .before .loop .inv .3) (omega arith) .parts)
+fill-components-requires c κs =
+    let at-loop = c .before .before .before in let start = at-loop .before .before .before .before in let a = start .args in
+    (start .pre .0, omega arith, filling-now edition1 (a .n) (at-loop .loop .i) (a .k) (at-loop .loop .inv .3) (omega arith) .parts)
 
 add-q : tie.Need-add-q Inv-loop μ-loop
-add-q c = omega (arith, filling-now edition1 (c .before .before .before .before .before .before .before .before .before .before .args .n) (c .before .before .before .before .before .before .loop .i) (c .before .before .before .before .before .before .before .before .before .before .args .k) (c .before .before .before .before .before .before .loop .inv .3) (omega arith) .room)
+add-q c =
+    let at-loop = c .before .before .before .before .before .before in let start = at-loop .before .before .before .before in let a = start .args in
+    omega (arith, filling-now edition1 (a .n) (at-loop .loop .i) (a .k) (at-loop .loop .inv .3) (omega arith) .room)
 
 add-i : tie.Need-add-i Inv-loop μ-loop
 add-i c = omega arith
@@ -72,12 +83,16 @@ loop-less : tie.Need-loop-less Inv-loop μ-loop
 loop-less c = omega arith
 
 loop-again : tie.Need-loop-again Inv-loop μ-loop
-loop-again c = (
-  omega arith,
-  length-set (c .before .before .before .before .before .before .loop .counts) (c .before .before .before .before .before .before .before .before .before .before .args .k + c .before .before .before .before .before .before .loop .i) (c .before .before .before .before .get .result + 1) ∙ c .before .before .before .before .before .before .loop .inv .1,
-  c .before .before .fill-components .kept .1 .1 .1 .0 ∙ c .before .before .before .before .before .before .loop .inv .2,
-  filling-again edition1 (c .before .before .before .before .before .before .before .before .before .before .args .n) (c .before .before .before .before .before .before .loop .i) (c .before .before .before .before .before .before .before .before .before .before .args .k) (c .before .before .before .before .before .before .loop .inv .3) (omega arith) (c .before .before .before .before .get .result) _ (c .before .before .before .before .get .ensures) (c .before .before .fill-components .ensures),
-)
+loop-again c =
+    let after-fill-components = c .before .before in let after-get = after-fill-components .before .before in
+    let at-loop = after-get .before .before in let start = at-loop .before .before .before .before in let turn = at-loop .loop in
+    let a = start .args in (
+      omega arith,
+      length-set (turn .counts) (a .k + turn .i) (after-get .get .result + 1) ∙ turn .inv .1,
+      after-fill-components .fill-components .kept .1 .1 .1 .0 ∙ turn .inv .2,
+      filling-again edition1 (a .n) (turn .i) (a .k) (turn .inv .3) (omega arith) (after-get .get .result) _ (after-get .get .ensures)
+          (after-fill-components .fill-components .ensures),
+    )
 
 same-length : tie.Need-same-length Inv-loop μ-loop
 same-length c = omega arith
@@ -86,7 +101,9 @@ same-length-2 : tie.Need-same-length-2 Inv-loop μ-loop
 same-length-2 c = omega arith
 
 returns : tie.Need-returns Inv-loop μ-loop
-returns c = filling-end edition1 (c .before .before .before .before .before .args .n) (c .before .loop .i) (c .before .before .before .before .before .args .k) (c .before .loop .inv .3) (omega arith)
+returns c =
+    let at-loop = c .before in let start = at-loop .before .before .before .before in let a = start .args in
+    filling-end edition1 (a .n) (at-loop .loop .i) (a .k) (at-loop .loop .inv .3) (omega arith)
 
 pub fill-colours-spec : {M : Type 1} → statement M
 fill-colours-spec =

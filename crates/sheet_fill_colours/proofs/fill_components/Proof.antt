@@ -24,23 +24,28 @@ abbrev μ-loop : tie.MeasureT-loop
 μ-loop s p n dst₀ at q₀ i₀ dst q i = n - i
 
 loop-holds : tie.Need-loop-holds Inv-loop μ-loop
-loop-holds c = (
-  omega arith,
-  refl,
-  subst (λ (j : ℕ). Reads (times j component) (c .before .before .args .s .now) (c .before .before .args .p)) (sym (sub-zero (c .before .before .args .n))) (c .before .before .pre .2),
-  rw (add-zero, sub-zero),
-)
+loop-holds c =
+    let start = c .before .before in
+    let a = start .args in (
+      omega arith,
+      refl,
+      subst (λ (j : ℕ). Reads (times j component) (a .s .now) (a .p)) (sym (sub-zero (a .n))) (start .pre .2),
+      rw (add-zero, sub-zero),
+    )
 
 add-k : tie.Need-add-k Inv-loop μ-loop
 add-k c = omega arith
 
 get-requires : tie.Need-get-requires Inv-loop μ-loop
-get-requires c κs = omega (arith, fill-now (c .before .before .before .before .args .s .now) (c .before .before .before .before .args .n) (c .before .loop .i) (c .before .loop .q) (c .before .before .before .before .args .at) (c .before .loop .dst) _ (c .before .loop .inv .2) (c .before .loop .inv .3) (omega arith) .room)
+get-requires c κs =
+    let at-loop = c .before in let start = at-loop .before .before .before in let turn = at-loop .loop in let a = start .args in
+    omega (arith, fill-now (a .s .now) (a .n) (turn .i) (turn .q) (a .at) (turn .dst) _ (turn .inv .2) (turn .inv .3) (omega arith) .room)
 
 component-requires : tie.Need-component-requires Inv-loop μ-loop
 component-requires c κs =
+    let at-loop = c .before .before in let start = at-loop .before .before .before in let turn = at-loop .loop in let a = start .args in
     subst (λ (v : ℕ). T (small v)) (sym (c .get .ensures))
-    (fill-now (c .before .before .before .before .before .args .s .now) (c .before .before .before .before .before .args .n) (c .before .before .loop .i) (c .before .before .loop .q) (c .before .before .before .before .before .args .at) (c .before .before .loop .dst) _ (c .before .before .loop .inv .2) (c .before .before .loop .inv .3) (omega arith) .fine)
+    (fill-now (a .s .now) (a .n) (turn .i) (turn .q) (a .at) (turn .dst) _ (turn .inv .2) (turn .inv .3) (omega arith) .fine)
 
 mul-dst : tie.Need-mul-dst Inv-loop μ-loop
 mul-dst c = omega arith
@@ -49,7 +54,9 @@ slice-write-dst : tie.Need-slice-write-dst Inv-loop μ-loop
 slice-write-dst c = omega arith
 
 add-q : tie.Need-add-q Inv-loop μ-loop
-add-q c = omega (arith, fill-now (c .before .before .before .before .before .before .args .s .now) (c .before .before .before .before .before .before .args .n) (c .before .before .before .loop .i) (c .before .before .before .loop .q) (c .before .before .before .before .before .before .args .at) (c .before .before .before .loop .dst) _ (c .before .before .before .loop .inv .2) (c .before .before .before .loop .inv .3) (omega arith) .room)
+add-q c =
+    let at-loop = c .before .before .before in let start = at-loop .before .before .before in let turn = at-loop .loop in let a = start .args in
+    omega (arith, fill-now (a .s .now) (a .n) (turn .i) (turn .q) (a .at) (turn .dst) _ (turn .inv .2) (turn .inv .3) (omega arith) .room)
 
 add-i : tie.Need-add-i Inv-loop μ-loop
 add-i c = omega arith
@@ -58,19 +65,23 @@ loop-less : tie.Need-loop-less Inv-loop μ-loop
 loop-less c = omega arith
 
 loop-again : tie.Need-loop-again Inv-loop μ-loop
-loop-again c = (
-  omega arith,
-  length-set (c .before .before .before .loop .dst) (c .before .before .before .before .before .before .args .at + c .before .before .before .loop .i) (c .component .result) ∙ c .before .before .before .loop .inv .1,
-  fill-now (c .before .before .before .before .before .before .args .s .now) (c .before .before .before .before .before .before .args .n) (c .before .before .before .loop .i) (c .before .before .before .loop .q) (c .before .before .before .before .before .before .args .at) (c .before .before .before .loop .dst) _ (c .before .before .before .loop .inv .2) (c .before .before .before .loop .inv .3) (omega arith) .left,
-  fill-again (c .before .before .before .before .before .before .args .s .now) (c .before .before .before .before .before .before .args .n) (c .before .before .before .loop .i) (c .before .before .before .loop .q) (c .before .before .before .before .before .before .args .at) (c .before .before .before .loop .dst) _ (c .before .before .before .loop .inv .2) (c .before .before .before .loop .inv .3) (omega arith) _
-      (ap (set (c .before .before .before .loop .dst) (c .before .before .before .before .before .before .args .at + c .before .before .before .loop .i)) (c .component .ensures .0 ∙ ap (ofBits binary32) (c .before .get .ensures))),
-)
+loop-again c =
+    let after-get = c .before in let at-loop = after-get .before .before in let start = at-loop .before .before .before in let turn = at-loop .loop in
+    let a = start .args in (
+      omega arith,
+      length-set (turn .dst) (a .at + turn .i) (c .component .result) ∙ turn .inv .1,
+      fill-now (a .s .now) (a .n) (turn .i) (turn .q) (a .at) (turn .dst) _ (turn .inv .2) (turn .inv .3) (omega arith) .left,
+      fill-again (a .s .now) (a .n) (turn .i) (turn .q) (a .at) (turn .dst) _ (turn .inv .2) (turn .inv .3) (omega arith) _
+          (ap (set (turn .dst) (a .at + turn .i)) (c .component .ensures .0 ∙ ap (ofBits binary32) (after-get .get .ensures))),
+    )
 
 same-length : tie.Need-same-length Inv-loop μ-loop
 same-length c = omega arith
 
 returns : tie.Need-returns Inv-loop μ-loop
-returns c = fill-end (c .before .before .before .before .args .s .now) (c .before .before .before .before .args .n) (c .before .loop .i) (c .before .loop .q) (c .before .before .before .before .args .at) (c .before .loop .dst) _ (c .before .loop .inv .2) (c .before .loop .inv .3) (omega arith)
+returns c =
+    let at-loop = c .before in let start = at-loop .before .before .before in let turn = at-loop .loop in let a = start .args in
+    fill-end (a .s .now) (a .n) (turn .i) (turn .q) (a .at) (turn .dst) _ (turn .inv .2) (turn .inv .3) (omega arith)
 
 pub fill-components-spec : {M : Type 1} → statement M
 fill-components-spec =

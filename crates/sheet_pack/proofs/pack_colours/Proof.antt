@@ -36,8 +36,7 @@ shared-slice-read-put c = omega arith
 
 sub-put : tie.Need-sub-put Inv-loop μ-loop
 sub-put c =
-    let at-loop = c .before .before .before in
-    let start = at-loop .before .before .before .before in
+    let at-loop = c .before .before .before in let start = at-loop .before .before .before .before in
     start .pre .3 (at-loop .loop .i) (omega arith)
 
 put-requires : tie.Need-put-requires Inv-loop μ-loop
@@ -63,11 +62,8 @@ part-pack-components-end c = omega arith
 
 pack-components-requires : tie.Need-pack-components-requires Inv-loop μ-loop
 pack-components-requires c κs =
-    let after-In-loop = c .before .before .before .before .before .before .before in
-    let at-loop = after-In-loop .before in
-    let start = at-loop .before .before .before .before in
-    let turn = at-loop .loop in
-    let a = start .args in
+    let after-In-loop = c .before .before .before .before .before .before .before in let at-loop = after-In-loop .before in
+    let start = at-loop .before .before .before .before in let turn = at-loop .loop in let a = start .args in
     let room : 3 * turn .i + 3 ≤ length (a .colours .now) = omega arith in
     let long = three-long (a .colours .now) (3 * turn .i) room in
     (omega arith, omega arith, three-bounded (a .colours .now) (3 * turn .i) room 2 (start .pre .4))
@@ -83,11 +79,8 @@ loop-less c = omega arith
 
 loop-again : tie.Need-loop-again Inv-loop μ-loop
 loop-again c =
-    let after-pack-components = c .before .before in
-    let after-put = after-pack-components .before .before .before .before .before in
-    let at-loop = after-put .before .before .before .before in
-    let start = at-loop .before .before .before .before in
-    let turn = at-loop .loop in
+    let after-pack-components = c .before .before in let after-put = after-pack-components .before .before .before .before .before in
+    let at-loop = after-put .before .before .before .before in let start = at-loop .before .before .before .before in let turn = at-loop .loop in
     let a = start .args in (
       omega arith,
       after-pack-components .pack-components .kept .0 ∙ after-put .put .kept .0 ∙ turn .inv .1,
@@ -105,10 +98,7 @@ same-length c = omega arith
 
 returns : tie.Need-returns Inv-loop μ-loop
 returns c =
-    let at-loop = c .before in
-    let start = at-loop .before .before .before .before in
-    let turn = at-loop .loop in
-    let a = start .args in
+    let at-loop = c .before in let start = at-loop .before .before .before .before in let turn = at-loop .loop in let a = start .args in
     colours-end (a .counts .now) (a .colours .now) (turn .dst) (turn .q) (turn .i) _ (omega arith) (turn .inv .3)
 
 pub pack-colours-spec : {M : Type 1} → statement M

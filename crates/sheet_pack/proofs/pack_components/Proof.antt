@@ -31,8 +31,7 @@ shared-slice-read-v c = omega arith
 
 float-to-bits-v : tie.Need-float-to-bits-v Inv-loop μ-loop
 float-to-bits-v c =
-    let at-loop = c .before .before in
-    let start = at-loop .before .before .before in
+    let at-loop = c .before .before in let start = at-loop .before .before .before in
     within-real (getD (start .args .src .now) (at-loop .loop .i) nan) 2 1 (start .pre .2 (at-loop .loop .i) (omega arith))
 
 put-requires : tie.Need-put-requires Inv-loop μ-loop
@@ -49,9 +48,7 @@ loop-less c = omega arith
 
 loop-again : tie.Need-loop-again Inv-loop μ-loop
 loop-again c =
-    let after-put = c .before .before in
-    let at-loop = after-put .before .before .before .before in
-    let start = at-loop .before .before .before in
+    let after-put = c .before .before in let at-loop = after-put .before .before .before .before in let start = at-loop .before .before .before in
     let turn = at-loop .loop in (
       omega arith,
       after-put .put .kept .0 ∙ turn .inv .1,
@@ -65,9 +62,7 @@ same-length c = omega arith
 
 returns : tie.Need-returns Inv-loop μ-loop
 returns c =
-    let at-loop = c .before in
-    let start = at-loop .before .before .before in
-    let turn = at-loop .loop in
+    let at-loop = c .before in let start = at-loop .before .before .before in let turn = at-loop .loop in
     words-end (start .args .src .now) (turn .dst) (turn .q) (turn .i) _ (omega arith) (turn .inv .3)
 
 pub pack-components-spec : {M : Type 1} → statement M

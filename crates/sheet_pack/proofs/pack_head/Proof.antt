@@ -47,14 +47,10 @@ same-length c = search needs
 
 returns : tie.Need-returns
 returns c =
-    let after-put6 = c .before .before in
-    let after-put5 = after-put6 .before .before .before .before in
-    let after-put4 = after-put5 .before .before .before .before in
-    let after-put3 = after-put4 .before .before .before .before in
-    let after-put2 = after-put3 .before .before .before .before in
-    let after-put = after-put2 .before .before .before .before in
-    let start = after-put .before .before .before in
-    let a = start .args in
+    let after-put6 = c .before .before in let after-put5 = after-put6 .before .before .before .before in
+    let after-put4 = after-put5 .before .before .before .before in let after-put3 = after-put4 .before .before .before .before in
+    let after-put2 = after-put3 .before .before .before .before in let after-put = after-put2 .before .before .before .before in
+    let start = after-put .before .before .before in let a = start .args in
     head-done _ _ _ _ _ _ _ (a .s) (a .c) (a .t) (a .w) (rw length-bits (omega arith))
     (after-put .put .ensures) (after-put2 .put2 .ensures) (after-put3 .put3 .ensures) (after-put4 .put4 .ensures) (after-put5 .put5 .ensures) (after-put6 .put6 .ensures)
 

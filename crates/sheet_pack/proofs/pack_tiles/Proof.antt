@@ -31,20 +31,17 @@ loop-holds c =
 
 counts-part-requires : tie.Need-counts-part-requires Inv-loop μ-loop
 counts-part-requires c κs =
-    let at-loop = c .before .before in
-    let start = at-loop .before .before .before .before .before in
+    let at-loop = c .before .before in let start = at-loop .before .before .before .before .before in
     counts-placed _ (start .pre .2) (at-loop .loop .i) (omega arith)
 
 tile-part-requires : tie.Need-tile-part-requires Inv-loop μ-loop
 tile-part-requires c κs =
-    let at-loop = c .before .before .before .before in
-    let start = at-loop .before .before .before .before .before in
+    let at-loop = c .before .before .before .before in let start = at-loop .before .before .before .before .before in
     colours-placed _ (start .pre .2) (at-loop .loop .i) (omega arith)
 
 pack-tile-requires : tie.Need-pack-tile-requires Inv-loop μ-loop
 pack-tile-requires c κs =
-    let after-counts-part = c .before .before in
-    let at-loop = after-counts-part .before .before .before in
+    let after-counts-part = c .before .before in let at-loop = after-counts-part .before .before .before in
     let start = at-loop .before .before .before .before .before in
     let H = here _ (start .pre .2) (at-loop .loop .i) (omega arith) _ _ (after-counts-part .counts-part .ensures) (c .tile-part .ensures) in
     let reach = H .reach in
@@ -52,26 +49,20 @@ pack-tile-requires c κs =
 
 mul-q : tie.Need-mul-q Inv-loop μ-loop
 mul-q c =
-    let after-tile-part = c .before .before .before in
-    let after-counts-part = after-tile-part .before .before in
-    let at-loop = after-counts-part .before .before .before in
-    let start = at-loop .before .before .before .before .before in
+    let after-tile-part = c .before .before .before in let after-counts-part = after-tile-part .before .before in
+    let at-loop = after-counts-part .before .before .before in let start = at-loop .before .before .before .before .before in
     omega (arith, here _ (start .pre .2) (at-loop .loop .i) (omega arith) _ _ (after-counts-part .counts-part .ensures) (after-tile-part .tile-part .ensures) .few)
 
 add-q : tie.Need-add-q Inv-loop μ-loop
 add-q c =
-    let after-tile-part = c .before .before .before in
-    let after-counts-part = after-tile-part .before .before in
-    let at-loop = after-counts-part .before .before .before in
-    let start = at-loop .before .before .before .before .before in
+    let after-tile-part = c .before .before .before in let after-counts-part = after-tile-part .before .before in
+    let at-loop = after-counts-part .before .before .before in let start = at-loop .before .before .before .before .before in
     omega (arith, here _ (start .pre .2) (at-loop .loop .i) (omega arith) _ _ (after-counts-part .counts-part .ensures) (after-tile-part .tile-part .ensures) .few)
 
 add-q-2 : tie.Need-add-q-2 Inv-loop μ-loop
 add-q-2 c =
-    let after-tile-part = c .before .before .before in
-    let after-counts-part = after-tile-part .before .before in
-    let at-loop = after-counts-part .before .before .before in
-    let start = at-loop .before .before .before .before .before in
+    let after-tile-part = c .before .before .before in let after-counts-part = after-tile-part .before .before in
+    let at-loop = after-counts-part .before .before .before in let start = at-loop .before .before .before .before .before in
     omega (
       arith,
       here _ (start .pre .2) (at-loop .loop .i) (omega arith) _ _ (after-counts-part .counts-part .ensures)
@@ -86,12 +77,9 @@ loop-less c = omega arith
 
 loop-again : tie.Need-loop-again Inv-loop μ-loop
 loop-again c =
-    let after-pack-tile = c .before .before in
-    let after-tile-part = after-pack-tile .before in
-    let after-counts-part = after-tile-part .before .before in
-    let at-loop = after-counts-part .before .before .before in
-    let start = at-loop .before .before .before .before .before in
-    let turn = at-loop .loop in
+    let after-pack-tile = c .before .before in let after-tile-part = after-pack-tile .before in
+    let after-counts-part = after-tile-part .before .before in let at-loop = after-counts-part .before .before .before in
+    let start = at-loop .before .before .before .before .before in let turn = at-loop .loop in
     let H = here _ (start .pre .2) (turn .i) (omega arith) _ _ (after-counts-part .counts-part .ensures) (after-tile-part .tile-part .ensures) in (
       omega arith,
       after-pack-tile .pack-tile .kept .0 ∙ turn .inv .1,
@@ -104,9 +92,7 @@ same-length c = omega arith
 
 returns : tie.Need-returns Inv-loop μ-loop
 returns c =
-    let at-loop = c .before .before in
-    let start = at-loop .before .before .before .before .before in
-    let turn = at-loop .loop in
+    let at-loop = c .before .before in let start = at-loop .before .before .before .before .before in let turn = at-loop .loop in
     tiles-end _ _ _ (turn .dst) (turn .q) (start .args .z .t) (turn .i) _ (omega arith) (turn .inv .3)
 
 pub pack-tiles-spec : {M : Type 1} → statement M

@@ -17,13 +17,22 @@ same-length : tie.Need-same-length
 same-length c = search needs
 
 returns : tie.Need-returns
-returns c = absurd (never _ _ _ (c .before .before .before .before .before .before .before .before .before .before .before .before .pre .0) (c .before .before .before .before .before .before .before .before .before .before .before .before .pre .1) _ _ (c .before .before .before .before .before .write .ensures) _ (c .before .n .given .1))
+returns c =
+    let after-n = c .before in let after-write = after-n .before .before .before .before in
+    let start = after-write .before .before .before .before .before .before .before in
+    absurd (never _ _ _ (start .pre .0) (start .pre .1) _ _ (after-write .write .ensures) _ (after-n .n .given .1))
 
 same-length-2 : tie.Need-same-length-2
 same-length-2 c = search needs
 
 returns-2 : tie.Need-returns-2
-returns-2 c = (file-stored _ _ _ (c .before .before .before .before .before .before .before .before .before .before .before .before .pre .0) (c .before .before .before .before .before .before .before .before .before .before .before .before .pre .1) _ _ (c .before .before .before .before .before .write .ensures) _ (c .before .n2 .given .1), file-short _ _ _ (c .before .before .before .before .before .before .before .before .before .before .before .before .pre .0) (c .before .before .before .before .before .before .before .before .before .before .before .before .pre .1) _ _ (c .before .before .before .before .before .write .ensures) _ (c .before .n2 .given .1))
+returns-2 c =
+    let after-n2 = c .before in let after-write = after-n2 .before .before .before .before in
+    let start = after-write .before .before .before .before .before .before .before in (
+      file-stored _ _ _ (start .pre .0) (start .pre .1) _ _ (after-write .write .ensures) _ (after-n2 .n2 .given .1),
+      file-short _ _ _ (start .pre .0) (start .pre .1) _ _
+          (after-write .write .ensures) _ (after-n2 .n2 .given .1),
+    )
 
 pub put-sheet-spec : {M : Type 1} → statement M
 put-sheet-spec =

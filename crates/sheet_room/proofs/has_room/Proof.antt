@@ -15,12 +15,14 @@ returns-2 c = rw (le-leb 768 (c .before .before .args .palette) (c .before .if1 
 returns-3 : tie.Need-returns-3
 unfolding roomy
 returns-3 c =
-    rw (le-leb 768 (c .before .before .before .args .palette) (c .before .before .if1 .left), le-leb 2048 (c .before .before .before .args .tiles) (c .before .if2 .left), lt-leb 5140 (c .before .before .before .args .counts) (c .if3 .taken))
+    let past-if2 = c .before in let past-if1 = past-if2 .before in let start = past-if1 .before in let a = start .args in
+    rw (le-leb 768 (a .palette) (past-if1 .if1 .left), le-leb 2048 (a .tiles) (past-if2 .if2 .left), lt-leb 5140 (a .counts) (c .if3 .taken))
 
 returns-4 : tie.Need-returns-4
 unfolding roomy
 returns-4 c =
-    rw (le-leb 768 (c .before .before .before .args .palette) (c .before .before .if1 .left), le-leb 2048 (c .before .before .before .args .tiles) (c .before .if2 .left), le-leb 5140 (c .before .before .before .args .counts) (c .if3 .left))
+    let past-if2 = c .before in let past-if1 = past-if2 .before in let start = past-if1 .before in let a = start .args in
+    rw (le-leb 768 (a .palette) (past-if1 .if1 .left), le-leb 2048 (a .tiles) (past-if2 .if2 .left), le-leb 5140 (a .counts) (c .if3 .left))
 
 pub has-room-spec : {M : Type 1} → statement M
 has-room-spec = tie.close (tie.spec returns returns-2 returns-3 returns-4)

@@ -30,7 +30,11 @@ enum-known-f : tie.Need-enum-known-f Inv-loop μ-loop
 enum-known-f c = c .match .keys1
 
 returns : tie.Need-returns Inv-loop μ-loop
-returns c = turn-fault (tile edition1) (c .before .before .before .before .before .before .before .args .s .now) (c .before .before .before .before .before .before .before .args .t) (c .before .before .before .before .before .loop .i) (c .before .before .before .before .before .loop .q) _ (c .before .before .before .before .before .loop .inv .2) (c .before .f .given .0 .0) (omega arith) (step-fault (bits (c .before .before .before .before .before .before .before .args .s .now)) _ (c .before .f .given .0 .0) (sym (c .before .f .given .1) ∙ c .before .before .before .one-tile .ensures))
+returns c =
+    let after-f = c .before in let after-one-tile = after-f .before .before in let at-loop = after-one-tile .before .before in
+    let start = at-loop .before .before in let turn = at-loop .loop in let a = start .args in
+    turn-fault (tile edition1) (a .s .now) (a .t) (turn .i) (turn .q) _ (turn .inv .2) (after-f .f .given .0 .0) (omega arith)
+    (step-fault (bits (a .s .now)) _ (after-f .f .given .0 .0) (sym (after-f .f .given .1) ∙ after-one-tile .one-tile .ensures))
 
 enum-known-z : tie.Need-enum-known-z Inv-loop μ-loop
 enum-known-z c = c .match .keys2
@@ -41,20 +45,26 @@ add-i c = omega arith
 loop-less : tie.Need-loop-less Inv-loop μ-loop
 loop-less c = omega arith
 
-again : (c : tie.After-known-told2 Inv-loop μ-loop) → Inv-loop (c .before .before .before .before .before .before .before .args .s .now) (c .before .before .before .before .before .before .before .args .p) (c .before .before .before .before .before .before .before .args .t) 0 0 (c .before .z .given .0 .0) (c .before .before .before .before .before .loop .i + 1)
+again : (c : tie.After-known-told2 Inv-loop μ-loop) →
+    let at-loop = c .before .before .before .before .before in let a = at-loop .before .before .args in
+    Inv-loop (a .s .now) (a .p) (a .t) 0 0 (c .before .z .given .0 .0) (at-loop .loop .i + 1)
 again c =
+    let at-loop = c .before .before .before .before .before in let a = at-loop .before .before .args in let turn = at-loop .loop in
     let z : ℕ = c .before .z .given .0 .0 in
-    let x = step-at (tile edition1) (tile-lawful edition1) (bits (c .before .before .before .before .before .before .before .args .s .now)) (c .before .before .before .before .before .loop .q) (rw length-bits (omega arith)) z (sym (c .before .z .given .1) ∙ c .before .before .before .one-tile .ensures) in (
+    let found = sym (c .before .z .given .1) ∙ c .before .before .before .one-tile .ensures in
+    let x = step-at (tile edition1) (tile-lawful edition1) (bits (a .s .now)) (turn .q) (rw length-bits (omega arith)) z found in (
       omega arith,
-      omega (arith, x .2, length-bits (c .before .before .before .before .before .before .before .args .s .now)),
-      turn-got (tile edition1) (c .before .before .before .before .before .before .before .args .s .now) (c .before .before .before .before .before .before .before .args .t) (c .before .before .before .before .before .loop .i) (c .before .before .before .before .before .loop .q) _ (c .before .before .before .before .before .loop .inv .2) (x .0) z (omega arith) (x .1),
+      omega (arith, x .2, length-bits (a .s .now)),
+      turn-got (tile edition1) (a .s .now) (a .t) (turn .i) (turn .q) _ (turn .inv .2) (x .0) z (omega arith) (x .1),
     )
 
 loop-again : tie.Need-loop-again Inv-loop μ-loop
 loop-again c = again c
 
 returns-2 : tie.Need-returns-2 Inv-loop μ-loop
-returns-2 c = turn-end (tile edition1) (c .before .before .before .args .s .now) (c .before .before .before .args .t) (c .before .loop .i) (c .before .loop .q) _ (c .before .loop .inv .2) (omega arith) (omega arith)
+returns-2 c =
+    let at-loop = c .before in let start = at-loop .before .before in let turn = at-loop .loop in let a = start .args in
+    turn-end (tile edition1) (a .s .now) (a .t) (turn .i) (turn .q) _ (turn .inv .2) (omega arith) (omega arith)
 
 pub all-tiles-spec : {M : Type 1} → statement M
 all-tiles-spec =

@@ -26,7 +26,9 @@ get-requires : tie.Need-get-requires
 get-requires c κs = search needs
 
 returns-2 : tie.Need-returns-2
-returns-2 c = sym (tile-many edition1 (c .before .before .before .before .args .s .now) (c .before .before .before .before .args .p) (c .before .get .result) (omega arith) (c .before .get .ensures) (omega arith))
+returns-2 c =
+    let after-get = c .before in let start = after-get .before .before .before in let a = start .args in
+    sym (tile-many edition1 (a .s .now) (a .p) (after-get .get .result) (omega arith) (after-get .get .ensures) (omega arith))
 
 add-tile-colours : tie.Need-add-tile-colours
 add-tile-colours c = search needs
@@ -38,7 +40,9 @@ tile-colours-requires : tie.Need-tile-colours-requires
 tile-colours-requires c κs = search needs
 
 returns-3 : tie.Need-returns-3
-returns-3 c = c .tile-colours .ensures ∙ sym (tile-read edition1 (c .before .before .before .before .before .args .s .now) (c .before .before .before .before .before .args .p) (c .before .before .get .result) (omega arith) (c .before .before .get .ensures) (omega arith))
+returns-3 c =
+    let after-get = c .before .before in let start = after-get .before .before .before in let a = start .args in
+    c .tile-colours .ensures ∙ sym (tile-read edition1 (a .s .now) (a .p) (after-get .get .result) (omega arith) (after-get .get .ensures) (omega arith))
 
 pub one-tile-spec : {M : Type 1} → statement M
 one-tile-spec =

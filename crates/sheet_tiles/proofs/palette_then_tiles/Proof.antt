@@ -25,17 +25,30 @@ enum-known-f c = search needs
 enum-known-q : tie.Need-enum-known-q
 enum-known-q c = search needs
 
-abbrev reading : (c : tie.After-known-told2) → (a : List ℕ) × (times (c .before .before .before .before .before .args .n) component .parse (drop (c .before .before .before .before .before .args .p) (bits (c .before .before .before .before .before .args .s .now))) ≡ got a (drop (c .before .q .given .0 .0) (bits (c .before .before .before .before .before .args .s .now)))) × (c .before .q .given .0 .0 ≤ length (bits (c .before .before .before .before .before .args .s .now)))
-reading c = step-at (times (c .before .before .before .before .before .args .n) component) (times-lawful (c .before .before .before .before .before .args .n) component component-lawful) (bits (c .before .before .before .before .before .args .s .now)) (c .before .before .before .before .before .args .p) (rw length-bits (omega arith)) (c .before .q .given .0 .0) (sym (c .before .q .given .1) ∙ c .before .before .before .components .ensures)
+abbrev reading : (c : tie.After-known-told2) →
+    let a = c .before .before .before .before .before .args in let q = c .before .q .given .0 .0 in
+    (x : List ℕ) × (times (a .n) component .parse (drop (a .p) (bits (a .s .now))) ≡ got x (drop q (bits (a .s .now)))) × (q ≤ length (bits (a .s .now)))
+reading c =
+    let a = c .before .before .before .before .before .args in let q = c .before .q .given in
+    step-at (times (a .n) component) (times-lawful (a .n) component component-lawful) (bits (a .s .now)) (a .p) (rw length-bits (omega arith)) (q .0 .0)
+    (sym (q .1) ∙ c .before .before .before .components .ensures)
 
 all-tiles-requires : tie.Need-all-tiles-requires
 all-tiles-requires c κs = omega (arith, reading c .2, length-bits (c .before .before .before .before .before .args .s .now))
 
 returns : tie.Need-returns
-returns c = sym (rest-fault edition1 (c .before .before .before .before .before .args .s .now) (c .before .before .before .before .before .args .p) (c .before .before .before .before .before .args .n) (c .before .before .before .before .before .args .t) (c .before .f .given .0 .0) (step-fault (bits (c .before .before .before .before .before .args .s .now)) _ (c .before .f .given .0 .0) (sym (c .before .f .given .1) ∙ c .before .before .before .components .ensures)))
+returns c =
+    let after-f = c .before in let after-components = after-f .before .before in let start = after-components .before .before in
+    let a = start .args in
+    sym (rest-fault edition1 (a .s .now) (a .p) (a .n) (a .t) (after-f .f .given .0 .0)
+    (step-fault (bits (a .s .now)) _ (after-f .f .given .0 .0) (sym (after-f .f .given .1) ∙ after-components .components .ensures)))
 
 returns-2 : tie.Need-returns-2
-returns-2 c = c .all-tiles .ensures ∙ sym (rest-got edition1 (c .before .before .before .before .before .before .args .s .now) (c .before .before .before .before .before .before .args .p) (c .before .before .before .before .before .before .args .n) (c .before .before .before .before .before .before .args .t) (reading (c .before) .0) (c .before .before .q .given .0 .0) (reading (c .before) .1))
+returns-2 c =
+    let after-known-told2 = c .before in let after-q = after-known-told2 .before in let start = after-q .before .before .before .before in
+    let a = start .args in
+    c .all-tiles .ensures ∙ sym (rest-got edition1 (a .s .now) (a .p) (a .n) (a .t) (reading after-known-told2 .0) (after-q .q .given .0 .0)
+    (reading after-known-told2 .1))
 
 pub palette-then-tiles-spec : {M : Type 1} → statement M
 palette-then-tiles-spec =

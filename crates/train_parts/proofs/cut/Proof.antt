@@ -42,10 +42,24 @@ loop-less : tie.Need-loop-less Inv-loop μ-loop
 loop-less c = search needs
 
 loop-again : tie.Need-loop-again Inv-loop μ-loop
-loop-again c = (omega arith, simp length-set (c .before .before .before .loop .inv .1), cut-more (c .before .before .before .before .before .before .args .from .now) (c .before .before .before .before .palette-room .result) (c .before .before .before .loop .i) (c .before .before .before .loop .to) (c .cut-one .result) (omega (arith, c .before .before .before .before .before .before .pre, c .before .before .before .before .palette-room .ensures)) (c .before .before .loop-test .taken) (c .before .before .before .loop .inv .2) (c .cut-one .ensures))
+loop-again c =
+    let after-In-loop = c .before .before in let at-loop = after-In-loop .before in let after-palette-room = at-loop .before in
+    let start = after-palette-room .before .before in
+    let turn = at-loop .loop in (
+      omega arith,
+      simp length-set (turn .inv .1),
+      cut-more (start .args .from .now) (after-palette-room .palette-room .result) (turn .i) (turn .to) (c .cut-one .result)
+          (omega (arith, start .pre, after-palette-room .palette-room .ensures)) (after-In-loop .loop-test .taken) (turn .inv .2) (c .cut-one .ensures),
+    )
 
 returns : tie.Need-returns Inv-loop μ-loop
-returns c = (sym (c .before .loop .inv .1), all-cut (c .before .before .before .before .args .from .now) (c .before .before .palette-room .result) (c .before .loop .i) (c .before .loop .to) (c .before .loop .inv .0) (c .loop-test .left) (c .before .loop .inv .2))
+returns c =
+    let at-loop = c .before in let after-palette-room = at-loop .before in let start = after-palette-room .before .before in
+    let turn = at-loop .loop in (
+      sym (turn .inv .1),
+      all-cut (start .args .from .now) (after-palette-room .palette-room .result) (turn .i) (turn .to) (turn .inv .0) (c .loop-test .left)
+          (turn .inv .2),
+    )
 
 pub cut-spec : {M : Type 1} → statement M
 cut-spec =

@@ -44,7 +44,8 @@ loop-less : tie.Need-loop-less Inv-loop μ-loop
 loop-less c = omega arith
 
 loop-again : tie.Need-loop-again Inv-loop μ-loop
-loop-again c = (omega arith, simp length-set (c .before .loop .inv .1), omega arith, alike-more _ _ _ _ _ _ _ _ _ (c .before .loop .inv .3) (pair _ _ _ _))
+loop-again c =
+    (omega arith, simp length-set (c .before .loop .inv .1), omega arith, alike-more _ _ _ _ _ _ _ _ _ (c .before .loop .inv .3) (pair _ _ _ _))
 
 same-length : tie.Need-same-length Inv-loop μ-loop
 same-length c = omega arith

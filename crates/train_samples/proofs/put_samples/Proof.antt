@@ -26,7 +26,11 @@ cast-put-tile : tie.Need-cast-put-tile Inv-loop μ-loop
 cast-put-tile c = omega (arith, c .before .before .before .before .before .before .before .pre .0 .few)
 
 put-tile-requires : tie.Need-put-tile-requires Inv-loop μ-loop
-put-tile-requires c κs = part-fits _ _ _ (c .before .before .before .before .before .before .before .pre .0) _ _ _ _ _ (c .before .before .loop-test .taken) (c .before .before .before .loop .inv .2) (c .before .counts-part .ensures) (omega (arith, c .before .before .before .loop .inv .1, c .before .before .before .before .before .before .before .pre .1))
+put-tile-requires c κs =
+    let after-counts-part = c .before in let after-In-loop = after-counts-part .before in let at-loop = after-In-loop .before in
+    let start = at-loop .before .before .before .before in
+    part-fits _ _ _ (start .pre .0) _ _ _ _ _ (after-In-loop .loop-test .taken) (at-loop .loop .inv .2) (after-counts-part .counts-part .ensures)
+    (omega (arith, at-loop .loop .inv .1, start .pre .1))
 
 add-i : tie.Need-add-i Inv-loop μ-loop
 add-i c = omega arith
@@ -35,7 +39,14 @@ loop-less : tie.Need-loop-less Inv-loop μ-loop
 loop-less c = omega arith
 
 loop-again : tie.Need-loop-again Inv-loop μ-loop
-loop-again c = (omega arith, c .before .before .put-tile .kept .0 ∙ c .before .before .before .before .before .before .loop .inv .1, samples-more _ _ _ _ _ _ _ _ _ (c .before .before .before .before .before .before .loop .inv .2) (rw (c .before .before .before .before .counts-part .ensures) at (c .before .before .put-tile .ensures)))
+loop-again c =
+    let after-put-tile = c .before .before in let after-counts-part = after-put-tile .before .before in
+    let at-loop = after-counts-part .before .before in (
+      omega arith,
+      after-put-tile .put-tile .kept .0 ∙ at-loop .loop .inv .1,
+      samples-more _ _ _ _ _ _ _ _ _ (at-loop .loop .inv .2)
+          (rw (after-counts-part .counts-part .ensures) at (after-put-tile .put-tile .ensures)),
+    )
 
 same-length : tie.Need-same-length Inv-loop μ-loop
 same-length c = omega arith

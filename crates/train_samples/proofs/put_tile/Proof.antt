@@ -29,7 +29,11 @@ shared-slice-read-put-alike : tie.Need-shared-slice-read-put-alike Inv-loop μ-l
 shared-slice-read-put-alike c = omega arith
 
 put-alike-requires : tie.Need-put-alike-requires Inv-loop μ-loop
-put-alike-requires c κs = next-fits (c .before .before .before .before .before .before .args .part .now) (c .before .before .before .loop .k) (c .before .before .before .before .before .before .args .at) (c .before .before .before .loop .q) _ (c .before .before .loop-test .taken) (tile-place (c .before .before .before .before .before .before .args .samples .now) (c .before .before .before .loop .samples) (c .before .before .before .before .before .before .args .at) (c .before .before .before .loop .q) (c .before .before .before .before .before .before .args .i) (c .before .before .before .before .before .before .args .part .now) (c .before .before .before .loop .k) (c .before .before .before .loop .inv .2)) (omega (arith, c .before .before .before .loop .inv .1, c .before .before .before .before .before .before .pre .1))
+put-alike-requires c κs =
+    let after-In-loop = c .before .before in let at-loop = after-In-loop .before in let start = at-loop .before .before .before in
+    let turn = at-loop .loop in let a = start .args in
+    next-fits (a .part .now) (turn .k) (a .at) (turn .q) _ (after-In-loop .loop-test .taken)
+    (tile-place (a .samples .now) (turn .samples) (a .at) (turn .q) (a .i) (a .part .now) (turn .k) (turn .inv .2)) (omega (arith, turn .inv .1, start .pre .1))
 
 add-k : tie.Need-add-k Inv-loop μ-loop
 add-k c = omega arith
@@ -38,13 +42,16 @@ loop-less : tie.Need-loop-less Inv-loop μ-loop
 loop-less c = omega arith
 
 loop-again : tie.Need-loop-again Inv-loop μ-loop
-loop-again c = (omega arith, c .before .before .put-alike .kept .0 ∙ c .before .before .before .before .before .before .loop .inv .1, tile-more _ _ _ _ _ _ _ _ _ (c .before .before .before .before .before .before .loop .inv .2) (c .before .before .put-alike .ensures))
+loop-again c =
+    let after-put-alike = c .before .before in let at-loop = after-put-alike .before .before .before .before in
+    (omega arith, after-put-alike .put-alike .kept .0 ∙ at-loop .loop .inv .1, tile-more _ _ _ _ _ _ _ _ _ (at-loop .loop .inv .2) (after-put-alike .put-alike .ensures))
 
 same-length : tie.Need-same-length Inv-loop μ-loop
 same-length c = omega arith
 
 returns : tie.Need-returns Inv-loop μ-loop
-returns c = let e : c .before .loop .k ≡ length (c .before .before .before .before .args .part .now) = omega arith in rw e at (c .before .loop .inv .2)
+returns c =
+    let e : c .before .loop .k ≡ length (c .before .before .before .before .args .part .now) = omega arith in rw e at (c .before .loop .inv .2)
 
 pub put-tile-spec : {M : Type 1} → statement M
 put-tile-spec =

@@ -19,26 +19,22 @@ mul-put-trained c = search needs
 
 slice-aggregate-put-trained : tie.Need-slice-aggregate-put-trained
 slice-aggregate-put-trained c =
-    let after-colours-to = c .before .before in
-    let start = after-colours-to .before .before .before .before .before .before in
+    let after-colours-to = c .before .before in let start = after-colours-to .before .before .before .before .before .before in
     front-long _ _ (start .pre .0 .tiled)
 
 mul-put-trained-2 : tie.Need-mul-put-trained-2
 mul-put-trained-2 c =
-    let after-colours-to = c .before .before in
-    let start = after-colours-to .before .before .before .before .before .before in
+    let after-colours-to = c .before .before in let start = after-colours-to .before .before .before .before .before .before in
     omega (arith, after-colours-to .colours-to .ensures, start .pre .0 .few)
 
 slice-aggregate-put-trained-2 : tie.Need-slice-aggregate-put-trained-2
 slice-aggregate-put-trained-2 c =
-    let after-colours-to = c .before .before .before in
-    let start = after-colours-to .before .before .before .before .before .before in
+    let after-colours-to = c .before .before .before in let start = after-colours-to .before .before .before .before .before .before in
     front-long _ _ (omega (arith, after-colours-to .colours-to .ensures, start .pre .0 .coloured))
 
 slice-aggregate-put-trained-3 : tie.Need-slice-aggregate-put-trained-3
 slice-aggregate-put-trained-3 c =
-    let after-colours-to = c .before .before .before .before in
-    let start = after-colours-to .before .before .before .before .before .before in
+    let after-colours-to = c .before .before .before .before in let start = after-colours-to .before .before .before .before .before .before in
     front-long _ _ (omega (arith, after-colours-to .colours-to .ensures, start .pre .0 .counted))
 
 mul-put-trained-3 : tie.Need-mul-put-trained-3
@@ -75,8 +71,7 @@ returns : tie.Need-returns
 returns c =
     let after-put-trained = c .before .before .before .before in
     let after-struct-known = after-put-trained .before .before .before .before .before .before .before in
-    let after-colours-to = after-struct-known .before in
-    let start = after-colours-to .before .before .before .before .before .before in
+    let after-colours-to = after-struct-known .before in let start = after-colours-to .before .before .before .before .before .before in
     let a = start .args in
     let text = after-put-trained .put-trained in (
       front-holds (a .z) _ _ _ _ (after-colours-to .colours-to .ensures) (λ (J : Job). Stored (a .out .now) (text .last .1 .1 .1 .1 .1 .0) 0 (text .result) (jobText J))

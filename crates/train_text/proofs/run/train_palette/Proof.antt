@@ -23,41 +23,34 @@ mul-size-2 c = search needs
 
 array-borrow-prefix-orders : tie.Need-array-borrow-prefix-orders
 array-borrow-prefix-orders c =
-    let after-order-room = c .before .before .before in
-    let start = after-order-room .before .before .before .before .before .before in
+    let after-order-room = c .before .before .before in let start = after-order-room .before .before .before .before .before .before in
     samples-fit _ _ (start .pre) _ (after-order-room .order-room .ensures)
 
 slice-aggregate-order : tie.Need-slice-aggregate-order
 slice-aggregate-order c =
-    let after-order-room = c .before .before .before .before in
-    let start = after-order-room .before .before .before .before .before .before in
+    let after-order-room = c .before .before .before .before in let start = after-order-room .before .before .before .before .before .before in
     front-long (start .args .z .n) (after-order-room .order-room .result) (samples-fit _ _ (start .pre) _ (after-order-room .order-room .ensures))
 
 array-borrow-prefix-firsts : tie.Need-array-borrow-prefix-firsts
 array-borrow-prefix-firsts c =
-    let after-no-hints = c .before .before .before in
-    let start = after-no-hints .before .before .before .before .before .before .before in
+    let after-no-hints = c .before .before .before in let start = after-no-hints .before .before .before .before .before .before .before in
     tiles-fit _ _ (start .pre) _ (after-no-hints .no-hints .ensures .0)
 
 slice-aggregate-hints : tie.Need-slice-aggregate-hints
 slice-aggregate-hints c =
-    let after-no-hints = c .before .before .before .before in
-    let start = after-no-hints .before .before .before .before .before .before .before in
+    let after-no-hints = c .before .before .before .before in let start = after-no-hints .before .before .before .before .before .before .before in
     front-long (start .args .z .t) (after-no-hints .no-hints .result) (tiles-fit _ _ (start .pre) _ (after-no-hints .no-hints .ensures .0))
 
 array-borrow-prefix-errors : tie.Need-array-borrow-prefix-errors
 array-borrow-prefix-errors c =
-    let after-palette-room = c .before .before .before in
-    let after-order-room = after-palette-room .before .before in
+    let after-palette-room = c .before .before .before in let after-order-room = after-palette-room .before .before in
     let start = after-order-room .before .before .before .before .before .before in
     numbers-fit _ _ (start .pre) _ (after-palette-room .palette-room .ensures)
 
 slice-aggregate-least : tie.Need-slice-aggregate-least
 slice-aggregate-least c =
-    let after-palette-room = c .before .before .before .before in
-    let after-order-room = after-palette-room .before .before in
-    let start = after-order-room .before .before .before .before .before .before in
-    let a = start .args in
+    let after-palette-room = c .before .before .before .before in let after-order-room = after-palette-room .before .before in
+    let start = after-order-room .before .before .before .before .before .before in let a = start .args in
     front-long (3 * (a .z .s * a .z .c)) (after-palette-room .palette-room .result) (numbers-fit _ _ (start .pre) _ (after-palette-room .palette-room .ensures))
 
 slice-aggregate-words : tie.Need-slice-aggregate-words
@@ -84,10 +77,8 @@ returns c =
     let after-palette = after-turns .before .before .before .before .before .before .before in
     let after-start = after-palette .before .before .before .before .before in
     let after-errors = after-start .before .before .before .before .before .before .before in
-    let after-palette-room = after-errors .before .before .before .before in
-    let after-no-hints = after-palette-room .before in
-    let after-order-room = after-no-hints .before in
-    let start-again = after-order-room .before .before .before .before .before .before in
+    let after-palette-room = after-errors .before .before .before .before in let after-no-hints = after-palette-room .before in
+    let after-order-room = after-no-hints .before in let start-again = after-order-room .before .before .before .before .before .before in
     trained-there _ _ (start-again .pre) (after-order-room .order-room .result) (after-no-hints .no-hints .result) (after-palette-room .palette-room .result)
     (after-order-room .order-room .ensures) (after-no-hints .no-hints .ensures .0) (after-no-hints .no-hints .ensures .1) (after-palette-room .palette-room .ensures)
     _ _ _ (after-start .start .ensures) (after-turns .turns .ensures)

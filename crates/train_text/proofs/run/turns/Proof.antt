@@ -27,8 +27,7 @@ cut-requires c κs =
     let after-palette = c .before .before .before .before .before .before in
     let after-advance = after-palette .before .before .before .before .before in
     let at-loop = after-advance .before .before .before .before .before .before .before in
-    let lent = at-loop .before .before .before .before .before .before .before in
-    let start = lent .before .before .before in
+    let lent = at-loop .before .before .before .before .before .before .before in let start = lent .before .before .before in
     omega (arith, start .pre, at-loop .loop .inv .palette, after-advance .advance .kept .1 .1 .1 .1 .1 .1 .1 .0)
 
 array-share-prefix-reduced : tie.Need-array-share-prefix-reduced Inv-loop μ-loop
@@ -37,8 +36,7 @@ array-share-prefix-reduced c =
     let after-palette = after-cut .before .before .before .before .before .before .before in
     let after-advance = after-palette .before .before .before .before .before in
     let at-loop = after-advance .before .before .before .before .before .before .before in
-    let lent = at-loop .before .before .before .before .before .before .before in
-    let start = lent .before .before .before in
+    let lent = at-loop .before .before .before .before .before .before .before in let start = lent .before .before .before in
     omega (arith, after-cut .cut .ensures .0, start .pre, at-loop .loop .inv .palette, after-advance .advance .kept .1 .1 .1 .1 .1 .1 .1 .0)
 
 slice-aggregate-hand-in : tie.Need-slice-aggregate-hand-in Inv-loop μ-loop
@@ -47,8 +45,7 @@ slice-aggregate-hand-in c =
     let after-palette = after-cut .before .before .before .before .before .before .before in
     let after-advance = after-palette .before .before .before .before .before in
     let at-loop = after-advance .before .before .before .before .before .before .before in
-    let lent = at-loop .before .before .before .before .before .before .before in
-    let start = lent .before .before .before in
+    let lent = at-loop .before .before .before .before .before .before .before in let start = lent .before .before .before in
     front-long _ (after-cut .cut .result) (omega (
       arith,
       after-cut .cut .ensures .0,
@@ -66,8 +63,7 @@ add-passed c =
     let after-cut = after-reduced .before .before .before .before .before .before in
     let after-palette = after-cut .before .before .before .before .before .before .before in
     let after-advance = after-palette .before .before .before .before .before in
-    let after-In-loop = after-advance .before .before .before .before .before .before in
-    let at-loop = after-In-loop .before in
+    let after-In-loop = after-advance .before .before .before .before .before .before in let at-loop = after-In-loop .before in
     next-fits _ _ _ _ (at-loop .loop .inv) (after-In-loop .loop-test .taken)
 
 loop-less : tie.Need-loop-less Inv-loop μ-loop
@@ -76,8 +72,7 @@ loop-less c =
     let after-cut = after-reduced .before .before .before .before .before .before in
     let after-palette = after-cut .before .before .before .before .before .before .before in
     let after-advance = after-palette .before .before .before .before .before in
-    let after-In-loop = after-advance .before .before .before .before .before .before in
-    let at-loop = after-In-loop .before in
+    let after-In-loop = after-advance .before .before .before .before .before .before in let at-loop = after-In-loop .before in
     nearer _ _ _ _ (at-loop .loop .inv) (after-In-loop .loop-test .taken)
 
 loop-again : tie.Need-loop-again Inv-loop μ-loop
@@ -86,8 +81,7 @@ loop-again c =
     let after-cut = after-hand-in .before .before .before .before .before .before .before in
     let after-palette = after-cut .before .before .before .before .before .before .before in
     let after-advance = after-palette .before .before .before .before .before in
-    let after-In-loop = after-advance .before .before .before .before .before .before in
-    let at-loop = after-In-loop .before in
+    let after-In-loop = after-advance .before .before .before .before .before .before in let at-loop = after-In-loop .before in
     one-more _ _ _ _ (at-loop .loop .inv) (after-In-loop .loop-test .taken) _ _ _ _ _ _ (after-advance .advance .ensures) (after-cut .cut .ensures .1)
     (after-hand-in .hand-in .ensures) (after-advance .advance .kept .1 .1 .1 .1 .1 .0) (after-advance .advance .kept .1 .1 .1 .1 .1 .1 .0)
     (after-hand-in .hand-in .kept .1 .1 .1 .1 .1 .1 .0) (after-advance .advance .kept .1 .1 .1 .1 .1 .1 .1 .0) (after-hand-in .hand-in .kept .1 .1 .1 .1 .1 .1 .1 .0)

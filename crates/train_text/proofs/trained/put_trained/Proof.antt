@@ -29,11 +29,8 @@ same-length c = c .before .before .put-refused .kept .0
 
 returns : tie.Need-returns
 returns c =
-    let after-put-refused = c .before .before in
-    let in-if1 = after-put-refused .before .before in
-    let after-refusal = in-if1 .before in
-    let after-put-samples = after-refusal .before .before in
-    let after-samples-room = after-put-samples .before .before in
+    let after-put-refused = c .before .before in let in-if1 = after-put-refused .before .before in let after-refusal = in-if1 .before in
+    let after-put-samples = after-refusal .before .before in let after-samples-room = after-put-samples .before .before in
     let start = after-samples-room .before .before .before .before .before .before in (
       refused-text _ _ (start .pre .0) _ _ _ (after-put-samples .put-samples .ensures) _ _ _ _ (after-refusal .refusal .ensures) (in-if1 .if1 .taken)
           (after-put-refused .put-refused .ensures),
@@ -42,10 +39,8 @@ returns c =
 
 array-share-prefix-samples : tie.Need-array-share-prefix-samples
 array-share-prefix-samples c =
-    let after-refusal = c .before in
-    let after-put-samples = after-refusal .before .before in
-    let after-samples-room = after-put-samples .before .before in
-    let start = after-samples-room .before .before .before .before .before .before in
+    let after-refusal = c .before in let after-put-samples = after-refusal .before .before in
+    let after-samples-room = after-put-samples .before .before in let start = after-samples-room .before .before .before .before .before .before in
     omega (
       arith,
       taken _ _ (start .pre .0) _ _ _ (after-put-samples .put-samples .ensures) _ (after-refusal .refusal .ensures) (c .if1 .left),
@@ -55,11 +50,8 @@ array-share-prefix-samples c =
 
 slice-aggregate-train-palette : tie.Need-slice-aggregate-train-palette
 slice-aggregate-train-palette c =
-    let past-if1 = c .before in
-    let after-refusal = past-if1 .before in
-    let after-put-samples = after-refusal .before .before in
-    let after-samples-room = after-put-samples .before .before in
-    let start = after-samples-room .before .before .before .before .before .before in
+    let past-if1 = c .before in let after-refusal = past-if1 .before in let after-put-samples = after-refusal .before .before in
+    let after-samples-room = after-put-samples .before .before in let start = after-samples-room .before .before .before .before .before .before in
     front-long (after-put-samples .put-samples .result) (after-put-samples .put-samples .last .1 .1 .1 .0)
     (omega (
       arith,
@@ -70,20 +62,15 @@ slice-aggregate-train-palette c =
 
 train-palette-requires : tie.Need-train-palette-requires
 train-palette-requires c κs =
-    let past-if1 = c .before .before in
-    let after-refusal = past-if1 .before in
-    let after-put-samples = after-refusal .before .before in
-    let after-samples-room = after-put-samples .before .before in
-    let start = after-samples-room .before .before .before .before .before .before in
+    let past-if1 = c .before .before in let after-refusal = past-if1 .before in let after-put-samples = after-refusal .before .before in
+    let after-samples-room = after-put-samples .before .before in let start = after-samples-room .before .before .before .before .before .before in
     drawable _ _ (start .pre .0) _ _ _ (after-put-samples .put-samples .ensures) _ (after-refusal .refusal .ensures) (past-if1 .if1 .left)
     (omega (arith, after-samples-room .samples-room .ensures))
 
 put-sheet-requires : tie.Need-put-sheet-requires
 put-sheet-requires c κs =
-    let after-train-palette = c .before .before .before .before in
-    let past-if1 = after-train-palette .before .before .before in
-    let after-refusal = past-if1 .before in
-    let after-put-samples = after-refusal .before .before in
+    let after-train-palette = c .before .before .before .before in let past-if1 = after-train-palette .before .before .before in
+    let after-refusal = past-if1 .before in let after-put-samples = after-refusal .before .before in
     let after-samples-room = after-put-samples .before .before in
     let start = after-samples-room .before .before .before .before .before .before in (
       trained-writable _ _ (start .pre .0) _ _ _ (after-put-samples .put-samples .ensures) _ (after-refusal .refusal .ensures) (past-if1 .if1 .left)
@@ -99,12 +86,9 @@ same-length-3 c = c .before .before .put-sheet .kept .1 .1 .1 .1 .1 .0
 
 returns-2 : tie.Need-returns-2
 returns-2 c =
-    let after-put-sheet = c .before .before in
-    let after-train-palette = after-put-sheet .before .before .before .before .before in
-    let past-if1 = after-train-palette .before .before .before in
-    let after-refusal = past-if1 .before in
-    let after-put-samples = after-refusal .before .before in
-    let after-samples-room = after-put-samples .before .before in
+    let after-put-sheet = c .before .before in let after-train-palette = after-put-sheet .before .before .before .before .before in
+    let past-if1 = after-train-palette .before .before .before in let after-refusal = past-if1 .before in
+    let after-put-samples = after-refusal .before .before in let after-samples-room = after-put-samples .before .before in
     let start = after-samples-room .before .before .before .before .before .before in (
       trained-text _ _ (start .pre .0) _ _ _ (after-put-samples .put-samples .ensures) _ (after-refusal .refusal .ensures) (past-if1 .if1 .left)
           (omega (arith, after-samples-room .samples-room .ensures)) _ (after-train-palette .train-palette .ensures) _ _ _ (after-put-sheet .put-sheet .ensures .0),
