@@ -9,8 +9,8 @@ use lib.ListN.{length}
 use Rattle.job.specs.Job.{Job}
 use Rattle.assign_check.specs.Answer.{answerFor}
 unfoldable pub use Rattle.assign_check.specs.Answer.{roomFor}
-pub use Rattle.assign_tiles.specs.Tiles.{Held, held, hintOf, assignStep, Ready, Turn}
-unfoldable pub use Rattle.assign_tiles.specs.Tiles.{subpaletteOf, subpalettes, assigned}
+pub use Rattle.assign_tiles.specs.Tiles.{Held, held, subpalettes, hintOf, assignStep, Ready, Turn}
+unfoldable pub use Rattle.assign_tiles.specs.Tiles.{subpaletteOf, assigned}
 
 -- a number, and the memory after it
 pub record Outcome : Type 0 where
