@@ -2,13 +2,22 @@
 // Assumes nothing.
 use job::Sizes;
 ghost use mathlib.Core.Path.{_≡_};
-ghost use Prim.Native.Nat.{ℕ, _+_, _*_, _≤_, _<_};
-ghost use lib.ListN.{length, getD};
+ghost use Prim.Native.Nat.{_+_, _<_, ℕ, _*_, _≤_};
+ghost use lib.ListN.{length, getD, set};
 ghost use Rattle.assign_tiles.specs.Tiles.{subpaletteOf};
 ghost use Rattle.fit_lines.specs.Lines.{Stored};
 ghost use Rattle.job.specs.Job.{jobOf};
 ghost use Rattle.palette_tile.specs.Tiles.{Shown, Paired};
 ghost use Rattle.fit_tiles.specs.Text.{distBits, tileLines, loadLines, loadOf, fitText};
+
+// The load of subpalette `sub` with one tile more.
+fn count_tile(loads: &mut [u32], sub: u32)
+    requires { ⌜ (sub < length (now loads)) × (getD (now loads) sub 0 + 1 < 4294967296) ⌝ }
+    ensures { λ r. ⌜ now (loads .exit) ≡ set (now (loads .entry)) sub (getD (now (loads .entry)) sub 0 + 1) ⌝ }
+{
+    let k = sub as usize;
+    loads[k] += 1;
+}
 
 // A tile's subpalette, and its distance as a pattern.
 pub struct Found {
@@ -61,7 +70,7 @@ fn put_tiles(
     while i < z.t {
         let found = tile_found(z, tiles, colours, counts, palette, hints, i);
         q = fit_lines::put_tile(out, q, i as u32, found.sub, found.bits);
-        fit_count::count_tile(loads, found.sub);
+        count_tile(loads, found.sub);
         i += 1;
     }
     q

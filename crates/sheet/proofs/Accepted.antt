@@ -20,8 +20,8 @@ use Rattle.sheet_check.specs.declared.Checked.{Checked}
 use Rattle.sheet_check.specs.declared.Checked.the-variants.{Refused, Sound}
 use Rattle.sheet_check.specs.Steps.{checkedOf}
 use Rattle.sheet_check.proofs.Whole.{sound-not, sound-is}
-use Rattle.sheet_fill_colours.specs.Fill.{Reads, listOf, listAt}
-use Rattle.sheet_fill_colours.proofs.Components.{component-fixed}
+use Rattle.sheet_fill.specs.Fill.{Reads, listOf, listAt}
+use Rattle.sheet_fill.proofs.Components.{component-fixed}
 use Rattle.sheet_fill.proofs.Ends.{components-end, tiles-end}
 
 pub record Accepted (s : List ℕ) (a b t w : ℕ) : Type 0 where

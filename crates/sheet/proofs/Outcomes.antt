@@ -19,7 +19,7 @@ use Rattle.sheet_check.specs.declared.Checked.{Checked}
 use Rattle.sheet_check.specs.declared.Checked.the-variants.{Refused}
 use Rattle.sheet_check.specs.Steps.{checkedOf}
 use Rattle.sheet_check.proofs.Whole.{sound-not}
-use Rattle.sheet_fill_colours.specs.Fill.{listAt}
+use Rattle.sheet_fill.specs.Fill.{listAt}
 use Rattle.sheet.specs.declared.Reading.the-variants as reading
 use Rattle.sheet.specs.Sheets.{Room, room, ReadOutcome, readOutcome, roomy, readInto, readDef}
 use Rattle.sheet.proofs.Accepted.{Accepted}

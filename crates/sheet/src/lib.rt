@@ -34,7 +34,7 @@ pub fn read(
             weight,
         } => {
             let n = (3 * (subs * each)) as usize;
-            sheet_fill_colours::fill_components(bytes, sheet_format::HEAD_BITS, n, palette, 0);
+            sheet_fill::fill_components(bytes, sheet_format::HEAD_BITS, n, palette, 0);
             sheet_fill::fill_tiles(
                 bytes,
                 sheet_format::HEAD_BITS + n * 32,

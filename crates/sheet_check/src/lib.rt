@@ -2,10 +2,13 @@
 // Each function answers what the format in crate sheet_format says. Assumes nothing.
 ghost use mathlib.Core.Path.{_≡_};
 ghost use Prim.Native.Nat.{_*_, _≤_};
-ghost use lib.ListN.{length};
+ghost use lib.ListN.{length, drop};
 ghost use Rattle.bits.specs.Bits.{bits};
 ghost use Rattle.sheet_format.specs.Sheet.{edition1, header, readSheet};
 ghost use Rattle.sheet_check.specs.Steps.{headOf, checkedOf};
+ghost use mathlib.Core.Bool.{_&&_};
+ghost use lib.Dec.{ltb};
+ghost use Rattle.format.specs.Format.{clear};
 
 // What a test finds: a refusal's number, or the numbers at the sheet's head.
 pub enum Checked {
@@ -75,7 +78,7 @@ pub fn check(s: &[u8]) -> Checked
             ) {
                 sheet_colours::Step::Fault(f) => Checked::Refused(f),
                 sheet_colours::Step::At(z) => {
-                    if sheet_spare::only_spare(s, z) {
+                    if only_spare(s, z) {
                         Checked::Sound {
                             subs,
                             each,
@@ -88,5 +91,18 @@ pub fn check(s: &[u8]) -> Checked
                 }
             }
         }
+    }
+}
+
+// Whether what is left from bit p is less than a byte, and clear.
+fn only_spare(s: &[u8], p: usize) -> bool
+    requires { ⌜ (length (now s) ≤ 65536) × (p ≤ 8 * length (now s)) ⌝ }
+    ensures { λ r. ⌜ r ≡ (ltb (length (drop p (bits (now (s .entry))))) 8 && clear (drop p (bits (now (s .entry))))) ⌝ }
+{
+    let left = 8 * s.len() - p;
+    if left < 8 {
+        bits::get(s, p, left) == 0
+    } else {
+        false
     }
 }

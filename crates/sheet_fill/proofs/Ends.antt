@@ -8,9 +8,9 @@ use Rattle.bits.specs.Bits.{bits, fieldAt}
 use Rattle.format.specs.Format.{times}
 use Rattle.sheet_format.specs.Sheet.{edition1, component, colours, tile}
 use Rattle.sheet_format.specs.Lists.{total}
-use Rattle.sheet_fill_colours.specs.Fill.{Reads, listAt}
-use Rattle.sheet_fill_colours.proofs.Components.{turn}
-use Rattle.sheet_fill_colours.proofs.Colours.{colour-turn}
+use Rattle.sheet_fill.specs.Fill.{Reads, listAt}
+use Rattle.sheet_fill.proofs.Components.{turn}
+use Rattle.sheet_fill.proofs.Colours.{colour-turn}
 use Rattle.sheet_fill.proofs.Tiles.{tile-turn}
 
 pub components-end : (n : ℕ) (s : List ℕ) (q : ℕ) → q ≤ 8 * length s → Reads (times n component) s q → q + n * 32 ≤ 8 * length s

@@ -1,2 +1,4 @@
+pub mod Components
+pub mod Colours
 pub mod Ends
 mod Tiles

@@ -16,8 +16,8 @@ use Rattle.format.proofs.Lawful.{cond-got, same-value, same-rest, next-got}
 use Rattle.format.proofs.Fixed.{field-says, field-fixed, checked-fixed}
 use Rattle.sheet_format.specs.Sheet.{Edition, Colour, colours, tile}
 use Rattle.sheet_format.specs.Lists.{tileCounts, tileFloats, allCounts, allFloats, tableOf, total}
-use Rattle.sheet_fill_colours.specs.Fill.{Reads, listOf, listAt}
-use Rattle.sheet_fill_colours.proofs.Colours.{wide, colours-fixed, colours-long}
+use Rattle.sheet_fill.specs.Fill.{Reads, listOf, listAt}
+use Rattle.sheet_fill.proofs.Colours.{wide, colours-fixed, colours-long}
 
 module _ (E : Edition) where
   abbrev number : Format ℕ

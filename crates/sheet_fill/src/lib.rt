@@ -1,13 +1,45 @@
-// The sheet reader's second pass over tiles: it fills lent slices from a sheet that the first pass accepted, so every field is known to be
-// sound. Assumes nothing.
+// The sheet reader's second pass: it fills lent slices from a sheet that the first pass accepted, so every field is known to be sound.
+// Assumes nothing.
 ghost use mathlib.Core.Path.{_≡_};
-ghost use Prim.Native.Nat.{_*_, _≤_};
+ghost use Prim.Native.Nat.{_+_, _*_, _≤_};
 ghost use lib.ListN.{length};
 ghost use lib.Seq.{sets};
 ghost use Rattle.format.specs.Format.{times};
-ghost use Rattle.sheet_format.specs.Sheet.{edition1, tile};
-ghost use Rattle.sheet_format.specs.Lists.{allCounts, allFloats, tableOf, total};
-ghost use Rattle.sheet_fill_colours.specs.Fill.{Reads, listAt};
+ghost use Rattle.sheet_format.specs.Sheet.{edition1, component, colours, tile};
+ghost use Rattle.sheet_format.specs.Lists.{floats, tileCounts, tileFloats, allCounts, allFloats, tableOf, total};
+ghost use Rattle.sheet_fill.specs.Fill.{Reads, listAt};
+
+// The n components from bit p into dst from place at.
+pub fn fill_components(s: &[u8], p: usize, n: usize, dst: &mut [f32], at: usize)
+    requires { ⌜ (length (now s) ≤ 65536) × (at + n ≤ length (now dst)) × Reads (times n component) (now s) p ⌝ }
+    ensures { λ r. ⌜ now (dst .exit) ≡ sets (now (dst .entry)) at (floats (listAt (times n component) (now (s .entry)) p)) ⌝ }
+{
+    let mut q = p;
+    let mut i = 0;
+    while i < n {
+        let k = at + i;
+        dst[k] = pattern::component(bits::get(s, q, 32));
+        q += 32;
+        i += 1;
+    }
+}
+
+// The n colours of a tile from bit p into the places from k.
+pub fn fill_colours(s: &[u8], p: usize, n: usize, counts: &mut [u32], parts: &mut [f32], k: usize)
+    requires { ⌜ (length (now s) ≤ 65536) × (k + n ≤ length (now counts)) × (3 * (k + n) ≤ length (now parts)) × Reads (colours edition1 n 0) (now s) p ⌝ }
+    ensures { λ r. ⌜ (now (counts .exit) ≡ sets (now (counts .entry)) k (tileCounts (listAt (colours edition1 n 0) (now (s .entry)) p)))
+        × (now (parts .exit) ≡ sets (now (parts .entry)) (3 * k) (tileFloats (listAt (colours edition1 n 0) (now (s .entry)) p))) ⌝ }
+{
+    let mut q = p;
+    let mut i = 0;
+    while i < n {
+        let j = k + i;
+        counts[j] = bits::get(s, q, 6) + 1;
+        fill_components(s, q + 6, 3, parts, 3 * j);
+        q += 102;
+        i += 1;
+    }
+}
 
 // The t tiles from bit p into the table, the counts and the colours.
 pub fn fill_tiles(
@@ -33,7 +65,7 @@ pub fn fill_tiles(
         let j = 2 * i;
         table[j] = k as u32;
         table[j + 1] = n as u32;
-        sheet_fill_colours::fill_colours(s, q + 7, n, counts, parts, k);
+        fill_colours(s, q + 7, n, counts, parts, k);
         q += 7 + 102 * n;
         k += n;
         i += 1;

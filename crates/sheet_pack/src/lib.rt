@@ -21,7 +21,7 @@ pub fn pack_components(dst: &mut [u8], p: usize, src: &[f32])
     let mut i = 0;
     while i < src.len() {
         let v = f32::to_bits(src[i]);
-        bits_put::put(dst, q, 32, v);
+        bits::put(dst, q, 32, v);
         q += 32;
         i += 1;
     }
@@ -36,7 +36,7 @@ pub fn pack_colours(dst: &mut [u8], p: usize, counts: &[u32], colours: &[f32])
     let mut i = 0;
     while i < counts.len() {
         let at = 3 * i;
-        bits_put::put(dst, q, 6, counts[i] - 1);
+        bits::put(dst, q, 6, counts[i] - 1);
         pack_components(dst, q + 6, &colours[at..at + 3]);
         q += 102;
         i += 1;
@@ -48,7 +48,7 @@ pub fn pack_tile(dst: &mut [u8], p: usize, counts: &[u32], colours: &[f32])
     requires { ⌜ (p + (7 + 102 * length (now counts)) ≤ 8 * length (now dst)) × (p + (7 + 102 * length (now counts)) ≤ 524288) × (length (now colours) ≡ 3 * length (now counts)) × Counted (now counts) × Bounded (now colours) 2 ⌝ }
     ensures { λ r. ⌜ bits (now (dst .exit)) ≡ sets (bits (now (dst .entry))) p (tileBits edition1 (coloursOf (now (counts .entry)) (now (colours .entry)))) ⌝ }
 {
-    bits_put::put(dst, p, 7, counts.len() as u32);
+    bits::put(dst, p, 7, counts.len() as u32);
     pack_colours(dst, p + 7, counts, colours);
 }
 
@@ -79,10 +79,10 @@ pub fn pack_head(dst: &mut [u8], s: usize, c: usize, t: usize, w: u32)
     requires { ⌜ (headSize ≤ 8 * length (now dst)) × (0 < s) × (s ≤ 16) × (0 < c) × (c ≤ 16) × (0 < t) × (t ≤ 1024) ⌝ }
     ensures { λ r. ⌜ bits (now (dst .exit)) ≡ sets (bits (now (dst .entry))) 0 (headBits edition1 s c t w) ⌝ }
 {
-    bits_put::put(dst, 0, 32, sheet_format::OPENING);
-    bits_put::put(dst, 32, 4, 1);
-    bits_put::put(dst, sheet_format::SUBS_AT, 4, (s - 1) as u32);
-    bits_put::put(dst, sheet_format::EACH_AT, 4, (c - 1) as u32);
-    bits_put::put(dst, sheet_format::TILES_AT, 10, (t - 1) as u32);
-    bits_put::put(dst, sheet_format::WEIGHT_AT, 32, w);
+    bits::put(dst, 0, 32, sheet_format::OPENING);
+    bits::put(dst, 32, 4, 1);
+    bits::put(dst, sheet_format::SUBS_AT, 4, (s - 1) as u32);
+    bits::put(dst, sheet_format::EACH_AT, 4, (c - 1) as u32);
+    bits::put(dst, sheet_format::TILES_AT, 10, (t - 1) as u32);
+    bits::put(dst, sheet_format::WEIGHT_AT, 32, w);
 }

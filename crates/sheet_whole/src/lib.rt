@@ -33,5 +33,5 @@ pub fn pack_sheet(
     sheet_pack::pack_head(dst, z.s, z.c, z.t, f32::to_bits(z.weight));
     sheet_pack::pack_components(dst, sheet_format::HEAD_BITS, palette);
     sheet_pack::pack_tiles(dst, p, z, tiles, colours, counts);
-    bits_put::put(dst, size, spare, 0);
+    bits::put(dst, size, spare, 0);
 }

@@ -1,3 +1,4 @@
 pub mod Stores
 pub mod Named
 pub mod Numbers
+pub mod Accepted

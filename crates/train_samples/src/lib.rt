@@ -1,9 +1,11 @@
-// The samples that `train` draws, into lent memory: one for each unit of count, tile by tile, colour by colour. Each function gives
-// the place behind what it wrote. Assumes nothing.
+// The samples that `train` draws, into lent memory: one for each unit of count, tile by tile, colour by colour; each function gives the place
+// behind what it wrote. And which refusal a number of samples gets. Assumes nothing.
 ghost use Prim.Native.Nat.{_+_, _*_, _≤_};
 ghost use lib.ListN.{length};
 ghost use Rattle.fit_lines.specs.Lines.{Stored};
 ghost use Rattle.train_samples.specs.Samples.{alike, tileSamples, units, samplesTo, Countable};
+ghost use mathlib.Core.Path.{_≡_};
+ghost use Rattle.train_samples.specs.Refusal.{refusalOf};
 
 // m samples of the colour at place k of tile i.
 fn put_alike(samples: &mut [u32], at: usize, i: u32, k: u32, m: u32) -> usize
@@ -48,4 +50,19 @@ pub fn put_samples(t: usize, tiles: &[u32], counts: &[u32], samples: &mut [u32])
         i += 1;
     }
     q
+}
+
+const MOST_SAMPLES: usize = 16384;
+
+// 1 where there is no sample, 2 where there are too many, 0 where they can be drawn.
+pub fn refusal(n: usize) -> u32
+    ensures { λ r. ⌜ r ≡ refusalOf n ⌝ }
+{
+    if n == 0 {
+        return 1;
+    }
+    if n > MOST_SAMPLES {
+        return 2;
+    }
+    0
 }

@@ -17,8 +17,8 @@ use Rattle.sheet_pack.specs.Packed.{sheetOf}
 use Rattle.sheet.proofs.Inverse.{sets-front}
 use Rattle.sheet_parts.specs.Front.{Writable}
 use Rattle.fit_lines.specs.Lines.{Stored, refusedLine}
-use Rattle.train_refusal.specs.Refusal.{refusalOf}
-use Rattle.train_refusal.proofs.Accepted.{not-refused}
+use Rattle.train_samples.specs.Refusal.{refusalOf}
+use Rattle.train_samples.proofs.Accepted.{not-refused}
 use Rattle.train_samples.specs.Samples.{samplesTo, unitsTo}
 use Rattle.train_samples.proofs.Numbers.{length-samples}
 use Rattle.train_text.specs.Trained.{courseOf, trainedPalette, trainedFile, jobText, Drawable}

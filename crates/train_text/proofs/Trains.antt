@@ -17,8 +17,8 @@ use Rattle.stages.specs.Calls.{Memory, memory, jobRules}
 use Rattle.calls.specs.Accepted.{Roomy}
 use Rattle.fit_lines.specs.Lines.{refusedLine}
 use Rattle.training.proofs.ByCalls.{trained-fits}
-use Rattle.train_refusal.specs.Refusal.{refusalOf}
-use Rattle.train_refusal.proofs.Accepted as refusals
+use Rattle.train_samples.specs.Refusal.{refusalOf}
+use Rattle.train_samples.proofs.Accepted as refusals
 use Rattle.train_samples.specs.Samples.{unitsTo}
 use Rattle.train_text.specs.Trained.{courseOf, trainedPalette, trainedFile, jobText}
 use Rattle.train_text.proofs.Rules.{palette-long, repainted, run-passed}

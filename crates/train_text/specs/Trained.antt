@@ -15,7 +15,7 @@ use Rattle.sheet_format.specs.Sheet.{edition1, sheet}
 use Rattle.sheet_pack.specs.Packed.{sheetOf}
 use Rattle.fit_lines.specs.Lines.{refusedLine}
 use Rattle.training.specs.Training.{trained}
-use Rattle.train_refusal.specs.Refusal.{refusalOf}
+use Rattle.train_samples.specs.Refusal.{refusalOf}
 use Rattle.train_samples.specs.Samples.{samplesTo, unitsTo}
 
 -- the job with one sample for each unit of count

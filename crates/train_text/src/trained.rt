@@ -24,7 +24,7 @@ pub fn put_trained(
     let mut samples = train_parts::samples_room();
     let m = train_samples::put_samples(z.t, tiles, counts, &mut samples);
     let n = m / 2;
-    let number = train_refusal::refusal(n);
+    let number = train_samples::refusal(n);
     if number != 0 {
         return fit_lines::put_refused(out, 0, number);
     }

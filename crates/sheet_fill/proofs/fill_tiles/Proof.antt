@@ -9,7 +9,7 @@ use Rattle.bits.specs.Bits.{bits, fieldAt}
 use Rattle.format.specs.Format.{times}
 use Rattle.sheet_format.specs.Sheet.{edition1, tile}
 use Rattle.sheet_format.specs.Lists.{allCounts, allFloats, tableOf, total}
-use Rattle.sheet_fill_colours.specs.Fill.{Reads, listAt}
+use Rattle.sheet_fill.specs.Fill.{Reads, listAt}
 use Rattle.sheet_fill.proofs.Tiles.{Tiling, tiling-turn, tiling-fits, tiling-again, tiling-end}
 use Rattle.sheet_fill.proofs.fill_tiles.Statement.{statement}
 use Rattle.sheet_fill.proofs.fill_tiles.Tie as tie

@@ -1,7 +1,7 @@
 -- `refusal` meets its contract: each test decides. Assumes nothing.
-use Rattle.train_refusal.proofs.Accepted.{none, many, some}
-use Rattle.train_refusal.proofs.refusal.Statement.{statement}
-use Rattle.train_refusal.proofs.refusal.Tie as tie
+use Rattle.train_samples.proofs.Accepted.{none, many, some}
+use Rattle.train_samples.proofs.refusal.Statement.{statement}
+use Rattle.train_samples.proofs.refusal.Tie as tie
 
 returns : tie.Need-returns
 returns c = none _ (c .if1 .taken)

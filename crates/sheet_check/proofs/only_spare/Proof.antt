@@ -7,10 +7,10 @@ use lib.ListN.{length}
 use Rattle.bits.specs.Bits.{bits}
 use Rattle.bits.proofs.Fields.{field-lt}
 use Rattle.bits.proofs.Bytes.{length-bits}
-use Rattle.sheet_spare.proofs.Spare.{spare-some, spare-bytes}
+use Rattle.sheet_check.proofs.Spare.{spare-some, spare-bytes}
 use borrow.Author.Needs.{needs}
-use Rattle.sheet_spare.proofs.only_spare.Statement.{statement}
-use Rattle.sheet_spare.proofs.only_spare.Tie as tie
+use Rattle.sheet_check.proofs.only_spare.Statement.{statement}
+use Rattle.sheet_check.proofs.only_spare.Tie as tie
 
 mul-left : tie.Need-mul-left
 mul-left c = search needs

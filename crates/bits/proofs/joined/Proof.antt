@@ -1,10 +1,10 @@
 -- `joined` meets its contract: no shift loses a bit, and no sum carries past 64. Assumes nothing.
 use native.Mathlib.Omega.{arith}
 use Rattle.bits.proofs.Gathered.{shl-some}
-use Rattle.bits_put.proofs.Spelled.{high-fits, joined-is, joined-fits}
+use Rattle.bits.proofs.Spelled.{high-fits, joined-is, joined-fits}
 use borrow.Author.Needs.{needs}
-use Rattle.bits_put.proofs.joined.Statement.{statement}
-use Rattle.bits_put.proofs.joined.Tie as tie
+use Rattle.bits.proofs.joined.Statement.{statement}
+use Rattle.bits.proofs.joined.Tie as tie
 
 shl-high : tie.Need-shl-high
 shl-high c = search needs

@@ -1,13 +1,13 @@
 -- `put` meets its contract: the bytes that the field touches are stored anew, with their other bits as they were. Assumes nothing.
 use Prim.Native.Nat.{_+_, _-_, _*_, _/_, _%_}
 use native.Mathlib.Omega.{arith}
 use Rattle.bits.specs.Bits.{bits}
 use Rattle.bits.proofs.Bytes.{length-bits}
 use Rattle.bits.proofs.Fields.{field-lt}
-use Rattle.bits_put.proofs.Spelled.{put-done}
+use Rattle.bits.proofs.Spelled.{put-done}
 use borrow.Author.Needs.{needs}
-use Rattle.bits_put.proofs.put.Statement.{statement}
-use Rattle.bits_put.proofs.put.Tie as tie
+use Rattle.bits.proofs.put.Statement.{statement}
+use Rattle.bits.proofs.put.Tie as tie
 
 add-end : tie.Need-add-end
 add-end c = search needs

@@ -16,7 +16,7 @@ use Rattle.format.proofs.Fixed.{Fixed, field-says, field-fixed, checked-fixed, 
 use Rattle.pattern.specs.Pattern.{small}
 use Rattle.sheet_format.specs.Sheet.{component}
 use Rattle.sheet_format.specs.Lists.{floats}
-use Rattle.sheet_fill_colours.specs.Fill.{Reads, listOf, listAt}
+use Rattle.sheet_fill.specs.Fill.{Reads, listOf, listAt}
 
 pub component-fixed : Fixed component 32
 component-fixed = checked-fixed 7 small (field 32) 32 (field-fixed 32)

@@ -11,10 +11,10 @@ use Rattle.format.specs.Format.{times}
 use Rattle.pattern.specs.Pattern.{small}
 use Rattle.sheet_format.specs.Sheet.{component}
 use Rattle.sheet_format.specs.Lists.{floats}
-use Rattle.sheet_fill_colours.specs.Fill.{Reads, listAt}
-use Rattle.sheet_fill_colours.proofs.Components.{fill-now, fill-again, fill-end}
-use Rattle.sheet_fill_colours.proofs.fill_components.Statement.{statement}
-use Rattle.sheet_fill_colours.proofs.fill_components.Tie as tie
+use Rattle.sheet_fill.specs.Fill.{Reads, listAt}
+use Rattle.sheet_fill.proofs.Components.{fill-now, fill-again, fill-end}
+use Rattle.sheet_fill.proofs.fill_components.Statement.{statement}
+use Rattle.sheet_fill.proofs.fill_components.Tie as tie
 
 abbrev Inv-loop : tie.InvT-loop
 Inv-loop s p n dst₀ at q₀ i₀ dst q i =

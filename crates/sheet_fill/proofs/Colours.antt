@@ -18,8 +18,8 @@ use Rattle.format.proofs.Lawful.{cond-got, same-value, same-rest, next-got}
 use Rattle.format.proofs.Fixed.{Fixed, field-says, checked-fixed, above-fixed, both-fixed, both-first, both-second, times-fixed, times-long, cons-parts}
 use Rattle.sheet_format.specs.Sheet.{Edition, component, Colour, entry, colours}
 use Rattle.sheet_format.specs.Lists.{floats, tileCounts, tileFloats}
-use Rattle.sheet_fill_colours.specs.Fill.{Reads, listOf, listAt}
-use Rattle.sheet_fill_colours.proofs.Components.{component-fixed}
+use Rattle.sheet_fill.specs.Fill.{Reads, listOf, listAt}
+use Rattle.sheet_fill.proofs.Components.{component-fixed}
 
 module _ (E : Edition) where
   -- the bits of a colour, and its count

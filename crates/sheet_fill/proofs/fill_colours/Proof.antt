@@ -10,10 +10,10 @@ use Rattle.bits.proofs.Bytes.{length-bits}
 use Rattle.bits.proofs.Fields.{field-lt}
 use Rattle.sheet_format.specs.Sheet.{edition1, colours}
 use Rattle.sheet_format.specs.Lists.{tileCounts, tileFloats}
-use Rattle.sheet_fill_colours.specs.Fill.{Reads, listAt}
-use Rattle.sheet_fill_colours.proofs.Colours.{Filling, filling-now, filling-again, filling-end}
-use Rattle.sheet_fill_colours.proofs.fill_colours.Statement.{statement}
-use Rattle.sheet_fill_colours.proofs.fill_colours.Tie as tie
+use Rattle.sheet_fill.specs.Fill.{Reads, listAt}
+use Rattle.sheet_fill.proofs.Colours.{Filling, filling-now, filling-again, filling-end}
+use Rattle.sheet_fill.proofs.fill_colours.Statement.{statement}
+use Rattle.sheet_fill.proofs.fill_colours.Tie as tie
 
 abbrev Inv-loop : tie.InvT-loop
 Inv-loop s p n counts₀ parts₀ k q₀ i₀ counts parts q i =

@@ -7,7 +7,7 @@ use native.Mathlib.Omega.{arith}
 use lib.Dec.{leb, eqb}
 use borrow.Author.Tests.{eqb-false, leb-true, eq-eqb, ne-eqb, le-leb, lt-leb}
 use Rattle.job.specs.Job.{mostSamples}
-use Rattle.train_refusal.specs.Refusal.{refusalOf}
+use Rattle.train_samples.specs.Refusal.{refusalOf}
 
 abbrev byTests : Bool → Bool → ℕ
 byTests none few = cond none 1 (cond few 0 2)

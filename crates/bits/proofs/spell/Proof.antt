@@ -4,10 +4,10 @@ use mathlib.Core.Path.{_≡_, refl, _∙_}
 use native.Mathlib.Omega.{arith}
 use lib.ListN.{length, length-set}
 use lib.Seq.{sets}
 use Rattle.bits.specs.Bits.{bits, bitsOf}
-use Rattle.bits_put.proofs.Spelled.{spell-step, spell-end}
-use Rattle.bits_put.proofs.spell.Statement.{statement}
-use Rattle.bits_put.proofs.spell.Tie as tie
+use Rattle.bits.proofs.Spelled.{spell-step, spell-end}
+use Rattle.bits.proofs.spell.Statement.{statement}
+use Rattle.bits.proofs.spell.Tie as tie
 
 abbrev Inv-loop : tie.InvT-loop
 Inv-loop s₀ first end x j₀ s j =

@@ -1,2 +1,0 @@
-pub mod Components
-pub mod Colours
