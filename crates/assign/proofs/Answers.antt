@@ -11,11 +11,11 @@ use Rattle.job.specs.Job.{Job}
 use Rattle.job.specs.Gives.{Plain}
 use Rattle.job.proofs.Ready.{plain-ready}
 use Rattle.fits.proofs.Shown.{shown}
-use Rattle.assign_tiles.specs.Tiles.{Held, assigned, Ready}
+use Rattle.assign_tiles.specs.Tiles.{TileMemory, assigned, CanAssign}
 use Rattle.assign_check.specs.Answer.{roomFor, answerFor}
 use Rattle.assign.specs.Assign.{outcome, assignAnswer, assignDef}
 
-module _ (J : Job) (palette : List Float) (h : Held) where
+module _ (J : Job) (palette : List Float) (h : TileMemory) where
   module _ (r : ℕ) (e : r ≡ answerFor J palette (length (h .hints)) (length (h .out))) where
     -- a refusal writes nothing
     pub stop : (r ≡ 0 → ⊥) → outcome r h ≡ assignDef J palette h
@@ -26,15 +26,15 @@ module _ (J : Job) (palette : List Float) (h : Held) where
       passed : Plain J palette (roomFor (J .T) (length (h .hints)) (length (h .out)))
       passed = plain-ready J palette (roomFor (J .T) (length (h .hints)) (length (h .out))) (sym e ∙ z)
 
-      pub go : Ready J palette h
+      pub can-assign : CanAssign J palette h
       unfolding roomFor
-      go =
+      can-assign =
           record {
             shown = shown J palette (roomFor (J .T) (length (h .hints)) (length (h .out))) passed;
             hints = eqb-true (length (h .hints)) (J .T) (and-l (eqb (length (h .hints)) (J .T)) (eqb (length (h .out)) (J .T)) (passed .roomy));
             out = eqb-true (length (h .out)) (J .T) (and-r (eqb (length (h .hints)) (J .T)) (eqb (length (h .out)) (J .T)) (passed .roomy));
           }
 
-      pub done : (after : Held) → after ≡ assigned J palette h (J .T) → outcome 0 after ≡ assignDef J palette h
+      pub done : (after : TileMemory) → after ≡ assigned J palette h (J .T) → outcome 0 after ≡ assignDef J palette h
       unfolding assignDef assignAnswer
       done after f = rw (← e, eq-eqb r 0 z, ← f)

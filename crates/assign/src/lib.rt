@@ -3,7 +3,7 @@
 use job::Sizes;
 ghost use mathlib.Core.Path.{_≡_};
 ghost use Rattle.job.specs.Job.{jobOf};
-ghost use Rattle.assign_tiles.specs.Tiles.{held};
+ghost use Rattle.assign_tiles.specs.Tiles.{tileMemory};
 ghost use Rattle.assign.specs.Assign.{outcome, assignDef};
 
 // The subpalette that fits each tile best, in `out`, and in `hints` for a tile that is not empty. A number but 0 writes nothing.
@@ -16,7 +16,7 @@ pub fn assign(
     hints: &mut [u32],
     out: &mut [u32],
 ) -> u32
-    ensures { λ r. ⌜ outcome r (held (now (hints .exit)) (now (out .exit))) ≡ assignDef (jobOf z (now (tiles .entry)) (now (colours .entry)) (now (counts .entry))) (now (palette .entry)) (held (now (hints .entry)) (now (out .entry))) ⌝ }
+    ensures { λ r. ⌜ outcome r (tileMemory (now (hints .exit)) (now (out .exit))) ≡ assignDef (jobOf z (now (tiles .entry)) (now (colours .entry)) (now (counts .entry))) (now (palette .entry)) (tileMemory (now (hints .entry)) (now (out .entry))) ⌝ }
 {
     let number = assign_check::check_assign(
         z,

@@ -10,12 +10,12 @@ use Rattle.palette_tile.specs.Walk.{walk}
 use Rattle.palette_tile.specs.Tiles.{winner, hintStep, hintsOf, Shown}
 
 -- the memory that the call is lent: a hint and a subpalette for each tile
-pub record Held : Type 0 where
+pub record TileMemory : Type 0 where
   pub hints : List ℕ
   pub out : List ℕ
 
-abbrev pub held : List ℕ → List ℕ → Held
-held h o = record { hints = h; out = o }
+abbrev pub tileMemory : List ℕ → List ℕ → TileMemory
+tileMemory h o = record { hints = h; out = o }
 
 -- the subpalette of tile t: its winner, 0 where it is empty
 unfoldable pub subpaletteOf : Job → List Float → ℕ → ℕ
@@ -30,20 +30,20 @@ abbrev pub hintOf : Job → List Float → List ℕ → ℕ → ℕ
 hintOf J palette found t = cond (isEmpty J t) (getD found t 0) (winner J palette (J .S) (J .C) t)
 
 -- one tile more
-abbrev pub assignStep : Job → List Float → ℕ → Held → Held
-assignStep J palette t h = held (hintStep J palette (J .S) (J .C) t (h .hints)) (set (h .out) t (subpaletteOf J palette t))
+abbrev pub assignStep : Job → List Float → ℕ → TileMemory → TileMemory
+assignStep J palette t h = tileMemory (hintStep J palette (J .S) (J .C) t (h .hints)) (set (h .out) t (subpaletteOf J palette t))
 
 -- the memory after the first t tiles
-unfoldable pub assigned : Job → List Float → Held → ℕ → Held
-assigned J palette h t = held (hintsOf J palette (J .S) (J .C) (h .hints) t) (subpalettes J palette (h .out) t)
+unfoldable pub assigned : Job → List Float → TileMemory → ℕ → TileMemory
+assigned J palette h t = tileMemory (hintsOf J palette (J .S) (J .C) (h .hints) t) (subpalettes J palette (h .out) t)
 
 -- ---- what the functions ask: a job and a palette that passed, and a place for each tile
-pub record Ready (J : Job) (palette : List Float) (h : Held) : Type 0 where
+pub record CanAssign (J : Job) (palette : List Float) (h : TileMemory) : Type 0 where
   pub shown : Shown J palette (J .S) (J .C)
   pub hints : length (h .hints) ≡ J .T
   pub out : length (h .out) ≡ J .T
 
 -- and a tile of it
-pub record Turn (J : Job) (palette : List Float) (h : Held) (t : ℕ) : Type 0 where
-  pub ready : Ready J palette h
+pub record Turn (J : Job) (palette : List Float) (h : TileMemory) (t : ℕ) : Type 0 where
+  pub ready : CanAssign J palette h
   pub tile : t < J .T

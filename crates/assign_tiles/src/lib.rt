@@ -3,7 +3,7 @@
 use job::Sizes;
 ghost use mathlib.Core.Path.{_≡_};
 ghost use Rattle.job.specs.Job.{jobOf};
-ghost use Rattle.assign_tiles.specs.Tiles.{held, assignStep, assigned, Ready, Turn};
+ghost use Rattle.assign_tiles.specs.Tiles.{tileMemory, assignStep, assigned, CanAssign, Turn};
 
 // Writes tile i's subpalette, and its hint where it is not empty.
 fn assign_tile(
@@ -16,8 +16,8 @@ fn assign_tile(
     out: &mut [u32],
     i: usize,
 )
-    requires { ⌜ Turn (jobOf z (now tiles) (now colours) (now counts)) (now palette) (held (now hints) (now out)) i ⌝ }
-    ensures { λ r. ⌜ held (now (hints .exit)) (now (out .exit)) ≡ assignStep (jobOf z (now (tiles .entry)) (now (colours .entry)) (now (counts .entry))) (now (palette .entry)) i (held (now (hints .entry)) (now (out .entry))) ⌝ }
+    requires { ⌜ Turn (jobOf z (now tiles) (now colours) (now counts)) (now palette) (tileMemory (now hints) (now out)) i ⌝ }
+    ensures { λ r. ⌜ tileMemory (now (hints .exit)) (now (out .exit)) ≡ assignStep (jobOf z (now (tiles .entry)) (now (colours .entry)) (now (counts .entry))) (now (palette .entry)) i (tileMemory (now (hints .entry)) (now (out .entry))) ⌝ }
 {
     if job::is_empty(tiles, i) {
         out[i] = 0;
@@ -37,8 +37,8 @@ pub fn assign_tiles(
     hints: &mut [u32],
     out: &mut [u32],
 )
-    requires { ⌜ Ready (jobOf z (now tiles) (now colours) (now counts)) (now palette) (held (now hints) (now out)) ⌝ }
-    ensures { λ r. ⌜ held (now (hints .exit)) (now (out .exit)) ≡ assigned (jobOf z (now (tiles .entry)) (now (colours .entry)) (now (counts .entry))) (now (palette .entry)) (held (now (hints .entry)) (now (out .entry))) (z .t) ⌝ }
+    requires { ⌜ CanAssign (jobOf z (now tiles) (now colours) (now counts)) (now palette) (tileMemory (now hints) (now out)) ⌝ }
+    ensures { λ r. ⌜ tileMemory (now (hints .exit)) (now (out .exit)) ≡ assigned (jobOf z (now (tiles .entry)) (now (colours .entry)) (now (counts .entry))) (now (palette .entry)) (tileMemory (now (hints .entry)) (now (out .entry))) (z .t) ⌝ }
 {
     let mut i = 0usize;
     while i < z.t {

@@ -14,12 +14,12 @@ use Rattle.bits.specs.Bits.{odd, val, bitsOf, numFrom, num}
 
 -- ---- one bit
 val-odd : (n : ℕ) → val (odd n) ≡ n % 2
-val-odd n = go (n % 2) (omega arith)
+val-odd n = by (n % 2) (omega arith)
   where
-    go : (m : ℕ) → m < 2 → val (eqb m 1) ≡ m
-    go zero h = refl
-    go (suc zero) h = refl
-    go (suc (suc m)) h = absurd (omega arith)
+    by : (m : ℕ) → m < 2 → val (eqb m 1) ≡ m
+    by zero h = refl
+    by (suc zero) h = refl
+    by (suc (suc m)) h = absurd (omega arith)
 
 odd-val : (n : ℕ) (b : Bool) → odd (n * 2 + val b) ≡ b
 odd-val n true = eq-eqb ((n * 2 + 1) % 2) 1 (omega arith)

@@ -42,14 +42,14 @@ first-at f zero i l = absurd (none l)
   where
     none : i < 0 → ⊥
     none l = omega arith
-first-at f (suc t) i l = go (ℕ-discrete i t) (λ k. first-at f t i k)
+first-at f (suc t) i l = by (ℕ-discrete i t) (λ k. first-at f t i k)
   where
-    go : Dec (i ≡ t) → (i < t → getD (firsts f t) i 0 ≡ f i) → getD (firsts f t ++ (f t ∷ [])) i 0 ≡ f i
-    go (yes e) ih = ap (λ (k : ℕ). getD (firsts f t ++ (f t ∷ [])) k 0) (e ∙ last) ∙ getD-append-add (firsts f t) (f t ∷ []) 0 0 ∙ sym (ap f e)
+    by : Dec (i ≡ t) → (i < t → getD (firsts f t) i 0 ≡ f i) → getD (firsts f t ++ (f t ∷ [])) i 0 ≡ f i
+    by (yes e) ih = ap (λ (k : ℕ). getD (firsts f t ++ (f t ∷ [])) k 0) (e ∙ last) ∙ getD-append-add (firsts f t) (f t ∷ []) 0 0 ∙ sym (ap f e)
       where
         last : t ≡ length (firsts f t) + 0
         last = omega (arith, length-firsts f t)
-    go (no n) ih = List·getD-append (firsts f t) (f t ∷ []) 0 i (omega (arith, n, length-firsts f t)) ∙ ih (omega (arith, n))
+    by (no n) ih = List·getD-append (firsts f t) (f t ∷ []) 0 i (omega (arith, n, length-firsts f t)) ∙ ih (omega (arith, n))
 
 module _ (K : Course) (seed : ℕ) where
   same-follows : (s z : State) → Same s z → Follows K seed s → Follows K seed z

@@ -146,35 +146,35 @@ module _ (K : Course) (S1 : 1 ≤ K .job .S) (C1 : 1 ≤ K .job .C) where
   left-le s (over k past r l e) h = absurd (omega arith)
 
   stopped : (s : State) → Placed K s → Early K s → draws (s .rec .stage) ≡ false → s .rec .stage ≡ 3
-  stopped s p h D = go p
+  stopped s p h D = by p
     where
       drawn : {k : ℕ} → s .rec .stage ≡ k → draws k ≡ true → s .rec .stage ≡ 3
       drawn k t = absurd (true≢false (sym t ∙ sym (ap draws k) ∙ D))
 
-      go : Placed K s → s .rec .stage ≡ 3
-      go (seeding k r l e) = drawn k refl
-      go (growing k r l e) = drawn k refl
-      go (replacing k r l e) = drawn k refl
-      go (reducing k r l e) = k
-      go (finishing k r l e) = drawn k refl
-      go (over k past r l e) = absurd (omega arith)
+      by : Placed K s → s .rec .stage ≡ 3
+      by (seeding k r l e) = drawn k refl
+      by (growing k r l e) = drawn k refl
+      by (replacing k r l e) = drawn k refl
+      by (reducing k r l e) = k
+      by (finishing k r l e) = drawn k refl
+      by (over k past r l e) = absurd (omega arith)
 
   -- fewer than ten samples: no draw at all, and the start goes straight to the stop for reduction
   pub straight : b K ≡ 0 → (seed : ℕ) (hints : List ℕ) → start K seed hints .rec .stage ≡ 3
-  straight e seed hints = go (start-rests K S1 C1 seed hints) (start-early K seed hints)
+  straight e seed hints = by (start-rests K S1 C1 seed hints) (start-early K seed hints)
     where
-      go : {s : State} → Rests K s → Early K s → s .rec .stage ≡ 3
-      go {s} R h = elim (decide (draws (s .rec .stage))) [
+      by : {s : State} → Rests K s → Early K s → s .rec .stage ≡ 3
+      by {s} R h = elim (decide (draws (s .rec .stage))) [
         | inl t ↦ absurd (omega (arith, some-left K s R t, left-le s (R .place) h))
         | inr t ↦ stopped s (R .place) h t
       ]
 
   -- an allotment that covers what is missing ends at the stop for reduction, with (S + C + 8)·b draws made
   pub reaches : (a : ℕ) (s : State) → Rests K s → Early K s → (K .job .S + K .job .C + 8) * b K ≤ s .rec .made + a → advance K a s .rec .stage ≡ 3
-  reaches a s R h n = go (advance K a s) refl (advance-rests K S1 C1 a s R) (advance-early K a s h)
+  reaches a s R h n = by (advance K a s) refl (advance-rests K S1 C1 a s R) (advance-early K a s h)
     where
-      go : (z : State) → z ≡ advance K a s → Rests K z → Early K z → advance K a s .rec .stage ≡ 3
-      go z q Z k = ap (λ (x : State). x .rec .stage) (sym q) ∙ (elim (decide (draws (z .rec .stage))) [
+      by : (z : State) → z ≡ advance K a s → Rests K z → Early K z → advance K a s .rec .stage ≡ 3
+      by z q Z k = ap (λ (x : State). x .rec .stage) (sym q) ∙ (elim (decide (draws (z .rec .stage))) [
         | inl t ↦ absurd (omega (arith, some-left K z Z t, bounded z (Z .place) k, ap (λ (x : State). x .rec .made) q, advance-made K a s, all-spent K a s (ap (λ (x : State). draws (x .rec .stage)) (sym q) ∙ t)))
         | inr t ↦ stopped z (Z .place) k t
       ])

@@ -35,7 +35,7 @@ togo K s = beside (s .rec .stage) (rows (K .job .S - 1 - s .rec .rounds + (K .jo
 
 pub record Ahead (K : Course) (f : ℕ) (s : State) : Type 0 where
   pub place : Placed K s
-  pub near : togo K s ≤ f
+  pub soon : togo K s ≤ f
 
 -- a stage that draws has draws left then
 pub some-left : (K : Course) (s : State) → Rests K s → draws (s .rec .stage) ≡ true → 1 ≤ s .rec .left
@@ -47,14 +47,14 @@ module _ (K : Course) (S1 : 1 ≤ K .job .S) (C1 : 1 ≤ K .job .C) where
   unfolding enterReplacing openReplacing keep noticed togo beside
   enterReplacing-ahead f s h n = record {
     place = replacing refl (omega arith) (le-refl (b K)) (next-round (K .job .S - 1 + (K .job .C - 1)) _ (s .rec .made) (b K) (omega arith) h);
-    near = omega arith;
+    soon = omega arith;
   }
 
   enterGrowing-ahead : (f : ℕ) (s : State) → s .rec .made ≡ (K .job .S - 1) * b K → K .job .C - 1 + 10 ≤ f → Ahead K f (enterGrowing K s)
   unfolding enterGrowing openGrowing togo beside
   enterGrowing-ahead f s h n = by-test (Ahead K f) (ltb 1 (K .job .C))
       (λ t. let c : 1 < K .job .C = ltb-true 1 (K .job .C) t in
-      record { place = growing refl (omega arith) (le-refl (b K)) (next-round (K .job .S - 1) _ (s .rec .made) (b K) (omega arith) h); near = omega arith })
+      record { place = growing refl (omega arith) (le-refl (b K)) (next-round (K .job .S - 1) _ (s .rec .made) (b K) (omega arith) h); soon = omega arith })
       (λ t. let c : K .job .C ≤ 1 = ltb-false 1 (K .job .C) t in
       enterReplacing-ahead f s (same-rounds _ _ (s .rec .made) (b K) (omega arith) h) (omega arith))
 
@@ -64,7 +64,7 @@ module _ (K : Course) (S1 : 1 ≤ K .job .S) (C1 : 1 ≤ K .job .C) where
   unfolding closeSeeding openSeeding noticed togo beside
   closeSeeding-ahead f s r h n = by-test (Ahead K f) (ltb (s .rec .rounds + 1) (K .job .S - 1))
       (λ t. let c : s .rec .rounds + 1 < K .job .S - 1 = ltb-true (s .rec .rounds + 1) (K .job .S - 1) t in
-      record { place = seeding refl c (le-refl (b K)) (next-round (suc (s .rec .rounds)) _ (s .rec .made) (b K) (omega arith) h); near = omega arith })
+      record { place = seeding refl c (le-refl (b K)) (next-round (suc (s .rec .rounds)) _ (s .rec .made) (b K) (omega arith) h); soon = omega arith })
       (λ t. let c : K .job .S - 1 ≤ s .rec .rounds + 1 = ltb-false (s .rec .rounds + 1) (K .job .S - 1) t in
       enterGrowing-ahead f _ (same-rounds _ _ (s .rec .made) (b K) (omega arith) h) (omega arith))
 
@@ -73,7 +73,7 @@ module _ (K : Course) (S1 : 1 ≤ K .job .S) (C1 : 1 ≤ K .job .C) where
   unfolding closeGrowing openGrowing togo beside
   closeGrowing-ahead f s r h n = by-test (Ahead K f) (ltb (s .rec .rounds + 1) (K .job .C - 1))
       (λ t. let c : s .rec .rounds + 1 < K .job .C - 1 = ltb-true (s .rec .rounds + 1) (K .job .C - 1) t in
-      record { place = growing refl c (le-refl (b K)) (next-round (K .job .S - 1 + suc (s .rec .rounds)) _ (s .rec .made) (b K) (omega arith) h); near = omega arith })
+      record { place = growing refl c (le-refl (b K)) (next-round (K .job .S - 1 + suc (s .rec .rounds)) _ (s .rec .made) (b K) (omega arith) h); soon = omega arith })
       (λ t. let c : K .job .C - 1 ≤ s .rec .rounds + 1 = ltb-false (s .rec .rounds + 1) (K .job .C - 1) t in
       enterReplacing-ahead f s (same-rounds _ _ (s .rec .made) (b K) (omega arith) h) (omega arith))
 
@@ -88,37 +88,37 @@ module _ (K : Course) (S1 : 1 ≤ K .job .S) (C1 : 1 ≤ K .job .C) where
       let e : judged K s .rec .made ≡ (K .job .S - 1 + (K .job .C - 1) + suc (s .rec .rounds)) * b K = judged-made s ∙ h in
       by-test (Ahead K f) (ltb (s .rec .rounds + 1) 10)
       (λ t. let c : s .rec .rounds + 1 < 10 = ltb-true (s .rec .rounds + 1) 10 t in
-      record { place = replacing refl c (le-refl (b K)) (next-round (K .job .S - 1 + (K .job .C - 1) + suc (s .rec .rounds)) _ (judged K s .rec .made) (b K) (omega arith) e); near = omega arith })
+      record { place = replacing refl c (le-refl (b K)) (next-round (K .job .S - 1 + (K .job .C - 1) + suc (s .rec .rounds)) _ (judged K s .rec .made) (b K) (omega arith) e); soon = omega arith })
       (λ t. let c : 10 ≤ s .rec .rounds + 1 = ltb-false (s .rec .rounds + 1) 10 t in
-      record { place = reducing refl refl refl (same-rounds _ _ (judged K s .rec .made) (b K) (omega arith) e); near = omega arith })
+      record { place = reducing refl refl refl (same-rounds _ _ (judged K s .rec .made) (b K) (omega arith) e); soon = omega arith })
 
   -- ---- closing a round, whatever the stage
   module _ (f : ℕ) (s : State) (L : s .rec .left ≡ 0) (A : Ahead K (suc f) s) (D : draws (s .rec .stage) ≡ true) where
     pub finish-ahead : Ahead K f (finishRound K s)
-    finish-ahead = go (A .place)
+    finish-ahead = by (A .place)
       where
         at-end : (x : ℕ) → s .rec .made + s .rec .left ≡ x → s .rec .made ≡ x
         at-end x e = omega arith
 
-        go : Placed K s → Ahead K f (finishRound K s)
-        go (seeding k r l e) = unfold finishRound togo in rw stage0 (closeSeeding-ahead f s r (at-end _ e) (rw stage0 at (A .near)))
-        go (growing k r l e) = unfold finishRound togo in rw stage1 (closeGrowing-ahead f s r (at-end _ e) (rw stage1 at (A .near)))
-        go (replacing k r l e) = unfold finishRound togo in rw stage2 (closeReplacing-ahead f s r (at-end _ e) (rw stage2 at (A .near)))
-        go (reducing k r l e) = absurd (true≢false (sym D ∙ ap draws k))
-        go (finishing k r l e) = unfold finishRound in rw stage4 (record { place = over (omega arith) (omega arith) refl refl (at-end _ e); near = unfold togo beside in omega arith })
-        go (over k past r l e) = absurd (true≢false (sym D ∙ quiet (s .rec .stage) k))
+        by : Placed K s → Ahead K f (finishRound K s)
+        by (seeding k r l e) = unfold finishRound togo in rw stage0 (closeSeeding-ahead f s r (at-end _ e) (rw stage0 at (A .soon)))
+        by (growing k r l e) = unfold finishRound togo in rw stage1 (closeGrowing-ahead f s r (at-end _ e) (rw stage1 at (A .soon)))
+        by (replacing k r l e) = unfold finishRound togo in rw stage2 (closeReplacing-ahead f s r (at-end _ e) (rw stage2 at (A .soon)))
+        by (reducing k r l e) = absurd (true≢false (sym D ∙ ap draws k))
+        by (finishing k r l e) = unfold finishRound in rw stage4 (record { place = over (omega arith) (omega arith) refl refl (at-end _ e); soon = unfold togo beside in omega arith })
+        by (over k past r l e) = absurd (true≢false (sym D ∙ quiet (s .rec .stage) k))
 
   -- ---- settling: with as much fuel as there are rounds to go, nothing is due in the end
   pub idle : (s : State) → Ahead K 0 s → draws (s .rec .stage) ≡ false
-  idle s A = go (A .place)
+  idle s A = by (A .place)
     where
-      go : Placed K s → draws (s .rec .stage) ≡ false
-      go (seeding k r l e) = absurd (let n : K .job .S - 1 - s .rec .rounds + (K .job .C - 1) + 10 ≤ 0 = unfold togo in rw stage0 at (A .near) in omega arith)
-      go (growing k r l e) = absurd (let n : K .job .C - 1 - s .rec .rounds + 10 ≤ 0 = unfold togo in rw stage1 at (A .near) in omega arith)
-      go (replacing k r l e) = absurd (let n : 10 - s .rec .rounds ≤ 0 = unfold togo in rw stage2 at (A .near) in omega arith)
-      go (reducing k r l e) = ap draws k
-      go (finishing k r l e) = absurd (let n : 1 ≤ 0 = unfold togo in rw stage4 at (A .near) in omega arith)
-      go (over k past r l e) = quiet (s .rec .stage) k
+      by : Placed K s → draws (s .rec .stage) ≡ false
+      by (seeding k r l e) = absurd (let n : K .job .S - 1 - s .rec .rounds + (K .job .C - 1) + 10 ≤ 0 = unfold togo in rw stage0 at (A .soon) in omega arith)
+      by (growing k r l e) = absurd (let n : K .job .C - 1 - s .rec .rounds + 10 ≤ 0 = unfold togo in rw stage1 at (A .soon) in omega arith)
+      by (replacing k r l e) = absurd (let n : 10 - s .rec .rounds ≤ 0 = unfold togo in rw stage2 at (A .soon) in omega arith)
+      by (reducing k r l e) = ap draws k
+      by (finishing k r l e) = absurd (let n : 1 ≤ 0 = unfold togo in rw stage4 at (A .soon) in omega arith)
+      by (over k past r l e) = quiet (s .rec .stage) k
 
   pub settling : (f : ℕ) (s : State) → Ahead K f s → Rests K (whilst due (finishRound K) f s)
   unfolding whilst
@@ -138,19 +138,19 @@ module _ (K : Course) (S1 : 1 ≤ K .job .S) (C1 : 1 ≤ K .job .C) where
 
   pub settle-rests : (s : State) → Placed K s → Rests K (settle K s)
   unfolding settle
-  settle-rests s p = settling _ s (record { place = p; near = enough s p })
+  settle-rests s p = settling _ s (record { place = p; soon = enough s p })
 
   -- ---- a draw, a step, an advance
   pub draw-place : (s : State) → Rests K s → draws (s .rec .stage) ≡ true → Placed K (draw K s)
-  draw-place s R D = go (R .place)
+  draw-place s R D = by (R .place)
     where
-      go : Placed K s → Placed K (draw K s)
-      go (seeding k r l e) = unfold draw drawWith in seeding k r (omega arith) (omega (arith, some-left K s R D))
-      go (growing k r l e) = unfold draw drawWith in growing k r (omega arith) (omega (arith, some-left K s R D))
-      go (replacing k r l e) = unfold draw drawWith in replacing k r (omega arith) (omega (arith, some-left K s R D))
-      go (reducing k r l e) = absurd (true≢false (sym D ∙ ap draws k))
-      go (finishing k r l e) = unfold draw drawWith in finishing k r (omega arith) (omega (arith, some-left K s R D))
-      go (over k past r l e) = absurd (true≢false (sym D ∙ quiet (s .rec .stage) k))
+      by : Placed K s → Placed K (draw K s)
+      by (seeding k r l e) = unfold draw drawWith in seeding k r (omega arith) (omega (arith, some-left K s R D))
+      by (growing k r l e) = unfold draw drawWith in growing k r (omega arith) (omega (arith, some-left K s R D))
+      by (replacing k r l e) = unfold draw drawWith in replacing k r (omega arith) (omega (arith, some-left K s R D))
+      by (reducing k r l e) = absurd (true≢false (sym D ∙ ap draws k))
+      by (finishing k r l e) = unfold draw drawWith in finishing k r (omega arith) (omega (arith, some-left K s R D))
+      by (over k past r l e) = absurd (true≢false (sym D ∙ quiet (s .rec .stage) k))
 
   pub step-rests : (s : State) → Rests K s → draws (s .rec .stage) ≡ true → Rests K (step K s)
   unfolding step
@@ -174,18 +174,18 @@ module _ (K : Course) (S1 : 1 ≤ K .job .S) (C1 : 1 ≤ K .job .C) where
   final-placed s e = finishing refl refl (le-refl _) (rw (e, ← add-mul (K .job .S + K .job .C + 8) 10 (b K)) (ap (λ (x : ℕ). x * b K) (omega arith)))
 
   pub handIn-rests : (h : List Float) (s : State) → Rests K s → draws (s .rec .stage) ≡ false → s .rec .stage ≤ 6 → Rests K (handIn K h s)
-  handIn-rests h s R D Z = go (R .place)
+  handIn-rests h s R D Z = by (R .place)
     where
       drawn : {k : ℕ} → s .rec .stage ≡ k → draws k ≡ true → Rests K (handIn K h s)
       drawn k t = absurd (true≢false (sym t ∙ sym (ap draws k) ∙ D))
 
-      go : Placed K s → Rests K (handIn K h s)
-      go (seeding k r l e) = drawn k refl
-      go (growing k r l e) = drawn k refl
-      go (replacing k r l e) = drawn k refl
-      go (reducing k r l e) = unfold handIn in rw (eq-eqb (s .rec .stage) 3 k) (settle-rests _ (final-placed (painted s (s .hints) h) e))
-      go (finishing k r l e) = drawn k refl
-      go (over k past r l e) = unfold handIn refinedOnce noticed in
+      by : Placed K s → Rests K (handIn K h s)
+      by (seeding k r l e) = drawn k refl
+      by (growing k r l e) = drawn k refl
+      by (replacing k r l e) = drawn k refl
+      by (reducing k r l e) = unfold handIn in rw (eq-eqb (s .rec .stage) 3 k) (settle-rests _ (final-placed (painted s (s .hints) h) e))
+      by (finishing k r l e) = drawn k refl
+      by (over k past r l e) = unfold handIn refinedOnce noticed in
           rw (ne-eqb (s .rec .stage) 3 (λ (q : s .rec .stage ≡ 3). omega arith))
           (both (Rests K) (eqb (s .rec .stage) 5) (record { place = over (omega arith) (omega arith) refl refl e; done = refl }) (record { place = over (omega arith) (omega arith) refl refl e; done = refl }))
 

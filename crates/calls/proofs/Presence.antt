@@ -65,7 +65,7 @@ draw-shown K R s p L B =
       some = some-colours K (R .sizes .subs) (R .sizes .some) s;
       present = few-colours K (R .sizes .subs) (R .sizes .some) s p;
       room = L;
-      near = B;
+      bounded = B;
     }
 
 pub draw-unused : (K : Course) (s : State) → Shown (K .job) (s .palette) (subsOf (K .job .S) (s .rec)) (haveOf (K .job .C) (s .rec)) → (i c : ℕ) → c < K .job .C → (subsOf (K .job .S) (s .rec) ≤ i) ⊎ (haveOf (K .job .C) (s .rec) ≤ c)

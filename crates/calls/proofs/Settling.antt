@@ -29,27 +29,27 @@ module _ (K : Course) (S1 : 1 ≤ K .job .S) (C1 : 1 ≤ K .job .C) (s : State) 
     drawing = and-l (draws (s .rec .stage)) _ d
 
     some-togo : 1 ≤ togo K s
-    some-togo = go (togo K s) refl
+    some-togo = by (togo K s) refl
       where
-        go : (n : ℕ) → togo K s ≡ n → 1 ≤ n
-        go zero e = absurd (true≢false (sym drawing ∙ idle K S1 C1 s (record { place = p; near = omega arith })))
-        go (suc n) e = omega arith
+        by : (n : ℕ) → togo K s ≡ n → 1 ≤ n
+        by zero e = absurd (true≢false (sym drawing ∙ idle K S1 C1 s (record { place = p; soon = omega arith })))
+        by (suc n) e = omega arith
 
     closer : Ahead K (togo K s - 1) (finishRound K s)
-    closer = finish-ahead K S1 C1 (togo K s - 1) s spent (record { place = p; near = omega (arith, some-togo) }) drawing
+    closer = finish-ahead K S1 C1 (togo K s - 1) s spent (record { place = p; soon = omega (arith, some-togo) }) drawing
 
     pub finish-placed : Placed K (finishRound K s)
     finish-placed = closer .place
 
     pub togo-less : togo K (finishRound K s) < togo K s
-    togo-less = omega (arith, closer .near, some-togo)
+    togo-less = omega (arith, closer .soon, some-togo)
 
     -- one round more or less in the bound makes no difference
     pub settle-more : settle K s ≡ settle K (finishRound K s)
     unfolding settle
     settle-more =
         let F = K .job .S + K .job .C + 20 in
-        let R : Rests K (whilst due (finishRound K) F s) = settling K S1 C1 F s (record { place = p; near = enough K S1 C1 s p }) in
+        let R : Rests K (whilst due (finishRound K) F s) = settling K S1 C1 F s (record { place = p; soon = enough K S1 C1 s p }) in
         sym (whilst-stop due (finishRound K) 1 (whilst due (finishRound K) F s) (R .done))
         ∙ sym (whilst-add due (finishRound K) F 1 s)
         ∙ ap (λ (n : ℕ). whilst due (finishRound K) n s) (one-more F)

@@ -42,15 +42,15 @@ use Rattle.calls.specs.Sound.{Dealt, Held, Second, Sound, in2, out2}
 
 -- the last word outside stage 2
 pub no-error : (K : Course) (s : State) → Sound K s → s .rec .stage ≢ 2 → s .rec .error ≡ 0
-no-error K s A h = go (A .second)
+no-error K s A h = by (A .second)
   where
-    go : Second K (s .rec .stage) (s .rec .error) (s .least) → s .rec .error ≡ 0
-    go (in2 k e f) = absurd (h k)
-    go (out2 k e) = e
+    by : Second K (s .rec .stage) (s .rec .error) (s .least) → s .rec .error ≡ 0
+    by (in2 k e f) = absurd (h k)
+    by (out2 k e) = e
 
 module _ (K : Course) (R : Ready (K .job)) where
   shown : (pal : List Float) → Held K pal → (n have : ℕ) → 1 ≤ n → n ≤ K .job .S → 1 ≤ have → have ≤ K .job .C → Shown (K .job) pal n have
-  shown pal H n have n1 nS h1 hC = record { ready = R; subs = n1; most = nS; some = h1; present = hC; room = H .size; near = H .bound }
+  shown pal H n have n1 nS h1 hC = record { ready = R; subs = n1; most = nS; some = h1; present = hC; room = H .size; bounded = H .bound }
 
   pub all-shown : (pal : List Float) → Held K pal → Shown (K .job) pal (K .job .S) (K .job .C)
   all-shown pal H = shown pal H (K .job .S) (K .job .C) (R .sizes .subs) (le-refl (K .job .S)) (R .sizes .some) (le-refl (K .job .C))
@@ -160,11 +160,11 @@ module _ (K : Course) (R : Ready (K .job)) where
 
   -- the least palette in stage 2
   least-held : (s : State) → Sound K s → s .rec .stage ≡ 2 → Held K (s .least)
-  least-held s A k = go (A .second)
+  least-held s A k = by (A .second)
     where
-      go : Second K (s .rec .stage) (s .rec .error) (s .least) → Held K (s .least)
-      go (in2 q e f) = record { size = A .room; bound = f }
-      go (out2 q e) = absurd (q k)
+      by : Second K (s .rec .stage) (s .rec .error) (s .least) → Held K (s .least)
+      by (in2 q e f) = record { size = A .room; bound = f }
+      by (out2 q e) = absurd (q k)
 
   openReplacing-sound : (r : ℕ) (s : State) → Sound K s → s .rec .stage ≡ 2 → Sound K (openReplacing K r s)
   unfolding openReplacing

@@ -64,24 +64,24 @@ module _ (K : Course) (S1 : 1 ≤ K .job .S) (C1 : 1 ≤ K .job .C) where
   -- the tests of a stage that draws, and of one that does not, as facts
   opened : (k r l m : ℕ) → draws k ≡ true → Words k r l m
       → (r < stageOf K k .rounds) × (1 ≤ l) × (l ≤ stageOf K k .each) × (m + l ≡ stageOf K k .before + r * b K + stageOf K k .each)
-  opened k r l m D w = go (and-r (leb k 7) _ (unfold placeFits in w .place))
+  opened k r l m D w = by (and-r (leb k 7) _ (unfold placeFits in w .place))
     where
       sizes : m ≡ stageOf K k .before + r * b K + (stageOf K k .each - l)
       sizes = unfold madeBy in w .made ∙ (rw D)
 
-      go : cond (draws k) (ltb r (stageOf K k .rounds) && (leb 1 l && leb l (stageOf K k .each))) (eqb r 0 && eqb l 0) ≡ true
+      by : cond (draws k) (ltb r (stageOf K k .rounds) && (leb 1 l && leb l (stageOf K k .each))) (eqb r 0 && eqb l 0) ≡ true
           → (r < stageOf K k .rounds) × (1 ≤ l) × (l ≤ stageOf K k .each) × (m + l ≡ stageOf K k .before + r * b K + stageOf K k .each)
-      go h =
+      by h =
           let t : ltb r (stageOf K k .rounds) && (leb 1 l && leb l (stageOf K k .each)) ≡ true = rw D at h in
           let u = and-r (ltb r (stageOf K k .rounds)) _ t in
           let x : l ≤ stageOf K k .each = leb-true l (stageOf K k .each) (and-r (leb 1 l) _ u) in
           (ltb-true r (stageOf K k .rounds) (and-l _ (leb 1 l && leb l (stageOf K k .each)) t), leb-true 1 l (and-l _ (leb l (stageOf K k .each)) u), x, omega (arith, sizes))
 
   closed : (k r l m : ℕ) → draws k ≡ false → Words k r l m → (r ≡ 0) × (l ≡ 0) × (m ≡ stageOf K k .before)
-  closed k r l m D w = go (and-r (leb k 7) _ (unfold placeFits in w .place))
+  closed k r l m D w = by (and-r (leb k 7) _ (unfold placeFits in w .place))
     where
-      go : cond (draws k) (ltb r (stageOf K k .rounds) && (leb 1 l && leb l (stageOf K k .each))) (eqb r 0 && eqb l 0) ≡ true → (r ≡ 0) × (l ≡ 0) × (m ≡ stageOf K k .before)
-      go h =
+      by : cond (draws k) (ltb r (stageOf K k .rounds) && (leb 1 l && leb l (stageOf K k .each))) (eqb r 0 && eqb l 0) ≡ true → (r ≡ 0) × (l ≡ 0) × (m ≡ stageOf K k .before)
+      by h =
           let t : eqb r 0 && eqb l 0 ≡ true = rw D at h in
           (eqb-true r 0 (and-l _ (eqb l 0) t), eqb-true l 0 (and-r (eqb r 0) _ t), unfold madeBy in w .made ∙ (rw D))
 
@@ -115,8 +115,8 @@ module _ (K : Course) (S1 : 1 ≤ K .job .S) (C1 : 1 ≤ K .job .C) where
       let z : s .rec .left ≢ 0 = eqb-false (s .rec .left) 0 (subst (λ (t : Bool). t && eqb (s .rec .left) 0 ≡ false) D (R .done)) in omega arith)
 
   pub words→rests : (s : State) → Words (s .rec .stage) (s .rec .rounds) (s .rec .left) (s .rec .made) → Rests K s
-  words→rests s w = go (between _ _ _ _ w) (decide (draws (s .rec .stage)))
+  words→rests s w = by (between _ _ _ _ w) (decide (draws (s .rec .stage)))
     where
-      go : Between (s .rec .stage) (s .rec .rounds) (s .rec .left) (s .rec .made) → (draws (s .rec .stage) ≡ true) ⊎ (draws (s .rec .stage) ≡ false) → Rests K s
-      go x (inl t) = record { place = x .place; done = rw (t, ne-eqb (s .rec .left) 0 (λ (q : s .rec .left ≡ 0). omega (arith, x .some t))) }
-      go x (inr t) = record { place = x .place; done = ap (λ (u : Bool). u && eqb (s .rec .left) 0) t }
+      by : Between (s .rec .stage) (s .rec .rounds) (s .rec .left) (s .rec .made) → (draws (s .rec .stage) ≡ true) ⊎ (draws (s .rec .stage) ≡ false) → Rests K s
+      by x (inl t) = record { place = x .place; done = rw (t, ne-eqb (s .rec .left) 0 (λ (q : s .rec .left ≡ 0). omega (arith, x .some t))) }
+      by x (inr t) = record { place = x .place; done = ap (λ (u : Bool). u && eqb (s .rec .left) 0) t }

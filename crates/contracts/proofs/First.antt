@@ -6,7 +6,7 @@ use lib.Ieee.{Float}
 use Rattle.job.specs.Job.{Job, tileSize}
 use Rattle.job.specs.Rules.{answer}
 use Rattle.job.specs.Checks.{plainRules}
-use Rattle.assign_tiles.specs.Tiles.{Held}
+use Rattle.assign_tiles.specs.Tiles.{TileMemory}
 use Rattle.assign.specs.Assign.{roomFor, assignDef}
 use Rattle.quantizer.specs.Course.{Course}
 use Rattle.stages.specs.Calls.{Memory, startCall, advanceCall, handInCall, resultCall}
@@ -78,8 +78,8 @@ module _ (K : Course) (m : Memory) where
   result-tells : (out : List Float) → Tells (List Float) (answer (resultRules K m out)) out (toldColours (resultCall K m out))
   result-tells out = tells (first-demand .result K m out .call) toldColours out (result-apart K m out .low) (unfold toldColours in alone _ out)
 
-assign-tells : (J : Job) (palette : List Float) (h : Held)
-    → Tells Held (answer (plainRules J palette (roomFor (J .T) (length (h .hints)) (length (h .out))))) h (toldTiles (assignDef J palette h))
+assign-tells : (J : Job) (palette : List Float) (h : TileMemory)
+    → Tells TileMemory (answer (plainRules J palette (roomFor (J .T) (length (h .hints)) (length (h .out))))) h (toldTiles (assignDef J palette h))
 assign-tells J palette h = tells (first-demand .assign J palette h .call) toldTiles h (assign-apart J palette h .low) (unfold toldTiles in alone _ h)
 
 pub first-told : First-told

@@ -7,7 +7,7 @@ use lib.Ieee.{Float}
 use Rattle.job.specs.Job.{Job}
 use Rattle.job.specs.Checks.{plainAnswer}
 use Rattle.fits_check.specs.One.{oneAnswer, singleAnswer}
-use Rattle.assign_tiles.specs.Tiles.{Held}
+use Rattle.assign_tiles.specs.Tiles.{TileMemory}
 use Rattle.quantizer.specs.Course.{Course}
 use Rattle.stages.specs.Calls.{Memory, advanceAnswer, advanceCall}
 use Rattle.fits_outcome.specs.Fits.{numberOfSingle, singleDef}
@@ -33,7 +33,7 @@ module _ (J : Job) (palette : List Float) where
   unfolding oneAnswer
   pair-accepted hints h = sym (first-demand .best-two J palette hints .call .numbers) ∙ h
 
-  assign-accepted : (h : Held) → assignDef J palette h .number ≡ 0 → assignAnswer J palette h ≡ 0
+  assign-accepted : (h : TileMemory) → assignDef J palette h .number ≡ 0 → assignAnswer J palette h ≡ 0
   unfolding assignAnswer plainAnswer
   assign-accepted h e = sym (first-demand .assign J palette h .call .numbers) ∙ e
 

@@ -13,7 +13,7 @@ use Rattle.job.specs.Job.{Job, sizesOf, jobOf, isEmpty}
 use Rattle.job.specs.Rules.{Rule, answer}
 use Rattle.job.specs.Checks.{plainRules}
 use Rattle.palette_tile.specs.Tiles.{winner}
-use Rattle.assign_tiles.specs.Tiles.{Held, held}
+use Rattle.assign_tiles.specs.Tiles.{TileMemory, tileMemory}
 use Rattle.assign.specs.Assign.{Outcome, outcome, roomFor, assignDef}
 use Rattle.demands.specs.Second.{Chosen}
 use Rattle.told.specs.Packed.{Told, told}
@@ -35,15 +35,15 @@ module _ (κs : Lfts (function.signature .lifetimes)) (a : Args function.signatu
   abbrev pub palette-given : List Float
   palette-given = now (a .1 .1 .1 .1 .0)
 
-  abbrev pub tiles-lent : Held
+  abbrev pub tiles-lent : TileMemory
   tiles-lent =
       let h = a .1 .1 .1 .1 .1 in
-      held (now (h .0)) (now (h .1 .0))
+      tileMemory (now (h .0)) (now (h .1 .0))
 
-  abbrev pub tiles-left : AtExit function.ended κs → Held
+  abbrev pub tiles-left : AtExit function.ended κs → TileMemory
   tiles-left e =
       let h = e .1 .1 .1 .1 .1 in
-      held (now (h .0)) (now (h .1 .0))
+      tileMemory (now (h .0)) (now (h .1 .0))
 
   abbrev rules : List Rule
   rules = plainRules job-given palette-given (roomFor (job-given .T) (length (tiles-lent .hints)) (length (tiles-lent .out)))
@@ -72,17 +72,17 @@ module _ (κs : Lfts (export.signature .lifetimes)) (a : Args export.signature �
   abbrev pub forwarded : Args function.signature κs
   forwarded = (sizesOf (a .0) (a .1 .0) (a .1 .1 .0) 0 (a .1 .1 .1 .0), a .1 .1 .1 .1)
 
-  abbrev pub export-seen : Res export.signature κs → AtExit export.ended κs → Told Held
+  abbrev pub export-seen : Res export.signature κs → AtExit export.ended κs → Told TileMemory
   export-seen r e = told r (tiles-left κs forwarded (forwarded .0, e .1 .1 .1 .1))
 
-  abbrev pub export-defined : Told Held
+  abbrev pub export-defined : Told TileMemory
   export-defined = toldTiles (defined κs forwarded)
 
-  abbrev pub export-answers : Told Held → Type 0
-  export-answers = Tells Held (answer (rules κs forwarded)) (tiles-lent κs forwarded)
+  abbrev pub export-answers : Told TileMemory → Type 0
+  export-answers = Tells TileMemory (answer (rules κs forwarded)) (tiles-lent κs forwarded)
 
 abbrev pub compiled : Compiled Outcome
 compiled = record { ended = function.ended; seen = seen; code = symbol.routine }
 
-abbrev pub exported : Compiled (Told Held)
+abbrev pub exported : Compiled (Told TileMemory)
 exported = record { ended = export.ended; seen = export-seen; code = export-symbol.routine }

@@ -4,7 +4,7 @@ use denote.Ref.{now}
 use denote.Triple.Entry.{Args, Res}
 use denote.Triple.Clauses.{AtExit}
 use Rattle.job.specs.Job.{tileSize}
-use Rattle.group_refusal.specs.Refusal.{Pixels, Lent, given, lent, refusal}
+use Rattle.group_refusal.specs.Refusal.{Pixels, EntryRoom, given, entryRoom, refusal}
 use Rattle.group.specs.declared.Grouped.the-variants as grouped
 use Rattle.group.specs.Group.{Outcome, outcome, numberOf, grouping}
 use Rattle.group.proofs.group as function
@@ -16,15 +16,15 @@ module _ (κs : Lfts (function.signature .lifetimes)) (a : Args function.signatu
   abbrev pub pixels-given : Pixels
   pixels-given = given (a .0) (now (a .1 .0)) (now (a .1 .1 .0)) (a .1 .1 .1 .0)
 
-  abbrev pub room-lent : Lent
+  abbrev pub room-lent : EntryRoom
   room-lent =
       let h = a .1 .1 .1 .1 in
-      lent (now (h .0)) (now (h .1 .0)) (now (h .1 .1 .0)) (now (h .1 .1 .1 .0))
+      entryRoom (now (h .0)) (now (h .1 .0)) (now (h .1 .1 .0)) (now (h .1 .1 .1 .0))
 
   abbrev pub seen : Res function.signature κs → AtExit function.ended κs → Outcome
   seen r e =
       let h = e .1 .1 .1 .1 in
-      outcome r (lent (now (h .0)) (now (h .1 .0)) (now (h .1 .1 .0)) (now (h .1 .1 .1 .0)))
+      outcome r (entryRoom (now (h .0)) (now (h .1 .0)) (now (h .1 .1 .0)) (now (h .1 .1 .1 .0)))
 
   abbrev pub defined : Outcome
   defined = grouping tileSize pixels-given room-lent

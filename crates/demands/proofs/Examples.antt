@@ -22,7 +22,7 @@ use Rattle.job.specs.Checks.{tileSized, among, within, weightFits, tileTest, ti
 use Rattle.palette.proofs.Example.{middle-first}
 use Rattle.color.proofs.Example.{half-way}
 use Rattle.palette_tile.specs.Tiles.{fitAt}
-use Rattle.assign_tiles.specs.Tiles.{Held, held}
+use Rattle.assign_tiles.specs.Tiles.{TileMemory, tileMemory}
 use Rattle.assign.specs.Assign.{roomFor, assignAnswer, assignDef}
 use Rattle.quantizer.specs.Course.{Course}
 use Rattle.stages.specs.Calls.{Memory, coloursRoom, memoryRoom, startAnswer}
@@ -80,8 +80,8 @@ unfolding fitAt
 middle = middle-first
 
 module _ (a c hint d w x y z : ℕ) where
-  abbrev lent : Held
-  lent = held (a ∷ c ∷ hint ∷ d ∷ []) (w ∷ x ∷ y ∷ z ∷ [])
+  abbrev lent : TileMemory
+  lent = tileMemory (a ∷ c ∷ hint ∷ d ∷ []) (w ∷ x ∷ y ∷ z ∷ [])
 
   accepted : assignAnswer sheetJob sheetPalette lent ≡ 0
   unfolding assignAnswer plainAnswer answer roomFor tileSized among weightFits tilesFit tileFits tileTest countsFit tileCountsFit partFits countFits countTest

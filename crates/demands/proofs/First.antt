@@ -17,7 +17,7 @@ use Rattle.fits_check.specs.One.{oneRules, oneAnswer, singleAnswer}
 use Rattle.fits_outcome.specs.declared.Single.the-variants as single
 use Rattle.fits_outcome.specs.declared.Pair.the-variants as pair
 use Rattle.assign.specs.Assign as assigning
-use Rattle.group_refusal.specs.Refusal.{Pixels, Lent, refusal}
+use Rattle.group_refusal.specs.Refusal.{Pixels, EntryRoom, refusal}
 use Rattle.group.specs.declared.Grouped.the-variants as grouped
 use Rattle.group.specs.Group as groups
 use Rattle.format.specs.Format.{Answer, refused as faulty, accepted}
@@ -74,7 +74,7 @@ module _ (J : Job) (palette : List Float) where
       (plainRules J palette (assigning.roomFor (J .T) (length (h .hints)) (length (h .out)))) refl
 
 -- ---- grouping: `refusal` is 2, 3, then pixel by pixel 7 before 14
-grouping : (size : ℕ) (q : Pixels) (m : Lent)
+grouping : (size : ℕ) (q : Pixels) (m : EntryRoom)
     → Call groups.Outcome (groups.grouping size q m) (λ x. groups.numberOf (x .answer)) (refusal size q m) (λ k. groups.outcome (grouped.Refused k) m)
 unfolding groups.grouping
 grouping size q m = decides groups.Outcome (λ x. groups.numberOf (x .answer)) (λ k. groups.outcome (grouped.Refused k) m) (λ k. refl) _ refl (refusal size q m)

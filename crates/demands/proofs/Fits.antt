@@ -35,7 +35,7 @@ use Rattle.fits_outcome.specs.declared.Pair.the-variants as pair
 use Rattle.fits_two.proofs.Empty.{empty-one, empty-many}
 use Rattle.fits.proofs.Shown.{shown}
 use Rattle.fits_check.proofs.Passes.{one-tile, one-plain}
-use Rattle.assign_tiles.specs.Tiles.{Held, held, assigned, subpaletteOf, subpalettes, hintOf}
+use Rattle.assign_tiles.specs.Tiles.{TileMemory, tileMemory, assigned, subpaletteOf, subpalettes, hintOf}
 use Rattle.assign.specs.Assign.{Outcome, outcome, roomFor, assignAnswer, assignDef}
 use Rattle.assign.proofs.Reading.{subpalette-at, hint-at}
 use Rattle.demands.specs.Second.{distances, Chosen, Single-fit, Best-two, Assign}
@@ -127,8 +127,8 @@ module _ (J : Job) (palette : List Float) where
 -- ---- assign
 -- whatever the hints: any two lists of them give one number, and each tile one subpalette
 assign-any-hints : (J : Job) (palette : List Float) (out h k : List ℕ) → length h ≡ length k
-    → (assignDef J palette (held h out) .number ≡ assignDef J palette (held k out) .number)
-    × (assignDef J palette (held h out) .after .out ≡ assignDef J palette (held k out) .after .out)
+    → (assignDef J palette (tileMemory h out) .number ≡ assignDef J palette (tileMemory k out) .number)
+    × (assignDef J palette (tileMemory h out) .after .out ≡ assignDef J palette (tileMemory k out) .after .out)
 assign-any-hints J palette out h k e = (number h ∙ ap (λ (n : ℕ). cond (eqb (table n) 0) 0 (table n)) e ∙ sym (number k), left h ∙ ap (λ (n : ℕ). cond (eqb (table n) 0) all out) e ∙ sym (left k))
   where
     table : ℕ → ℕ
@@ -137,21 +137,21 @@ assign-any-hints J palette out h k e = (number h ∙ ap (λ (n : ℕ). cond (eqb
     all : List ℕ
     all = subpalettes J palette out (J .T)
 
-    number-by : (t : Bool) (n : ℕ) (x y : Held) → cond t (outcome 0 x) (outcome n y) .number ≡ cond t 0 n
+    number-by : (t : Bool) (n : ℕ) (x y : TileMemory) → cond t (outcome 0 x) (outcome n y) .number ≡ cond t 0 n
     number-by true n x y = refl
     number-by false n x y = refl
 
-    left-by : (t : Bool) (n : ℕ) (x y : Held) → cond t (outcome 0 x) (outcome n y) .after .out ≡ cond t (x .out) (y .out)
+    left-by : (t : Bool) (n : ℕ) (x y : TileMemory) → cond t (outcome 0 x) (outcome n y) .after .out ≡ cond t (x .out) (y .out)
     left-by true n x y = refl
     left-by false n x y = refl
 
-    number : (x : List ℕ) → assignDef J palette (held x out) .number ≡ cond (eqb (table (length x)) 0) 0 (table (length x))
-    number x = unfold assignDef assignAnswer in number-by (eqb (table (length x)) 0) (table (length x)) (assigned J palette (held x out) (J .T)) (held x out)
+    number : (x : List ℕ) → assignDef J palette (tileMemory x out) .number ≡ cond (eqb (table (length x)) 0) 0 (table (length x))
+    number x = unfold assignDef assignAnswer in number-by (eqb (table (length x)) 0) (table (length x)) (assigned J palette (tileMemory x out) (J .T)) (tileMemory x out)
 
-    left : (x : List ℕ) → assignDef J palette (held x out) .after .out ≡ cond (eqb (table (length x)) 0) all out
-    left x = unfold assignDef assignAnswer assigned in left-by (eqb (table (length x)) 0) (table (length x)) (assigned J palette (held x out) (J .T)) (held x out)
+    left : (x : List ℕ) → assignDef J palette (tileMemory x out) .after .out ≡ cond (eqb (table (length x)) 0) all out
+    left x = unfold assignDef assignAnswer assigned in left-by (eqb (table (length x)) 0) (table (length x)) (assigned J palette (tileMemory x out) (J .T)) (tileMemory x out)
 
-module _ (J : Job) (palette : List Float) (h : Held) (z : assignAnswer J palette h ≡ 0) where
+module _ (J : Job) (palette : List Float) (h : TileMemory) (z : assignAnswer J palette h ≡ 0) where
   plain : Plain J palette (roomFor (J .T) (length (h .hints)) (length (h .out)))
   unfolding assignAnswer
   plain = plain-ready J palette (roomFor (J .T) (length (h .hints)) (length (h .out))) z

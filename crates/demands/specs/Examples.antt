@@ -14,7 +14,7 @@ use Rattle.extremes.specs.Extremes.{argmaxOf, argminOf}
 use Rattle.job.specs.Job.{Job, job, tileSize}
 use Rattle.color.specs.Blend.{blend}
 use Rattle.palette_tile.specs.Tiles.{fitAt}
-use Rattle.assign_tiles.specs.Tiles.{held}
+use Rattle.assign_tiles.specs.Tiles.{tileMemory}
 use Rattle.assign.specs.Assign.{assignDef}
 use Rattle.quantizer.specs.Course.{Course, course}
 use Rattle.stages.specs.Calls.{Memory, memory}
@@ -90,6 +90,6 @@ pub record Examples : Type 0 where
   pub two-of-5 : leastTwo (valueAt (five ∷ [])) 1 ≡ record { index = 0; dist = five; second = inf false }
   pub tile-2 : fitAt sheetJob sheetPalette 2 1 2 ≡ record { index = 0; dist = half }
   -- so from hints 0, 1 and 99, and from any other
-  pub tile-2-from : (a c hint d : ℕ) (w x y z : ℕ) → getD (assignDef sheetJob sheetPalette (held (a ∷ c ∷ hint ∷ d ∷ []) (w ∷ x ∷ y ∷ z ∷ [])) .after .out) 2 0 ≡ 0
+  pub tile-2-from : (a c hint d : ℕ) (w x y z : ℕ) → getD (assignDef sheetJob sheetPalette (tileMemory (a ∷ c ∷ hint ∷ d ∷ []) (w ∷ x ∷ y ∷ z ∷ [])) .after .out) 2 0 ≡ 0
   pub nudge : blend half nought one ≡ half
   pub shuffle-of-one : (s x : ℕ) → shuffleOf s (x ∷ []) ≡ deck (x ∷ []) s

@@ -15,7 +15,7 @@ use Rattle.fits_check.specs.One.{oneRules}
 use Rattle.fits_outcome.specs.declared.Single.the-variants as single
 use Rattle.fits_outcome.specs.declared.Pair.the-variants as pair
 use Rattle.assign.specs.Assign as assigning
-use Rattle.group_refusal.specs.Refusal.{Pixels, Lent, refusal}
+use Rattle.group_refusal.specs.Refusal.{Pixels, EntryRoom, refusal}
 use Rattle.group.specs.declared.Grouped.the-variants as grouped
 use Rattle.group.specs.Group as groups
 use Rattle.format.specs.Format.{Answer, refused as faulty, accepted, encode}
@@ -86,7 +86,7 @@ pub record First : Type 0 where
       → Ruled assigning.Outcome (assigning.assignDef J palette h) (λ x. x .number)
       (plainRules J palette (assigning.roomFor (J .T) (length (h .hints)) (length (h .out)))) (λ k. assigning.outcome k h)
   -- `refusal` is 2, 3, then pixel by pixel 7 before 14
-  pub grouping : (size : ℕ) (q : Pixels) (m : Lent) → Call groups.Outcome (groups.grouping size q m) (λ x. groups.numberOf (x .answer)) (refusal size q m) (λ k. groups.outcome (grouped.Refused k) m)
+  pub grouping : (size : ℕ) (q : Pixels) (m : EntryRoom) → Call groups.Outcome (groups.grouping size q m) (λ x. groups.numberOf (x .answer)) (refusal size q m) (λ k. groups.outcome (grouped.Refused k) m)
   pub read-sheet : (bytes : List ℕ) (h : Room) → Call ReadOutcome (readDef bytes h) (λ x. numberOfReading (x .answer)) (faultOf (found bytes h)) (λ k. readOutcome (reading.Refused k) h)
   pub write-sheet : (J : Job) (palette : List Float) (bytes : List ℕ)
       → Ruled WriteOutcome (writeDef J palette bytes) (λ x. numberOfWriting (x .answer)) (writeRules J palette bytes) (λ k. writeOutcome (writing.Refused k) bytes)

@@ -22,7 +22,7 @@ use Rattle.fits_outcome.specs.Fits.{singleOutcome, singleDef}
 use Rattle.fits_outcome.specs.Pairs.{pairOutcome, pairDef}
 use Rattle.fits_outcome.specs.declared.Single.the-variants as single
 use Rattle.fits_outcome.specs.declared.Pair.the-variants as pair
-use Rattle.assign_tiles.specs.Tiles.{Held, held}
+use Rattle.assign_tiles.specs.Tiles.{TileMemory, tileMemory}
 use Rattle.assign.specs.Assign.{assignAnswer, assignDef}
 use Rattle.quantizer.specs.Course.{Course, sampleTile, sampleColour}
 use Rattle.stages.specs.State.{State}
@@ -71,16 +71,16 @@ module _ (J : Job) (palette : List Float) where
 
   pub record Assign : Type 0 where
     -- each tile that is not empty gets its choice, whatever its hint was, and it becomes the hint
-    pub chooses : (h : Held) → assignAnswer J palette h ≡ 0 → (t : ℕ) → t < J .T → isEmpty J t ≡ false
+    pub chooses : (h : TileMemory) → assignAnswer J palette h ≡ 0 → (t : ℕ) → t < J .T → isEmpty J t ≡ false
         → Chosen J palette (J .S) (J .C) t
         × (getD (assignDef J palette h .after .out) t 0 ≡ winner J palette (J .S) (J .C) t)
         × (getD (assignDef J palette h .after .hints) t 0 ≡ winner J palette (J .S) (J .C) t)
     -- any two lists of hints give one number, and each tile one subpalette
     pub any-hints : (out h k : List ℕ) → length h ≡ length k
-        → (assignDef J palette (held h out) .number ≡ assignDef J palette (held k out) .number)
-        × (assignDef J palette (held h out) .after .out ≡ assignDef J palette (held k out) .after .out)
+        → (assignDef J palette (tileMemory h out) .number ≡ assignDef J palette (tileMemory k out) .number)
+        × (assignDef J palette (tileMemory h out) .after .out ≡ assignDef J palette (tileMemory k out) .after .out)
     -- an empty one gets 0, and keeps its hint
-    pub empty : (h : Held) → assignAnswer J palette h ≡ 0 → (t : ℕ) → t < J .T → isEmpty J t ≡ true
+    pub empty : (h : TileMemory) → assignAnswer J palette h ≡ 0 → (t : ℕ) → t < J .T → isEmpty J t ≡ true
         → (getD (assignDef J palette h .after .out) t 0 ≡ 0) × (getD (assignDef J palette h .after .hints) t 0 ≡ getD (h .hints) t 0)
 
 -- ---- one draw of a run

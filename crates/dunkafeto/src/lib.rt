@@ -4,7 +4,7 @@ ghost use mathlib.Core.Path.{_≡_};
 ghost use Rattle.job.specs.Job.{sizesOf, jobOf};
 ghost use Rattle.quantizer.specs.Course.{courseOf};
 ghost use Rattle.stages.specs.Calls.{memory, startCall, advanceCall, handInCall, resultCall};
-ghost use Rattle.assign_tiles.specs.Tiles.{held};
+ghost use Rattle.assign_tiles.specs.Tiles.{tileMemory};
 ghost use Rattle.assign.specs.Assign.{assignDef};
 ghost use Rattle.told.specs.Packed.{told};
 ghost use Rattle.dunkafeto.specs.Told.{toldRun, toldColours, toldTiles};
@@ -188,10 +188,10 @@ pub extern "C" fn dunkafeto_assign(
     hints: &mut [u32],
     out: &mut [u32],
 ) -> u64
-    ensures { λ r. ⌜ told r (held (now (hints .exit)) (now (out .exit)))
+    ensures { λ r. ⌜ told r (tileMemory (now (hints .exit)) (now (out .exit)))
         ≡ toldTiles
         (assignDef (jobOf (sizesOf s c t 0 weight) (now (tiles .entry)) (now (colours .entry)) (now (counts .entry))) (now (palette .entry))
-        (held (now (hints .entry)) (now (out .entry)))) ⌝ }
+        (tileMemory (now (hints .entry)) (now (out .entry)))) ⌝ }
 {
     let z = job::sizes_of(s, c, t, 0, weight);
     let number = assign::assign(z, tiles, colours, counts, palette, hints, out);

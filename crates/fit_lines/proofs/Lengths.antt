@@ -15,13 +15,13 @@ length-digits b (suc k) n = length-append (digits b k (n / b)) (glyph (n % b) �
 
 pub width-most : (n : ℕ) → widthOf n ≤ 4
 unfolding widthOf
-width-most n = go (ltb n 10) (ltb n 100) (ltb n 1000)
+width-most n = by (ltb n 10) (ltb n 100) (ltb n 1000)
   where
-    go : (a b c : Bool) → cond a 1 (cond b 2 (cond c 3 4)) ≤ 4
-    go true b c = omega arith
-    go false true c = omega arith
-    go false false true = omega arith
-    go false false false = omega arith
+    by : (a b c : Bool) → cond a 1 (cond b 2 (cond c 3 4)) ≤ 4
+    by true b c = omega arith
+    by false true c = omega arith
+    by false false true = omega arith
+    by false false false = omega arith
 
 pub length-decimal : (n : ℕ) → length (decimal n) ≡ widthOf n
 unfolding decimal

@@ -75,13 +75,13 @@ module _ (J : Job) (p : List Float) where
   pub lines-more : (l m n : List ℕ) (at q r i k d : ℕ) → Stored l m at q (tileLines J p i) → Stored m n q r (tileLine i k d) → k ≡ subpaletteOf J p i → d ≡ distBits J p i → Stored l n at r (tileLines J p (i + 1))
   unfolding tileLines
   lines-more l m n at q r i k d a b ek ed =
-      go (i + 1) (add-one i) (both-stored a (over b))
+      for-any (i + 1) (add-one i) (both-stored a (over b))
     where
       over : Stored m n q r (tileLine i k d) → Stored m n q r (tileLine i (subpaletteOf J p i) (distBits J p i))
       over s = record { text = s .text ∙ ap₂ (λ (x y : ℕ). sets m q (tileLine i x y)) ek ed; place = s .place ∙ ap₂ (λ (x y : ℕ). q + length (tileLine i x y)) ek ed }
 
-      go : (j : ℕ) → j ≡ suc i → Stored l n at r (tileLines J p i ++ tileLine i (subpaletteOf J p i) (distBits J p i)) → Stored l n at r (tileLines J p j)
-      go j e s = record { text = s .text ∙ ap (λ (x : ℕ). sets l at (tileLines J p x)) (sym e); place = s .place ∙ ap (λ (x : ℕ). at + length (tileLines J p x)) (sym e) }
+      for-any : (j : ℕ) → j ≡ suc i → Stored l n at r (tileLines J p i ++ tileLine i (subpaletteOf J p i) (distBits J p i)) → Stored l n at r (tileLines J p j)
+      for-any j e s = record { text = s .text ∙ ap (λ (x : ℕ). sets l at (tileLines J p x)) (sym e); place = s .place ∙ ap (λ (x : ℕ). at + length (tileLines J p x)) (sym e) }
 
   -- ---- loads
   pub load-none : (k : ℕ) → loadOf J p k 0 ≡ 0
@@ -119,10 +119,10 @@ loads-none f l at = record { text = refl; place = omega arith }
 
 pub loads-more : (f : ℕ → ℕ) (l m n : List ℕ) (at q r k : ℕ) → Stored l m at q (loadLines f k) → Stored m n q r (loadLine k (f k)) → Stored l n at r (loadLines f (k + 1))
 unfolding loadLines
-loads-more f l m n at q r k a b = go (k + 1) (add-one k) (both-stored a b)
+loads-more f l m n at q r k a b = for-any (k + 1) (add-one k) (both-stored a b)
   where
-    go : (j : ℕ) → j ≡ suc k → Stored l n at r (loadLines f k ++ loadLine k (f k)) → Stored l n at r (loadLines f j)
-    go j e s = record { text = s .text ∙ ap (λ (x : ℕ). sets l at (loadLines f x)) (sym e); place = s .place ∙ ap (λ (x : ℕ). at + length (loadLines f x)) (sym e) }
+    for-any : (j : ℕ) → j ≡ suc k → Stored l n at r (loadLines f k ++ loadLine k (f k)) → Stored l n at r (loadLines f j)
+    for-any j e s = record { text = s .text ∙ ap (λ (x : ℕ). sets l at (loadLines f x)) (sym e); place = s .place ∙ ap (λ (x : ℕ). at + length (loadLines f x)) (sym e) }
 
 pub loads-same : (f g : ℕ → ℕ) (n : ℕ) → ((k : ℕ) → f k ≡ g k) → loadLines f n ≡ loadLines g n
 unfolding loadLines

@@ -26,7 +26,7 @@ shown J palette room P =
       some = P .ready .sizes .some;
       present = le-refl (J .C);
       room = P .lent .room;
-      near = bounded-wider palette 2 4 (omega arith) (P .lent .near);
+      bounded = bounded-wider palette 2 4 (omega arith) (P .lent .bounded);
     }
 
 -- what an answer of 0 to a call with one tile gives

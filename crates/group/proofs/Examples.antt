@@ -8,7 +8,7 @@ use Rattle.job.specs.Checks.{within}
 use Rattle.group_pixels.specs.declared.Zero.the-variants.{Given, Absent}
 use Rattle.group_pixels.specs.Pixel.{isZero, kept, sameBytes, inGamut, sameBits, clash}
 use Rattle.group.specs.declared.Grouped.the-variants.{Done}
-use Rattle.group_refusal.specs.Refusal.{given, Lent, lent, some, firstOf, fault, lengthsFit, refusalWhere, refusal}
+use Rattle.group_refusal.specs.Refusal.{given, EntryRoom, entryRoom, some, firstOf, fault, lengthsFit, refusalWhere, refusal}
 use Rattle.group.specs.Entries.{join, place, entries, indexes, bytesOf, oklabOf, countsOf, left}
 use Rattle.group.specs.Group.{outcome, grouping}
 
@@ -40,18 +40,18 @@ abbrev outside : List Float
 outside = ok 0x40000001 0 0
 
 -- room for n entries, marked
-abbrev room : ℕ → Lent
-room n = lent (replicate (4 * n) 9) (replicate (3 * n) nan) (replicate n 9) (replicate n 9)
+abbrev room : ℕ → EntryRoom
+room n = entryRoom (replicate (4 * n) 9) (replicate (3 * n) nan) (replicate n 9) (replicate n 9)
 
 -- red, clear, blue, red: the clear pixel leaves its place, and the rest of the room stays as found
 pub two-entries : grouping 64 (given 4 (red ++ clear ++ blue ++ red) (half ++ outside ++ edge ++ half) Absent) (room 4)
-    ≡ outcome (Done 2) (lent (red ++ blue ++ replicate 8 9) (half ++ edge ++ replicate 6 nan) (2 ∷ 1 ∷ 9 ∷ 9 ∷ []) (0 ∷ 9 ∷ 1 ∷ 0 ∷ []))
+    ≡ outcome (Done 2) (entryRoom (red ++ blue ++ replicate 8 9) (half ++ edge ++ replicate 6 nan) (2 ∷ 1 ∷ 9 ∷ 9 ∷ []) (0 ∷ 9 ∷ 1 ∷ 0 ∷ []))
 unfolding isZero kept sameBytes join place entries indexes bytesOf oklabOf countsOf left within inGamut sameBits clash some firstOf fault lengthsFit refusalWhere grouping le neg ofBits toBits
 two-entries = refl
 
 -- with red as colour zero, blue alone is kept, whatever the Oklab of the others
 pub one-entry : grouping 64 (given 3 (red ++ blue ++ red) (half ++ half ++ other) (Given 255 0 0)) (room 3)
-    ≡ outcome (Done 1) (lent (blue ++ replicate 8 9) (half ++ replicate 6 nan) (1 ∷ 9 ∷ 9 ∷ []) (9 ∷ 0 ∷ 9 ∷ []))
+    ≡ outcome (Done 1) (entryRoom (blue ++ replicate 8 9) (half ++ replicate 6 nan) (1 ∷ 9 ∷ 9 ∷ []) (9 ∷ 0 ∷ 9 ∷ []))
 unfolding isZero kept sameBytes join place entries indexes bytesOf oklabOf countsOf left within inGamut sameBits clash some firstOf fault lengthsFit refusalWhere grouping le neg ofBits toBits
 one-entry = refl
 

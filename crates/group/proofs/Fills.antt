@@ -14,7 +14,7 @@ use Rattle.color.specs.declared.Oklab.{Oklab}
 use Rattle.color.specs.Color.{colourAt, putAt}
 use Rattle.group_pixels.specs.declared.Rgba.{Rgba}
 use Rattle.group_pixels.specs.Pixel.{rgbaAt, putRgba, kept, sameBytes}
-use Rattle.group_refusal.specs.Refusal.{Pixels, Lent, lent}
+use Rattle.group_refusal.specs.Refusal.{Pixels, EntryRoom, entryRoom}
 use Rattle.group.specs.Entries.{Entry, total, seenOnce, seenAgain, join, place, entries, indexes, bytesOf, oklabOf, countsOf, over, left, fillTo}
 use Rattle.group.proofs.Totals.{by-cases, join-more}
 use Rattle.group.specs.Turn.{seek, Filled, filled, settled, turn}
@@ -141,12 +141,12 @@ anew (e ∷ es) x o h =
 
 -- ---- the turn
 
-module _ (es : List Entry) (x : Rgba) (o : Oklab) (m : Lent) (index : List ℕ) (k : ℕ) where
+module _ (es : List Entry) (x : Rgba) (o : Oklab) (m : EntryRoom) (index : List ℕ) (k : ℕ) where
   abbrev held : Filled
-  held = filled (length es) (lent (over (bytesOf es) (m .bytes)) (over (oklabOf es) (m .oklab)) (over (countsOf es) (m .counts)) index)
+  held = filled (length es) (entryRoom (over (bytesOf es) (m .bytes)) (over (oklabOf es) (m .oklab)) (over (countsOf es) (m .counts)) index)
 
   abbrev next : List Entry → Filled
-  next js = filled (length js) (lent (over (bytesOf js) (m .bytes)) (over (oklabOf js) (m .oklab)) (over (countsOf js) (m .counts)) (set index k (place es x)))
+  next js = filled (length js) (entryRoom (over (bytesOf js) (m .bytes)) (over (oklabOf js) (m .oklab)) (over (countsOf js) (m .counts)) (set index k (place es x)))
 
   joins : place es x < length es → settled k (place es x) x o held ≡ next (join es x o)
   joins h =
@@ -202,7 +202,7 @@ count-few (d ∷ es) t (suc e) h = omega (arith, count-few es t e (omega arith))
 
 -- ---- the pass
 
-pub turn-fills : (q : Pixels) (k : ℕ) (m : Lent) → 4 * k + 3 < length (m .bytes) → 3 * k + 2 < length (m .oklab) → k < length (m .counts)
+pub turn-fills : (q : Pixels) (k : ℕ) (m : EntryRoom) → 4 * k + 3 < length (m .bytes) → 3 * k + 2 < length (m .oklab) → k < length (m .counts)
     → turn (q .bytes) (q .oklab) (q .zero) k (fillTo q k m) ≡ fillTo q (k + 1) m
 unfolding turn fillTo left entries indexes
 turn-fills q k m hb ho hc =
@@ -215,15 +215,15 @@ turn-fills q k m hb ho hc =
     (by-cases
     (λ b. cond b (settled k (seek (length es) (over (bytesOf es) (m .bytes)) x) x o (held es x o m index k)) (held es x o m index k) ≡ filled
     (length (cond b (join es x o) es))
-    (lent (over (bytesOf (cond b (join es x o) es)) (m .bytes)) (over (oklabOf (cond b (join es x o) es)) (m .oklab))
+    (entryRoom (over (bytesOf (cond b (join es x o) es)) (m .bytes)) (over (oklabOf (cond b (join es x o) es)) (m .oklab))
     (over (countsOf (cond b (join es x o) es)) (m .counts)) (cond b (set index k (place es x)) index)))
     (settles es x o m index k (omega arith) (omega arith) (omega arith)) refl (kept (q .zero) x))
 
-pub start : (q : Pixels) (m : Lent) → filled 0 m ≡ fillTo q 0 m
+pub start : (q : Pixels) (m : EntryRoom) → filled 0 m ≡ fillTo q 0 m
 unfolding fillTo left entries indexes bytesOf oklabOf countsOf
 start q m = refl
 
-pub held-few : (q : Pixels) (k : ℕ) (m : Lent) (n : ℕ) (now : Lent) → filled n now ≡ fillTo q k m → (n ≤ k) × ((e : ℕ) → e < n → getD (now .counts) e 0 ≤ k)
+pub held-few : (q : Pixels) (k : ℕ) (m : EntryRoom) (n : ℕ) (now : EntryRoom) → filled n now ≡ fillTo q k m → (n ≤ k) × ((e : ℕ) → e < n → getD (now .counts) e 0 ≤ k)
 unfolding fillTo left
 held-few q k m n now e =
     let f = few q k in
@@ -233,11 +233,11 @@ held-few q k m n now e =
       λ i h. rw same (omega (arith, count-few (entries q k) (drop (length (countsOf (entries q k))) (m .counts)) i (omega arith))),
     )
 
-pub turn-on : (q : Pixels) (k : ℕ) (m : Lent) (n more : ℕ) (now next : Lent)
+pub turn-on : (q : Pixels) (k : ℕ) (m : EntryRoom) (n more : ℕ) (now next : EntryRoom)
     → filled n now ≡ fillTo q k m → filled more next ≡ turn (q .bytes) (q .oklab) (q .zero) k (filled n now)
     → 4 * k + 3 < length (m .bytes) → 3 * k + 2 < length (m .oklab) → k < length (m .counts)
     → filled more next ≡ fillTo q (k + 1) m
 turn-on q k m n more now next e f hb ho hc = f ∙ ap (turn (q .bytes) (q .oklab) (q .zero) k) e ∙ turn-fills q k m hb ho hc
 
-pub ended : (q : Pixels) (m : Lent) (k n : ℕ) (f : Filled) → f ≡ fillTo q k m → k ≤ n → n ≤ k → f ≡ fillTo q n m
+pub ended : (q : Pixels) (m : EntryRoom) (k n : ℕ) (f : Filled) → f ≡ fillTo q k m → k ≤ n → n ≤ k → f ≡ fillTo q n m
 ended q m k n f e h g = let s : k ≡ n = omega arith in e ∙ ap (λ (j : ℕ). fillTo q j m) s

@@ -5,7 +5,7 @@ use mathlib.Core.Bool.{Bool, true, false, cond}
 use native.Mathlib.Omega.{arith}
 use lib.Dec.{ltb}
 use borrow.Author.Tests.{ltb-false, eq-eqb, ne-eqb}
-use Rattle.group_refusal.specs.Refusal.{Pixels, Lent, firstOf, fault, refusalWhere, refusal}
+use Rattle.group_refusal.specs.Refusal.{Pixels, EntryRoom, firstOf, fault, refusalWhere, refusal}
 use Rattle.group.specs.declared.Grouped.the-variants.{Done, Refused}
 use Rattle.group.specs.Turn.{Filled, filled}
 use Rattle.group.specs.Entries.{fillTo}
@@ -23,13 +23,13 @@ accepted size q fits r e z =
     let a = accept (ltb size (q .p)) fits (firstOf (fault (q .bytes) (q .oklab) (q .zero)) 0 (q .p)) (sym e ∙ z) in
     (ltb-false size (q .p) (a .0), a .1)
 
-module _ (size : ℕ) (q : Pixels) (m : Lent) where
+module _ (size : ℕ) (q : Pixels) (m : EntryRoom) where
   -- a refusal writes nothing
   pub stop : (r : ℕ) → r ≡ refusal size q m → (r ≡ 0 → ⊥) → outcome (Refused r) m ≡ grouping size q m
   unfolding grouping
   stop r e n = rw (← e, ne-eqb r 0 n)
 
-  pub done : (r n : ℕ) (after : Lent) → r ≡ refusal size q m → r ≡ 0 → filled n after ≡ fillTo q (q .p) m → outcome (Done n) after ≡ grouping size q m
+  pub done : (r n : ℕ) (after : EntryRoom) → r ≡ refusal size q m → r ≡ 0 → filled n after ≡ fillTo q (q .p) m → outcome (Done n) after ≡ grouping size q m
   unfolding grouping fillTo
   done r n after e z f =
       rw (← e, eq-eqb r 0 z)

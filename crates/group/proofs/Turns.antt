@@ -14,7 +14,7 @@ use Rattle.color.specs.Color.{colourAt, putAt}
 use Rattle.group_pixels.specs.declared.Rgba.{Rgba}
 use Rattle.group_pixels.specs.declared.Zero.{Zero}
 use Rattle.group_pixels.specs.Pixel.{rgbaAt, putRgba, kept, sameBytes}
-use Rattle.group_refusal.specs.Refusal.{Lent, lent}
+use Rattle.group_refusal.specs.Refusal.{EntryRoom, entryRoom}
 use Rattle.group_refusal.proofs.Faults.{one-more, told}
 use Rattle.group.specs.Turn.{seek, filled, turn}
 
@@ -64,17 +64,17 @@ seek-most (suc n) s x = by (sameBytes (rgbaAt s 0) x) (seek-most n (drop 4 s) x)
 pub at-most : (n : ℕ) (s : List ℕ) (x : Rgba) (e : ℕ) → e ≡ seek n s x → e ≤ n
 at-most n s x e f = omega (arith, seek-most n s x)
 
-module _ (bytes : List ℕ) (oklab : List Float) (cz : Zero) (k n : ℕ) (m : Lent) {x : Rgba} {b : Bool} (read : x ≡ rgbaAt bytes k) (tested : b ≡ kept cz x) where
+module _ (bytes : List ℕ) (oklab : List Float) (cz : Zero) (k n : ℕ) (m : EntryRoom) {x : Rgba} {b : Bool} (read : x ≡ rgbaAt bytes k) (tested : b ≡ kept cz x) where
   pub turn-passes : b ≡ false → filled n m ≡ turn bytes oklab cz k (filled n m)
   unfolding turn
   turn-passes e = rw (told (kept cz) read tested e)
 
   module _ (is : b ≡ true) (e : ℕ) (found : e ≡ seek n (m .bytes) x) where
-    pub turn-joins : e < n → filled n (lent (m .bytes) (m .oklab) (set (m .counts) e (getD (m .counts) e 0 + 1)) (set (m .index) k e)) ≡ turn bytes oklab cz k (filled n m)
+    pub turn-joins : e < n → filled n (entryRoom (m .bytes) (m .oklab) (set (m .counts) e (getD (m .counts) e 0 + 1)) (set (m .index) k e)) ≡ turn bytes oklab cz k (filled n m)
     unfolding turn
     turn-joins h = rw (told (kept cz) read tested is, ← read, ← found, lt-ltb e n h)
 
     pub turn-begins : n ≤ e → {o : Oklab} {bs : List ℕ} {os : List Float} → bs ≡ putRgba (m .bytes) n x → o ≡ colourAt oklab k → os ≡ putAt (m .oklab) n o
-        → filled (n + 1) (lent bs os (set (m .counts) n 1) (set (m .index) k e)) ≡ turn bytes oklab cz k (filled n m)
+        → filled (n + 1) (entryRoom bs os (set (m .counts) n 1) (set (m .index) k e)) ≡ turn bytes oklab cz k (filled n m)
     unfolding turn
     turn-begins h eb eo ek = rw (told (kept cz) read tested is, ← read, ← found, le-ltb e n h, eb, ek, eo)

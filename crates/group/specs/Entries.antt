@@ -9,7 +9,7 @@ use Rattle.color.specs.declared.Oklab.{Oklab}
 use Rattle.color.specs.Color.{colourAt}
 use Rattle.group_pixels.specs.declared.Rgba.{Rgba}
 use Rattle.group_pixels.specs.Pixel.{rgbaAt, kept, sameBytes}
-use Rattle.group_refusal.specs.Refusal.{Pixels, Lent, lent}
+use Rattle.group_refusal.specs.Refusal.{Pixels, EntryRoom, entryRoom}
 use Rattle.group.specs.Turn.{Filled, filled}
 
 -- ---- a pixel
@@ -79,11 +79,11 @@ abbrev pub over : {A : Type 0} → List A → List A → List A
 over written found = written ++ drop (length written) found
 
 -- the memory after the first k pixels
-unfoldable pub left : Pixels → ℕ → Lent → Lent
+unfoldable pub left : Pixels → ℕ → EntryRoom → EntryRoom
 left q k m =
-    lent (over (bytesOf (entries q k)) (m .bytes)) (over (oklabOf (entries q k)) (m .oklab)) (over (countsOf (entries q k)) (m .counts))
+    entryRoom (over (bytesOf (entries q k)) (m .bytes)) (over (oklabOf (entries q k)) (m .oklab)) (over (countsOf (entries q k)) (m .counts))
     (indexes q k (m .index))
 
 -- the number of entries and the memory after the first k pixels
-unfoldable pub fillTo : Pixels → ℕ → Lent → Filled
+unfoldable pub fillTo : Pixels → ℕ → EntryRoom → Filled
 fillTo q k m = filled (length (entries q k)) (left q k m)

@@ -10,10 +10,10 @@ use Rattle.color.specs.Color.{colourAt, putAt}
 use Rattle.group_pixels.specs.declared.Rgba.{Rgba}
 use Rattle.group_pixels.specs.declared.Zero.{Zero}
 use Rattle.group_pixels.specs.Pixel.{rgbaAt, putRgba, kept, sameBytes, There}
-use Rattle.group_refusal.specs.Refusal.{Lent, lent}
+use Rattle.group_refusal.specs.Refusal.{EntryRoom, entryRoom}
 
 -- there is room for pixel k after n entries, and no count is above k, so that one more fits a u32
-pub record PixelRoom (k n : ℕ) (bytes : List ℕ) (oklab : List Float) (m : Lent) : Type 0 where
+pub record PixelRoom (k n : ℕ) (bytes : List ℕ) (oklab : List Float) (m : EntryRoom) : Type 0 where
   pub fits : k + 1 < 4294967296
   pub few : n ≤ k
   pub there : There bytes oklab k
@@ -31,22 +31,22 @@ seek (suc n) s x = cond (sameBytes (rgbaAt s 0) x) 0 (suc (seek n (drop 4 s) x))
 -- the number of entries so far, and the memory that holds them
 pub record Filled : Type 0 where
   pub entries : ℕ
-  pub memory : Lent
+  pub memory : EntryRoom
 
-abbrev pub filled : ℕ → Lent → Filled
+abbrev pub filled : ℕ → EntryRoom → Filled
 filled n m = record { entries = n; memory = m }
 
 -- pixel k joins entry e
 abbrev pub joined : ℕ → ℕ → Filled → Filled
 joined k e f =
     filled (f .entries)
-    (lent (f .memory .bytes) (f .memory .oklab) (set (f .memory .counts) e (getD (f .memory .counts) e 0 + 1)) (set (f .memory .index) k e))
+    (entryRoom (f .memory .bytes) (f .memory .oklab) (set (f .memory .counts) e (getD (f .memory .counts) e 0 + 1)) (set (f .memory .index) k e))
 
 -- pixel k begins an entry, the next one
 abbrev pub begun : ℕ → ℕ → Rgba → Oklab → Filled → Filled
 begun k e x o f =
     filled (f .entries + 1)
-    (lent (putRgba (f .memory .bytes) (f .entries) x) (putAt (f .memory .oklab) (f .entries) o) (set (f .memory .counts) (f .entries) 1)
+    (entryRoom (putRgba (f .memory .bytes) (f .entries) x) (putAt (f .memory .oklab) (f .entries) o) (set (f .memory .counts) (f .entries) 1)
     (set (f .memory .index) k e))
 
 -- it joins entry e if there is one

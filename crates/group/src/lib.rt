@@ -4,7 +4,7 @@ ghost use mathlib.Core.Path.{_≡_};
 ghost use mathlib.Core.Bool.{true};
 ghost use Prim.Native.Nat.{_*_, _≤_, _<_};
 ghost use lib.ListN.{length};
-ghost use Rattle.group_refusal.specs.Refusal.{lent, given, sized};
+ghost use Rattle.group_refusal.specs.Refusal.{entryRoom, given, sized};
 ghost use Rattle.job.specs.Job.{tileSize};
 ghost use Rattle.group.specs.Turn.{seek, filled, turn, PixelRoom};
 ghost use Rattle.group.specs.Entries.{fillTo};
@@ -37,9 +37,9 @@ pub fn settle(
     entry_counts: &mut [u32],
     index: &mut [u32],
 ) -> usize
-    requires { ⌜ PixelRoom k n (now pixels) (now oklab) (lent (now «entry_bytes») (now «entry_oklab») (now «entry_counts») (now index)) ⌝ }
-    ensures { λ r. ⌜ filled r (lent (now («entry_bytes» .exit)) (now («entry_oklab» .exit)) (now («entry_counts» .exit)) (now (index .exit)))
-        ≡ turn (now (pixels .entry)) (now (oklab .entry)) zero k (filled n (lent (now («entry_bytes» .entry)) (now («entry_oklab» .entry)) (now («entry_counts» .entry)) (now (index .entry)))) ⌝ }
+    requires { ⌜ PixelRoom k n (now pixels) (now oklab) (entryRoom (now «entry_bytes») (now «entry_oklab») (now «entry_counts») (now index)) ⌝ }
+    ensures { λ r. ⌜ filled r (entryRoom (now («entry_bytes» .exit)) (now («entry_oklab» .exit)) (now («entry_counts» .exit)) (now (index .exit)))
+        ≡ turn (now (pixels .entry)) (now (oklab .entry)) zero k (filled n (entryRoom (now («entry_bytes» .entry)) (now («entry_oklab» .entry)) (now («entry_counts» .entry)) (now (index .entry)))) ⌝ }
 {
     let x = group_pixels::rgba_at(pixels, k);
     if !group_pixels::is_kept(zero, x) {
@@ -68,9 +68,9 @@ pub fn fill(
     entry_counts: &mut [u32],
     index: &mut [u32],
 ) -> usize
-    requires { ⌜ (p < 4294967296) × (sized (given p (now pixels) (now oklab) zero) (lent (now «entry_bytes») (now «entry_oklab») (now «entry_counts») (now index)) ≡ true) ⌝ }
-    ensures { λ r. ⌜ filled r (lent (now («entry_bytes» .exit)) (now («entry_oklab» .exit)) (now («entry_counts» .exit)) (now (index .exit)))
-        ≡ fillTo (given p (now (pixels .entry)) (now (oklab .entry)) zero) p (lent (now («entry_bytes» .entry)) (now («entry_oklab» .entry)) (now («entry_counts» .entry)) (now (index .entry))) ⌝ }
+    requires { ⌜ (p < 4294967296) × (sized (given p (now pixels) (now oklab) zero) (entryRoom (now «entry_bytes») (now «entry_oklab») (now «entry_counts») (now index)) ≡ true) ⌝ }
+    ensures { λ r. ⌜ filled r (entryRoom (now («entry_bytes» .exit)) (now («entry_oklab» .exit)) (now («entry_counts» .exit)) (now (index .exit)))
+        ≡ fillTo (given p (now (pixels .entry)) (now (oklab .entry)) zero) p (entryRoom (now («entry_bytes» .entry)) (now («entry_oklab» .entry)) (now («entry_counts» .entry)) (now (index .entry))) ⌝ }
 {
     let mut n = 0usize;
     let mut k = 0usize;
@@ -108,8 +108,8 @@ pub fn group(
     entry_counts: &mut [u32],
     index: &mut [u32],
 ) -> Grouped
-    ensures { λ r. ⌜ outcome r (lent (now («entry_bytes» .exit)) (now («entry_oklab» .exit)) (now («entry_counts» .exit)) (now (index .exit)))
-        ≡ grouping tileSize (given p (now (pixels .entry)) (now (oklab .entry)) zero) (lent (now («entry_bytes» .entry)) (now («entry_oklab» .entry)) (now («entry_counts» .entry)) (now (index .entry))) ⌝ }
+    ensures { λ r. ⌜ outcome r (entryRoom (now («entry_bytes» .exit)) (now («entry_oklab» .exit)) (now («entry_counts» .exit)) (now (index .exit)))
+        ≡ grouping tileSize (given p (now (pixels .entry)) (now (oklab .entry)) zero) (entryRoom (now («entry_bytes» .entry)) (now («entry_oklab» .entry)) (now («entry_counts» .entry)) (now (index .entry))) ⌝ }
 {
     let number = group_refusal::refuses(
         job::TILE_SIZE,

@@ -159,7 +159,7 @@ ready-of J p q r v =
       total = leb-true (length (J .counts)) mostTileColours (r .1 .0);
       weight = weight-positive (J .weight) (and-l (lt nought (J .weight)) (le (J .weight) sixteen) (r .0)) (and-r (lt nought (J .weight)) (le (J .weight) sixteen) (r .0));
       heavy = weight-within (J .weight) (and-l (lt nought (J .weight)) (le (J .weight) sixteen) (r .0)) (and-r (lt nought (J .weight)) (le (J .weight) sixteen) (r .0));
-      near = components-within two (J .colours) 2 two-within v;
+      bounded = components-within two (J .colours) 2 two-within v;
       starts = tile-first (J .size) (length (J .counts)) (J .tiles) (J .T) (r .1 .1 .0);
       whole = tiles-whole (J .size) (length (J .counts)) (J .tiles) (J .T) (r .1 .1 .0);
       short = tile-short (J .size) (length (J .counts)) (J .tiles) (J .T) (r .1 .1 .0);
@@ -178,7 +178,7 @@ plain-ready J palette room e =
     let v = r .1 .1 .1 .1 in
     record {
       ready = ready-of J (p .0, (p .1 .0, (p .1 .1 .0, (p .1 .1 .1 .0, tt)))) (q .0, (q .1 .0, tt)) (r .0, (r .1 .0, (r .1 .1 .0, (r .1 .1 .1 .0, tt)))) (v .1 .0);
-      lent = record { room = eqb-true (length palette) (3 * (J .S * J .C)) (q .1 .1 .0); near = components-within two palette 2 two-within (v .0) };
+      lent = record { room = eqb-true (length palette) (3 * (J .S * J .C)) (q .1 .1 .0); bounded = components-within two palette 2 two-within (v .0) };
       roomy = q .1 .1 .1 .0;
     }
 

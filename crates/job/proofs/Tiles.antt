@@ -9,7 +9,7 @@ use lib.Seq.{getD-take, getD-drop}
 use Rattle.ieee.specs.Terms.{Within}
 use Rattle.color.specs.Color.{Finite, Bounded}
 use Rattle.color.proofs.Sizes.{bounded-finite}
-use Rattle.job.specs.Job.{Job, firstOf, sizeOf, tileOf, countsOf, Placed}
+use Rattle.job.specs.Job.{Job, firstOf, sizeOf, tileOf, countsOf, Inside}
 use Rattle.job.specs.Gives.{Ready}
 
 -- ---- a part of a list: what holds of each element of the whole holds of each of the part
@@ -33,10 +33,10 @@ module _ (J : Job) (R : Ready J) (t : ℕ) (l : t < J .T) where
   pub colours-room : 3 * firstOf (J .tiles) t + 3 * sizeOf (J .tiles) t ≤ length (J .colours)
   colours-room = omega (arith, counts-room, R .three)
 
-  pub colours-placed : Placed 3 (J .tiles) t (length (J .colours))
+  pub colours-placed : Inside 3 (J .tiles) t (length (J .colours))
   colours-placed = record { listed = tile-listed; inside = omega (arith, colours-room) }
 
-  pub counts-placed : Placed 1 (J .tiles) t (length (J .counts))
+  pub counts-placed : Inside 1 (J .tiles) t (length (J .counts))
   counts-placed = record { listed = tile-listed; inside = omega (arith, counts-room) }
 
   pub tile-length : length (tileOf J t) ≡ 3 * sizeOf (J .tiles) t
@@ -48,8 +48,8 @@ module _ (J : Job) (R : Ready J) (t : ℕ) (l : t < J .T) where
   pub tile-three : length (tileOf J t) ≡ 3 * length (countsOf J t)
   tile-three = tile-length ∙ sym (ap (λ (n : ℕ). 3 * n) counts-length)
 
-  pub tile-near : Bounded (tileOf J t) 2
-  tile-near = part-all (J .colours) (3 * firstOf (J .tiles) t) (3 * sizeOf (J .tiles) t) colours-room nan (λ x. Within x 2 1) (R .near)
+  pub tile-bounded : Bounded (tileOf J t) 2
+  tile-bounded = part-all (J .colours) (3 * firstOf (J .tiles) t) (3 * sizeOf (J .tiles) t) colours-room nan (λ x. Within x 2 1) (R .bounded)
 
   pub tile-finite : Finite (tileOf J t)
-  tile-finite = bounded-finite (tileOf J t) 2 tile-near
+  tile-finite = bounded-finite (tileOf J t) 2 tile-bounded

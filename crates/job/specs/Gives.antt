@@ -29,7 +29,7 @@ pub record Ready (J : Job) : Type 0 where
   pub total : length (J .counts) ≤ mostTileColours
   pub weight : T (positive (J .weight))
   pub heavy : Within (J .weight) 16 1
-  pub near : Bounded (J .colours) 2
+  pub bounded : Bounded (J .colours) 2
   pub starts : (t : ℕ) → t < J .T → firstOf (J .tiles) t ≡ sum (sizeOf (J .tiles)) t
   pub whole : sum (sizeOf (J .tiles)) (J .T) ≡ length (J .counts)
   pub short : (t : ℕ) → t < J .T → sizeOf (J .tiles) t ≤ J .size
@@ -41,7 +41,7 @@ pub record Ready (J : Job) : Type 0 where
 -- a palette of S·C colours lent beside a job
 pub record Lent (s c : ℕ) (palette : List Float) : Type 0 where
   pub room : length palette ≡ 3 * (s * c)
-  pub near : Bounded palette 2
+  pub bounded : Bounded palette 2
 
 -- a call without samples that is not refused
 pub record Plain (J : Job) (palette : List Float) (room : Bool) : Type 0 where

@@ -59,7 +59,7 @@ abbrev pub isEmpty : Job → ℕ → Bool
 isEmpty J t = eqb (sizeOf (J .tiles) t) 0
 
 -- tile t stands in the table, and its colours, `per` numbers each, among those of a list of the given length
-pub record Placed (per : ℕ) (tiles : List ℕ) (t length·part : ℕ) : Type 0 where
+pub record Inside (per : ℕ) (tiles : List ℕ) (t length·part : ℕ) : Type 0 where
   pub listed : 2 * t + 1 < length tiles
   pub inside : per * (firstOf tiles t + sizeOf tiles t) ≤ length·part
 

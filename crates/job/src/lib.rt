@@ -3,7 +3,7 @@ ghost use mathlib.Core.Path.{_≡_};
 ghost use Prim.Native.Nat.{_+_, _*_, _<_};
 ghost use lib.Dec.{eqb};
 ghost use lib.ListN.{length};
-ghost use Rattle.job.specs.Job.{sizesOf, firstOf, sizeOf, coloursPart, countsPart, Placed};
+ghost use Rattle.job.specs.Job.{sizesOf, firstOf, sizeOf, coloursPart, countsPart, Inside};
 ghost use Rattle.job.specs.Checks.{within, firstBad};
 
 // The numbers of a call, by value: how many pixels a tile has at most, subpalettes, colours in each, tiles, samples (0 where none are
@@ -65,7 +65,7 @@ pub fn is_empty(tiles: &[u32], i: usize) -> bool
 
 // The colours of tile i.
 pub fn tile_part<'a>(tiles: &[u32], colours: &'a [f32], i: usize) -> &'a [f32]
-    requires { ⌜ Placed 3 (now tiles) i (length (now colours)) ⌝ }
+    requires { ⌜ Inside 3 (now tiles) i (length (now colours)) ⌝ }
     ensures { λ r. ⌜ now r ≡ coloursPart (now (tiles .entry)) (now (colours .entry)) i ⌝ }
 {
     let at = 3 * first_of(tiles, i);
@@ -75,7 +75,7 @@ pub fn tile_part<'a>(tiles: &[u32], colours: &'a [f32], i: usize) -> &'a [f32]
 
 // The counts of tile i.
 pub fn counts_part<'a>(tiles: &[u32], counts: &'a [u32], i: usize) -> &'a [u32]
-    requires { ⌜ Placed 1 (now tiles) i (length (now counts)) ⌝ }
+    requires { ⌜ Inside 1 (now tiles) i (length (now counts)) ⌝ }
     ensures { λ r. ⌜ now r ≡ countsPart (now (tiles .entry)) (now (counts .entry)) i ⌝ }
 {
     let at = first_of(tiles, i);

@@ -24,7 +24,7 @@ use Rattle.ieee.proofs.Narrows.{narrow-within, narrow-good}
 use Rattle.color.specs.Color.{colourAt, Sized}
 use Rattle.color.proofs.Sizes.{bounded-finite, nth-sized, sized-real}
 use Rattle.job.specs.Job.{Job, sizeOf, isEmpty}
-use Rattle.job.proofs.Tiles.{counts-length, tile-three, tile-near}
+use Rattle.job.proofs.Tiles.{counts-length, tile-three, tile-bounded}
 use Rattle.palette.specs.Palette.{Tile, subOf, nearestOf}
 use Rattle.palette.proofs.Sums.{nearest-good}
 use Rattle.palette.proofs.Near.{nearest-within}
@@ -32,7 +32,7 @@ use Rattle.palette_tile.specs.Tiles.{tileAt, winner, Shown}
 use Rattle.palette_tile.proofs.Walks.{walk-keeps}
 use Rattle.palette_tile.proofs.Present.{winner-below, part-some, part-bounded}
 use Rattle.mse.specs.declared.Tally.{Tally}
-use Rattle.mse.specs.Mse.{errorOf, stepTally, tileTally, tallyStep, nothing, tallyOf, meanOf, mseOf, Summed}
+use Rattle.mse.specs.Mse.{errorOf, stepTally, tileTally, tallyStep, nothing, tallyOf, meanError, mseOf, Summed}
 
 pub record Fine (a : Tally) (b : ℕ) : Type 0 where
   pub good : Good binary64 (a .total)
@@ -53,7 +53,7 @@ step-fine a b d n F g v lo hi B =
 -- ---- a tile
 module _ (s : List Float) (X : Tile) (w : Float) (R : Summed s X w) where
   pub target-sized : (k : ℕ) → k < length (X .counts) → Sized (colourAt (X .colours) k) 2
-  target-sized k = nth-sized (X .colours) 2 (length (X .counts)) k (R .near) (R .three)
+  target-sized k = nth-sized (X .colours) 2 (length (X .counts)) k (R .bounded) (R .three)
 
   pub near-good : (k : ℕ) → k < length (X .counts) → Good binary32 (nearestOf s (colourAt (X .colours) k) w .dist)
   near-good k l = nearest-good s w (bounded-finite s 4 (R .sub)) (R .weight) (colourAt (X .colours) k) (sized-real (colourAt (X .colours) k) 2 (target-sized k l))
@@ -82,7 +82,7 @@ module _ (J : Job) (pal : List Float) (n have : ℕ) (S : Shown J pal n have) wh
         weight = S .ready .weight;
         heavy = S .ready .heavy;
         three = tile-three J (S .ready) t l;
-        near = tile-near J (S .ready) t l;
+        bounded = tile-bounded J (S .ready) t l;
         low = λ k v. S .ready .low t k l v;
         high = λ k v. omega (arith, S .ready .high t k l v, S .ready .sizes .small);
       }
@@ -120,14 +120,14 @@ div-plus f (fin true m e) y k p v q = absurd p
 div-plus f (fin false m e) nan k p v q = absurd q
 div-plus f (fin false m e) (inf t) k p v q = absurd q
 div-plus f (fin false m e) (fin true n d) k p v q = absurd q
-div-plus f (fin false m e) (fin false n d) k p v q = go (eqb n 0) (eqb→eq n 0) (ltb→lt 0 n q)
+div-plus f (fin false m e) (fin false n d) k p v q = each-case (eqb n 0) (eqb→eq n 0) (ltb→lt 0 n q)
   where
     no : (n : ℕ) → n ≡ 0 → 0 < n → ⊥
     no n e l = omega arith
 
-    go : (z : Bool) → (T z → n ≡ 0) → 0 < n → T (plus (cond z (cond (eqb m 0) nan (inf false)) (round f false (m * up e * down d) (n * up d * down e))))
-    go true h l = absurd (no n (h tt) l)
-    go false h l = round-plus f (m * up e * down d) (n * up d * down e)
+    each-case : (z : Bool) → (T z → n ≡ 0) → 0 < n → T (plus (cond z (cond (eqb m 0) nan (inf false)) (round f false (m * up e * down d) (n * up d * down e))))
+    each-case true h l = absurd (no n (h tt) l)
+    each-case false h l = round-plus f (m * up e * down d) (n * up d * down e)
 
 module _ (a : Tally) (b : ℕ) (B : b ≤ 1099511627776) (F : Fine a b) (N : a .count ≡ 0 → ⊥) where
   pub mean-plus : T (plus (div binary64 (a .total) (ofInt binary64 (pos (a .count)))))
@@ -145,7 +145,7 @@ no-error : Error (ofBits binary32 0)
 unfolding ofBits
 no-error = record { good = record { fit = ofBits-fits binary32 0; pos = tt }; size = zero-le }
 
-mean-error : (a : Tally) (b : ℕ) → b ≤ 1099511627776 → Fine a b → Error (meanOf a)
+mean-error : (a : Tally) (b : ℕ) → b ≤ 1099511627776 → Fine a b → Error (meanError a)
 mean-error a b B F = elim (eq-zero-or-pos (a .count)) [
   | inl z ↦ subst⁻¹ (λ (t : Bool). Error (cond t (ofBits binary32 0) (narrowOf (div binary64 (a .total) (ofInt binary64 (pos (a .count))))))) (eq-eqb (a .count) 0 z) no-error
   | inr p ↦

@@ -18,7 +18,7 @@ use Rattle.color.specs.Color.{colourAt, Real}
 use Rattle.color.proofs.Sizes.{bounded-finite, sized-real}
 use Rattle.palette.specs.Palette.{Tile, nearestOf, Clear}
 use Rattle.mse.specs.declared.Tally.{Tally}
-use Rattle.mse.specs.Mse.{errorOf, stepTally, tileTally, meanOf, Summed}
+use Rattle.mse.specs.Mse.{errorOf, stepTally, tileTally, meanError, Summed}
 use Rattle.mse.proofs.Fine.{near-good, target-sized}
 
 -- an f64 holds every f32
@@ -42,8 +42,8 @@ tally-step s X w a k x n q d h g e =
     ∙ sym (ap (tileTally s X w a) (add-one k))
 
 module _ (a : Tally) where
-  pub mean-none : a .count ≡ 0 → ofBits binary32 0 ≡ meanOf a
+  pub mean-none : a .count ≡ 0 → ofBits binary32 0 ≡ meanError a
   mean-none e = sym (ap (λ (b : Bool). cond b (ofBits binary32 0) (narrowOf (div binary64 (a .total) (ofInt binary64 (pos (a .count)))))) (eq-eqb (a .count) 0 e))
 
-  pub mean-some : (a .count ≡ 0 → ⊥) → (r : Float) → r ≡ narrowOf (div binary64 (a .total) (ofInt binary64 (pos (a .count)))) → r ≡ meanOf a
+  pub mean-some : (a .count ≡ 0 → ⊥) → (r : Float) → r ≡ narrowOf (div binary64 (a .total) (ofInt binary64 (pos (a .count)))) → r ≡ meanError a
   mean-some n r e = e ∙ sym (ap (λ (b : Bool). cond b (ofBits binary32 0) (narrowOf (div binary64 (a .total) (ofInt binary64 (pos (a .count)))))) (ne-eqb (a .count) 0 n))

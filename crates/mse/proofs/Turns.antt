@@ -17,7 +17,7 @@ use Rattle.palette_tile.proofs.Walks.{Walked, walked-end, walked-has}
 use Rattle.palette_tile.proofs.Hints.{walked-paired}
 use Rattle.palette_tile.proofs.Turns.{passed-over, taken-up, hint-kept, hint-written, goes-same, goes-asks, fit-index}
 use Rattle.mse.specs.declared.Tally.{Tally}
-use Rattle.mse.specs.Mse.{tileTally, tallyStep, nothing, meanOf, mseOf, Summed, Turn, Meaned}
+use Rattle.mse.specs.Mse.{tileTally, tallyStep, nothing, meanError, mseOf, Summed, Turn, Meaned}
 use Rattle.mse.proofs.Fine.{Fine, summed, tally-fine, mean-plus}
 
 module _ (J : Job) (pal : List Float) (n have : ℕ) (hints : List ℕ) (t : ℕ) (a : Tally) (K : Turn J pal n have hints t a) where
@@ -69,6 +69,6 @@ module _ (J : Job) (pal : List Float) (n have : ℕ) (S : Shown J pal n have) {a
         real = λ z. plus-real _ (mean-plus a (65536 * t) (omega (arith, W .within, S .ready .sizes .tiles)) fine z);
       }
 
-  pub sum-end : J .T ≤ t → (r : Float) → r ≡ meanOf a → r ≡ mseOf J pal n have
+  pub sum-end : J .T ≤ t → (r : Float) → r ≡ meanError a → r ≡ mseOf J pal n have
   unfolding mseOf
-  sum-end h r e = e ∙ ap meanOf (walked-end W h)
+  sum-end h r e = e ∙ ap meanError (walked-end W h)

@@ -43,12 +43,12 @@ abbrev pub tallyOf : Job → List Float → ℕ → ℕ → ℕ → Tally
 tallyOf J pal n have t = walk (tallyStep J pal n have) nothing t
 
 -- 0 where nothing counts
-abbrev pub meanOf : Tally → Float
-meanOf a = cond (eqb (a .count) 0) (ofBits binary32 0) (narrowOf (div binary64 (a .total) (ofInt binary64 (pos (a .count)))))
+abbrev pub meanError : Tally → Float
+meanError a = cond (eqb (a .count) 0) (ofBits binary32 0) (narrowOf (div binary64 (a .total) (ofInt binary64 (pos (a .count)))))
 
 unfoldable pub mseOf : Job → List Float → ℕ → ℕ → Float
 unfolding walk tallyStep
-mseOf J pal n have = meanOf (tallyOf J pal n have (J .T))
+mseOf J pal n have = meanError (tallyOf J pal n have (J .T))
 
 -- ---- what the functions ask
 -- of a tile's sum: a subpalette with a colour, a tile beside its counts, and bounds
@@ -58,7 +58,7 @@ pub record Summed (s : List Float) (X : Tile) (w : Float) : Type 0 where
   pub weight : T (positive w)
   pub heavy : Within w 16 1
   pub three : length (X .colours) ≡ 3 * length (X .counts)
-  pub near : Bounded (X .colours) 2
+  pub bounded : Bounded (X .colours) 2
   pub low : (k : ℕ) → k < length (X .counts) → 1 ≤ getD (X .counts) k 0
   pub high : (k : ℕ) → k < length (X .counts) → getD (X .counts) k 0 ≤ 256
 

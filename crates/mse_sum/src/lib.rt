@@ -7,7 +7,7 @@ ghost use lib.ListN.{length};
 ghost use Rattle.job.specs.Job.{jobOf};
 ghost use Rattle.palette.specs.Palette.{tileWith};
 ghost use Rattle.palette_tile.specs.Tiles.{hintStep, hintsOf, Shown};
-ghost use Rattle.mse.specs.Mse.{tileTally, tallyStep, meanOf, mseOf, Summed, Turn, Meaned};
+ghost use Rattle.mse.specs.Mse.{tileTally, tallyStep, meanError, mseOf, Summed, Turn, Meaned};
 use mse::Tally;
 
 // A tile's distances times counts, added to a sum in f64.
@@ -58,7 +58,7 @@ fn tile_step(
 // The mean in f32 of a sum in f64; 0 where nothing counts.
 fn mean(sum: Tally) -> f32
     requires { ⌜ Meaned sum ⌝ }
-    ensures { λ r. ⌜ r ≡ meanOf sum ⌝ }
+    ensures { λ r. ⌜ r ≡ meanError sum ⌝ }
 {
     if sum.count == 0 {
         return 0.0;

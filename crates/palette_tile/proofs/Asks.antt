@@ -5,7 +5,7 @@ use mathlib.Core.List.{List}
 use native.Mathlib.Omega.{arith}
 use lib.ListN.{length}
 use lib.Ieee.{Float}
-use Rattle.job.specs.Job.{Job, tileOf, countsOf, Placed}
+use Rattle.job.specs.Job.{Job, tileOf, countsOf, Inside}
 use Rattle.job.proofs.Tiles.{colours-placed, counts-placed, counts-length}
 use Rattle.stats.specs.declared.Near.{Near}
 use Rattle.stats.specs.declared.Two.{Two}
@@ -15,10 +15,10 @@ use Rattle.palette_tile.specs.Tiles.{presentIn, fitAt, twoAt, Paired, Fi
 use Rattle.palette_tile.proofs.Present.{tile-fits, tile-hinted}
 
 module _ (J : Job) (pal : List Float) (n have : ℕ) (hints : List ℕ) (t : ℕ) (K : Paired J pal n have hints t) where
-  pub colours-asked : Placed 3 (J .tiles) t (length (J .colours))
+  pub colours-asked : Inside 3 (J .tiles) t (length (J .colours))
   colours-asked = colours-placed J (K .shown .ready) t (K .tile)
 
-  pub counts-asked : Placed 1 (J .tiles) t (length (J .counts))
+  pub counts-asked : Inside 1 (J .tiles) t (length (J .counts))
   counts-asked = counts-placed J (K .shown .ready) t (K .tile)
 
   module _ (tile : List Float) (part : List ℕ) (e : tile ≡ tileOf J t) (g : part ≡ countsOf J t) where

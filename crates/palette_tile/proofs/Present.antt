@@ -12,7 +12,7 @@ use Rattle.color.specs.declared.Oklab.{Oklab}
 use Rattle.color.specs.Color.{colourAt, Sized, Bounded}
 use Rattle.color.proofs.Sizes.{bounded-finite, nth-sized}
 use Rattle.job.specs.Job.{Job, sizeOf, tileOf}
-use Rattle.job.proofs.Tiles.{tile-length, tile-three, tile-near, tile-finite}
+use Rattle.job.proofs.Tiles.{tile-length, tile-three, tile-bounded, tile-finite}
 use Rattle.stats.proofs.Scan.{least-below}
 use Rattle.stats.proofs.BestTwo.{two-below}
 use Rattle.palette.specs.Palette.{subOf, nearestOf, distAt, Present, Counted, Fits, Hinted}
@@ -26,7 +26,7 @@ module _ (J : Job) (pal : List Float) (n have : ℕ) (S : Shown J pal n have) wh
       record {
         room = le-trans (mul-le-mul-right (3 * J .C) (S .most)) (le-of-eq (mul-left-comm (J .S) 3 (J .C) ∙ sym (S .room)));
         present = S .present;
-        finite = bounded-finite pal 4 (S .near);
+        finite = bounded-finite pal 4 (S .bounded);
       }
 
   pub winner-below : (t : ℕ) → winner J pal n have t < n
@@ -52,7 +52,7 @@ module _ (J : Job) (pal : List Float) (n have : ℕ) (S : Shown J pal n have) wh
     part-some = omega (arith, part-colours, S .some)
 
     pub part-bounded : Bounded (subOf pal (J .C) have i) 4
-    part-bounded = sub-bounded (presentIn J pal n have) shown-present i l 4 (S .near)
+    part-bounded = sub-bounded (presentIn J pal n have) shown-present i l 4 (S .bounded)
 
     -- its nearest colour to any is one that is present
     pub part-nearest : (q : Oklab) → nearestOf (subOf pal (J .C) have i) q (J .weight) .index < have
@@ -76,7 +76,7 @@ module _ (J : Job) (pal : List Float) (n have : ℕ) (S : Shown J pal n have) wh
     tile-fits = record { palette = shown-present; tile = tile-counted; weight = S .ready .weight }
 
     pub tile-sized : (k : ℕ) → k < sizeOf (J .tiles) t → Sized (colourAt (tileOf J t) k) 2
-    tile-sized k = nth-sized (tileOf J t) 2 (sizeOf (J .tiles) t) k (tile-near J (S .ready) t l) (tile-length J (S .ready) t l)
+    tile-sized k = nth-sized (tileOf J t) 2 (sizeOf (J .tiles) t) k (tile-bounded J (S .ready) t l) (tile-length J (S .ready) t l)
 
     pub tile-hinted : (hints : List ℕ) → length hints ≡ J .T → Hinted n hints t
     tile-hinted hints e = record { subs = S .subs; few = omega (arith, S .most, S .ready .sizes .few); at = omega arith }

@@ -49,7 +49,7 @@ pub record Shown (J : Job) (pal : List Float) (n have : ℕ) : Type 0 where
   pub some : 1 ≤ have
   pub present : have ≤ J .C
   pub room : length pal ≡ 3 * (J .S * J .C)
-  pub near : Bounded pal 4
+  pub bounded : Bounded pal 4
 
 -- tile t of it, and a hint for each tile
 pub record Paired (J : Job) (pal : List Float) (n have : ℕ) (hints : List ℕ) (t : ℕ) : Type 0 where

@@ -29,13 +29,13 @@ real b h = subst (λ (t : Bool). T (not t)) (nanBits-is binary32 b) (no-nan b h)
 -- the size of a float is its pattern without the sign
 size-of : (b : ℕ) → b < 2 ^ 32 → T (not (isNan (ofBits binary32 b))) → pack binary32 (key binary32 (ofBits binary32 b)) ≡ b % 2 ^ 31
 size-of b h r =
-    go (sgn (ofBits binary32 b)) (pack binary32 (key binary32 (ofBits binary32 b)))
+    by (sgn (ofBits binary32 b)) (pack binary32 (key binary32 (ofBits binary32 b)))
     (sym (toBits-ofBits binary32 b h r) ∙ bits-are binary32 (ofBits binary32 b) r)
     (size-small binary32 (ofBits binary32 b) (ofBits-fits binary32 b))
   where
-    go : (s : Bool) (p : ℕ) → b ≡ cond s (2 ^ 31) 0 + p → p < 2 ^ 31 → p ≡ b % 2 ^ 31
-    go true p e l = omega arith
-    go false p e l = omega arith
+    by : (s : Bool) (p : ℕ) → b ≡ cond s (2 ^ 31) 0 + p → p < 2 ^ 31 → p ≡ b % 2 ^ 31
+    by true p e l = omega arith
+    by false p e l = omega arith
 
 -- a size at most 2 ^ j, as a bound on fractions
 within← : (x : Float) (j : ℕ) → T (le (abs x) (fin false 1 (pos j))) → Within x (2 ^ j) 1

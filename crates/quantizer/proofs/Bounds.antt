@@ -14,7 +14,7 @@ use Rattle.color.proofs.Sizes.{colour-sized, bounded-put}
 use Rattle.color.proofs.Means.{mean-within}
 use Rattle.job.specs.Job.{Job, sizeOf, tileOf}
 use Rattle.job.specs.Gives.{Sampled}
-use Rattle.job.proofs.Tiles.{tile-length, tile-near}
+use Rattle.job.proofs.Tiles.{tile-length, tile-bounded}
 use Rattle.palette_edit.specs.Edits.{colourCopied, subCopied}
 use Rattle.palette_edit.proofs.Kept.{place-room, length-sub-copied}
 use Rattle.palette_edit.proofs.Gentle.{Gentle, nudged-bounded, colour-copied-bounded, sub-copied-bounded}
@@ -35,7 +35,7 @@ module _ (K : Course) (room : Bool) (D : Sampled (K .job) (K .n) (K .samples) ro
   unfolding sampleColour
   sample-sized i l =
       let t = sampleTile K i in
-      colour-sized (tileOf (K .job) t) 2 (samplePlace K i) (tile-near (K .job) (D .ready) t (D .tile i l))
+      colour-sized (tileOf (K .job) t) 2 (samplePlace K i) (tile-bounded (K .job) (D .ready) t (D .tile i l))
       (third (length (tileOf (K .job) t)) (tile-length (K .job) (D .ready) t (D .tile i l)))
     where
       third : (z : ℕ) → z ≡ 3 * sizeOf (K .job .tiles) (sampleTile K i) → samplePlace K i < z / 3
@@ -146,4 +146,4 @@ module _ (J : Job) (pal : List Float) (S : Shown J pal (J .S) (J .C)) (k : ℕ) 
 -- ---- one draw
 pub moved-bounded : (J : Job) (pal : List Float) (n have : ℕ) → Shown J pal n have → (t k : ℕ) (alpha : Float) → Gentle alpha → Sized (colourAt (tileOf J t) k) 2 → Bounded (moved J pal n have t k alpha) 4
 unfolding moved
-moved-bounded J pal n have S t k alpha G Q = nudged-bounded pal (S .near) (targetOf J pal n have t k) (colourAt (tileOf J t) k) alpha G Q (target-in J pal n have S t k)
+moved-bounded J pal n have S t k alpha G Q = nudged-bounded pal (S .bounded) (targetOf J pal n have t k) (colourAt (tileOf J t) k) alpha G Q (target-in J pal n have S t k)

@@ -20,10 +20,10 @@ module _ (J : Job) (pal : List Float) (h : List ℕ) where
     where
       none : t < 0 → ⊥
       none l = omega arith
-  pair-hint (suc m) e t l = go (ℕ-discrete t m) (λ k. pair-hint m (omega arith) t k)
+  pair-hint (suc m) e t l = by (ℕ-discrete t m) (λ k. pair-hint m (omega arith) t k)
     where
-      go : Dec (t ≡ m) → (t < m → getD (pairHints J pal h m) t 0 ≡ pairAt J pal t .index) → getD (set (pairHints J pal h m) m (pairAt J pal m .index)) t 0 ≡ pairAt J pal t .index
-      go (yes p) ih =
+      by : Dec (t ≡ m) → (t < m → getD (pairHints J pal h m) t 0 ≡ pairAt J pal t .index) → getD (set (pairHints J pal h m) m (pairAt J pal m .index)) t 0 ≡ pairAt J pal t .index
+      by (yes p) ih =
           subst⁻¹ (λ (k : ℕ). getD (set (pairHints J pal h m) m (pairAt J pal m .index)) k 0 ≡ pairAt J pal k .index) p
           (getD-set-same (pairHints J pal h m) m (pairAt J pal m .index) 0 (omega (arith, length-pair-hints J pal h m)))
-      go (no p) ih = getD-set-other (pairHints J pal h m) m t (pairAt J pal m .index) 0 p ∙ ih (omega (arith, p))
+      by (no p) ih = getD-set-other (pairHints J pal h m) m t (pairAt J pal m .index) 0 p ∙ ih (omega (arith, p))

@@ -29,17 +29,17 @@ use Rattle.quantizer.specs.Sums.{zeros}
 use Rattle.quantizer.specs.Refining.{Gather, nothing, addAt, tileGather, gatherStep, gatherOf, meanStep, meansOf, refined}
 use Rattle.quantizer.proofs.Lists.{length-zeros, zeros-bounded}
 use Rattle.quantizer.proofs.Indexes.{shown-few, place-256}
-use Rattle.quantizer.specs.Refines.{Gathered, Held}
+use Rattle.quantizer.specs.Refines.{Gathered, SumsWithin}
 
 same-or-not : (a b : ℕ) → (a ≡ b) ⊎ (a ≢ b)
-same-or-not a b = go (ℕ-discrete a b)
+same-or-not a b = by (ℕ-discrete a b)
   where
-    go : Dec (a ≡ b) → (a ≡ b) ⊎ (a ≢ b)
-    go (yes e) = inl e
-    go (no n) = inr n
+    by : Dec (a ≡ b) → (a ≡ b) ⊎ (a ≢ b)
+    by (yes e) = inl e
+    by (no n) = inr n
 
 -- ---- an addition
-module _ (A : Gather) (H : Held A) (p : ℕ) (q : Oklab) (m : ℕ) (P : p < 256) where
+module _ (A : Gather) (H : SumsWithin A) (p : ℕ) (q : Oklab) (m : ℕ) (P : p < 256) where
   pub counted : (i : ℕ) → getD (addAt A p q m .cnts) i 0 ≤ getD (A .cnts) i 0 + m
   unfolding addAt
   counted i = elim (same-or-not i p) [
@@ -49,7 +49,7 @@ module _ (A : Gather) (H : Held A) (p : ℕ) (q : Oklab) (m : ℕ) (P : p < 256)
     | inr n ↦ omega (arith, getD-set-other (A .cnts) p i (getD (A .cnts) p 0 + m) 0 n)
   ]
 
-  pub held-add : Sized q 2 → getD (A .cnts) p 0 + m ≤ 8388608 → Held (addAt A p q m)
+  pub held-add : Sized q 2 → getD (A .cnts) p 0 + m ≤ 8388608 → SumsWithin (addAt A p q m)
   unfolding addAt
   held-add Q N =
       record {
@@ -74,10 +74,10 @@ module _ (A : Gather) (H : Held A) (p : ℕ) (q : Oklab) (m : ℕ) (P : p < 256)
 
 -- ---- a tile: what its colours add to a count is at most their own counts
 pub record Summed (A B : Gather) (m : ℕ) : Type 0 where
-  pub held : Held B
+  pub held : SumsWithin B
   pub few : (i : ℕ) → getD (B .cnts) i 0 ≤ getD (A .cnts) i 0 + m
 
-module _ (s : List Float) (X : Tile) (w : Float) (base : ℕ) (A : Gather) (H : Held A) (place : (q : Oklab) → base + nearestOf s q w .index < 256)
+module _ (s : List Float) (X : Tile) (w : Float) (base : ℕ) (A : Gather) (H : SumsWithin A) (place : (q : Oklab) → base + nearestOf s q w .index < 256)
     (near : (k : ℕ) → k < length (X .counts) → Sized (colourAt (X .colours) k) 2) (few : (i : ℕ) → getD (A .cnts) i 0 + sum (λ k. getD (X .counts) k 0) (length (X .counts)) ≤ 8388608) where
   pub tile-summed : (k : ℕ) → k ≤ length (X .counts) → Summed A (tileGather s X w base A k) (sum (λ k. getD (X .counts) k 0) k)
   unfolding tileGather sum
@@ -136,7 +136,7 @@ module _ (J : Job) (pal : List Float) (S : Shown J pal (J .S) (J .C)) where
       record { held = B .held; few = λ j. omega (arith, B .few j, G .few j, tile-pixels t h) }
 
 -- ---- the means
-module _ (pal : List Float) (A : Gather) (H : Held A) (few : (p : ℕ) → getD (A .cnts) p 0 ≤ 8388608) (k : ℕ) (K : 2 ≤ k) (B : Bounded pal k) where
+module _ (pal : List Float) (A : Gather) (H : SumsWithin A) (few : (p : ℕ) → getD (A .cnts) p 0 ≤ 8388608) (k : ℕ) (K : 2 ≤ k) (B : Bounded pal k) where
   pub means-bounded : (n : ℕ) → n ≤ 256 → Bounded (meansOf pal A n) k
   unfolding meansOf meanStep
   means-bounded zero h = B

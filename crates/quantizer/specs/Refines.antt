@@ -7,12 +7,12 @@ use Rattle.color.specs.Color.{colourAt, Sized}
 use Rattle.quantizer.specs.Refining.{Gather}
 
 -- the arrays are whole, and each sum is at most 2 for each pixel counted
-pub record Held (A : Gather) : Type 0 where
+pub record SumsWithin (A : Gather) : Type 0 where
   pub whole : length (A .sums) ≡ 768
   pub all : length (A .cnts) ≡ 256
   pub sized : (p : ℕ) → p < 256 → Sized (colourAt (A .sums) p) (2 * getD (A .cnts) p 0)
 
 -- ---- over the tiles: a tile has at most as many pixels as its size, which is at most 256
 pub record Gathered (A : Gather) (m : ℕ) : Type 0 where
-  pub held : Held A
+  pub held : SumsWithin A
   pub few : (i : ℕ) → getD (A .cnts) i 0 ≤ m

@@ -13,7 +13,7 @@ use Rattle.palette_tile.proofs.Present.{winner-below}
 use Rattle.palette_tile.proofs.Walks.{Walked, walked-has}
 use Rattle.palette_tile.proofs.Turns.{no-colours, hint-kept, hint-written, goes-same, goes-asks, fit-index}
 use Rattle.quantizer.specs.Refining.{Gather, nothing, tileGather, gatherStep}
-use Rattle.quantizer.specs.Refines.{Held, Gathered}
+use Rattle.quantizer.specs.Refines.{SumsWithin, Gathered}
 use Rattle.quantizer.proofs.Refines.{nothing-gathered, gathered}
 use Rattle.quantizer_gather_tile.specs.Gathers.{Gathering}
 use Rattle.quantizer_gather_tile.proofs.Through.{gathering}
@@ -54,5 +54,5 @@ module _ (J : Job) (pal : List Float) (S : Shown J pal (J .S) (J .C)) {A : Gathe
   -- the lists are as long as those before the walk
   pub walked-whole : (B : Gather) → B ≡ nothing → (length (A .sums) ≡ length (B .sums)) × (length (A .cnts) ≡ length (B .cnts))
   walked-whole B e =
-      let H : Held B = subst⁻¹ Held e (nothing-gathered .held) in
+      let H : SumsWithin B = subst⁻¹ SumsWithin e (nothing-gathered .held) in
       (walked-gathered .held .whole ∙ sym (H .whole), walked-gathered .held .all ∙ sym (H .all))

@@ -10,7 +10,7 @@ use Rattle.lists.proofs.Loops.{sum-rises}
 use Rattle.color.specs.declared.Oklab.{Oklab}
 use Rattle.color.proofs.Sizes.{nth-sized}
 use Rattle.job.specs.Job.{Job}
-use Rattle.job.proofs.Tiles.{tile-three, tile-near}
+use Rattle.job.proofs.Tiles.{tile-three, tile-bounded}
 use Rattle.palette.specs.Palette.{Tile, subOf, nearestOf}
 use Rattle.palette.proofs.Near.{nearest-below}
 use Rattle.palette_tile.specs.Tiles.{tileAt, Shown}
@@ -31,7 +31,7 @@ module _ (s : List Float) (X : Tile) (w : Float) (base : ℕ) (A : Gather) (G : 
   place-in q = omega (arith, nearest-below s q w (G .some), G .place)
 
   pub through : (k : ℕ) → k ≤ length (X .counts) → Summed A (tileGather s X w base A k) (pixels X k)
-  through = tile-summed s X w base A (G .held) place-in (λ k. nth-sized (X .colours) 2 (length (X .counts)) k (G .near) (G .three)) (G .few)
+  through = tile-summed s X w base A (G .held) place-in (λ k. nth-sized (X .colours) 2 (length (X .counts)) k (G .bounded) (G .three)) (G .few)
 
 -- tile t may go to subpalette i
 pub gathering : (J : Job) (pal : List Float) → Shown J pal (J .S) (J .C) → (t : ℕ) → t < J .T → (A : Gather) → Gathered A (256 * t) → (i : ℕ) → i < J .S → Gathering (subOf pal (J .C) (J .C) i) (tileAt J t) (i * J .C) A
@@ -40,7 +40,7 @@ gathering J pal S t l A K i m =
       some = part-some J pal (J .S) (J .C) S i m;
       place = omega (arith, row-256 J pal (J .S) (J .C) S i m, part-colours J pal (J .S) (J .C) S i m);
       three = tile-three J (S .ready) t l;
-      near = tile-near J (S .ready) t l;
+      bounded = tile-bounded J (S .ready) t l;
       held = K .held;
       few = λ p. omega (arith, K .few p, S .ready .full t l, S .ready .sizes .small, S .ready .sizes .tiles);
     }

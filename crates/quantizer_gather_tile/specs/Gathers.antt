@@ -8,7 +8,7 @@ use Rattle.lists.specs.Every.{sum}
 use Rattle.color.specs.Color.{Bounded}
 use Rattle.palette.specs.Palette.{Tile}
 use Rattle.quantizer.specs.Refining.{Gather}
-use Rattle.quantizer.specs.Refines.{Held}
+use Rattle.quantizer.specs.Refines.{SumsWithin}
 
 -- the pixels of a tile
 abbrev pub pixels : Tile → ℕ → ℕ
@@ -27,6 +27,6 @@ pub record Gathering (s : List Float) (X : Tile) (base : ℕ) (A : Gather) : Typ
   pub some : 1 ≤ length s / 3
   pub place : base + length s / 3 ≤ 256
   pub three : length (X .colours) ≡ 3 * length (X .counts)
-  pub near : Bounded (X .colours) 2
-  pub held : Held A
+  pub bounded : Bounded (X .colours) 2
+  pub held : SumsWithin A
   pub few : (p : ℕ) → getD (A .cnts) p 0 + pixels X (length (X .counts)) ≤ 8388608

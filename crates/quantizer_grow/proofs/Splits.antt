@@ -92,11 +92,11 @@ module _ (J : Job) (first : List Float) (have : ℕ) (hints : List ℕ) (K : Gro
       ∙ sym (ap (λ (b : Bool). greatest (sumsAt (cond b (zeros 256) (needsOf J first have (J .T))) (i * J .C) have)) (ne-eqb have 1 f))
 
   same-split : (i : ℕ) → i < J .S → splitOf J first have i ≡ greatest (sumsAt (splitSums J first have) (i * J .C) have)
-  same-split i l = go (ℕ-discrete have 1)
+  same-split i l = by (ℕ-discrete have 1)
     where
-      go : Dec (have ≡ 1) → splitOf J first have i ≡ greatest (sumsAt (splitSums J first have) (i * J .C) have)
-      go (yes e) = one-split i l e
-      go (no f) = more-split i f
+      by : Dec (have ≡ 1) → splitOf J first have i ≡ greatest (sumsAt (splitSums J first have) (i * J .C) have)
+      by (yes e) = one-split i l e
+      by (no f) = more-split i f
 
 -- ---- the walk: what is held before subpalette i
 pub record Splitting (J : Job) (first : List Float) (have : ℕ) (pal : List Float) (i : ℕ) : Type 0 where

@@ -7,15 +7,15 @@ use lib.ListN.{getD, length, take, drop, length-take, length-drop}
 use lib.Ieee.{Float}
 use Rattle.color.specs.declared.Oklab.{Oklab}
 use Rattle.color.specs.Color.{colourAt}
-use Rattle.job.specs.Job.{firstOf, sizeOf, coloursPart, Placed}
+use Rattle.job.specs.Job.{firstOf, sizeOf, coloursPart, Inside}
 use Rattle.quantizer_sample.specs.Samples.{Told}
 
 length-part : (s : List Float) (a m : ℕ) → a + m ≤ length s → length (take m (drop a s)) ≡ m
 length-part s a m h = simp (length-take, length-drop) (omega arith)
 
 module _ (tiles : List ℕ) (colours : List Float) (samples : List ℕ) (i : ℕ) (K : Told tiles colours samples i) (t : ℕ) (e : t ≡ getD samples (2 * i) 0) where
-  pub tile-asked : Placed 3 tiles t (length colours)
-  tile-asked = subst⁻¹ (λ (x : ℕ). Placed 3 tiles x (length colours)) e (K .tile)
+  pub tile-asked : Inside 3 tiles t (length colours)
+  tile-asked = subst⁻¹ (λ (x : ℕ). Inside 3 tiles x (length colours)) e (K .tile)
 
   module _ (tile : List Float) (f : tile ≡ coloursPart tiles colours t) (k : ℕ) (g : k ≡ getD samples (2 * i + 1) 0) where
     inside : k < sizeOf tiles t

@@ -18,11 +18,11 @@ use Rattle.stages.specs.State.{stateWith}
 use Rattle.stages.specs.Record.{stageOf, placeFits, madeBy, stateRules}
 use Rattle.stages.specs.Calls.{Memory, recordOf, stateOf, jobRules}
 use Rattle.run_record.specs.Sized.{sized, Sized}
-use Rattle.run_check.specs.Room.{Roomy, runAnswer}
+use Rattle.run_check.specs.Room.{SameInRange, runAnswer}
 
 -- a component is past its limit
-pub near-fails : (k : ℕ) (m : Float) (xs : List Float) (rs : List Rule) (i : ℕ) → i ≡ firstBad m xs → (i ≡ length xs → ⊥) → k ≡ answer (rule k (componentsFit m xs) ∷ rs)
-near-fails k m xs rs i e h = fails k (componentsFit m xs) rs (rw (← e) (ne-eqb i (length xs) h))
+pub bound-fails : (k : ℕ) (m : Float) (xs : List Float) (rs : List Rule) (i : ℕ) → i ≡ firstBad m xs → (i ≡ length xs → ⊥) → k ≡ answer (rule k (componentsFit m xs) ∷ rs)
+bound-fails k m xs rs i e h = fails k (componentsFit m xs) rs (rw (← e) (ne-eqb i (length xs) h))
 
 -- the rules read only the sizes of a course, and the lent memory
 held-rules : (J : Job) (n : ℕ) (samples : List ℕ) (m : Memory) (r : Record) → r ≡ recordOf (m .words) → (b : ℕ)
@@ -38,7 +38,7 @@ module _ (J : Job) (n : ℕ) (samples : List ℕ) where
   ruled r = jobRules (course J n samples) r
 
   -- lengths matter only where the sizes are in their ranges
-  pub room-free : (r p : Bool) (rest : List Rule) → Roomy (J .S) (J .C) r p → answer (ruled r ++ rest) ≡ answer (ruled p ++ rest)
+  pub room-free : (r p : Bool) (rest : List Rule) → SameInRange (J .S) (J .C) r p → answer (ruled r ++ rest) ≡ answer (ruled p ++ rest)
   unfolding numbered
   room-free r p rest h = by (eqb (answer sizesOf) 0) refl
     where
@@ -64,7 +64,7 @@ module _ (J : Job) (n : ℕ) (samples : List ℕ) where
     job-sized z = let R = sampled-ready J n samples r (sym e ∙ z) in
         record { subs = R .ready .sizes .subs; few = R .ready .sizes .few; some = R .ready .sizes .some; cap = R .ready .sizes .cap; short = R .few }
 
-    pub job-whole : (p : Bool) → Roomy (J .S) (J .C) r p → a ≡ answer (ruled p)
+    pub job-whole : (p : Bool) → SameInRange (J .S) (J .C) r p → a ≡ answer (ruled p)
     unfolding sampledAnswer
     job-whole p h = e ∙ room-free r p [] h
 
@@ -85,7 +85,7 @@ module _ (J : Job) (n : ℕ) (samples : List ℕ) where
     unfolding runAnswer numbered
     run-room z = all-pass (ruled r ++ stateRules (course J n samples) (stateOf m)) refl (sym e ∙ z) .1 .1 .1 .1 .1 .1 .1 .1 .0
 
-    module _ (p : Bool) (h : Roomy (J .S) (J .C) r p) (own : List Rule) where
+    module _ (p : Bool) (h : SameInRange (J .S) (J .C) r p) (own : List Rule) where
       pub run-stops : (a ≡ 0 → ⊥) → a ≡ answer (ruled p ++ (stateRules (course J n samples) (stateOf m) ++ own))
       unfolding runAnswer numbered
       run-stops k = stops (ruled r ++ stateRules (course J n samples) (stateOf m)) own a refl e k ∙ room-free r p (stateRules (course J n samples) (stateOf m) ++ own) h

@@ -12,12 +12,12 @@ use borrow.Author.Tests.{eq-eqb, ne-eqb, eqb-true, not-true, not-false}
 use Rattle.job.specs.Job.{mostSubpalettes, mostColours}
 use Rattle.job.specs.declared.Sizes.{Sizes}
 use Rattle.stages.specs.Calls.{memory, memoryRoom, coloursRoom}
-use Rattle.run_check.specs.Room.{plain, Roomy, Lends}
+use Rattle.run_check.specs.Room.{plain, SameInRange, Lends}
 
-pub too-many : (s c : ℕ) (p : Bool) → mostSubpalettes < s → Roomy s c false p
+pub too-many : (s c : ℕ) (p : Bool) → mostSubpalettes < s → SameInRange s c false p
 too-many s c p h l = absurd (omega arith)
 
-pub too-wide : (s c : ℕ) (p : Bool) → mostColours < c → Roomy s c false p
+pub too-wide : (s c : ℕ) (p : Bool) → mostColours < c → SameInRange s c false p
 too-wide s c p h l m = absurd (omega arith)
 
 pub cells-few : (s c : ℕ) → s ≤ mostSubpalettes → c ≤ mostColours → s * c ≤ 256
@@ -39,12 +39,12 @@ module _ (z : Sizes) (order hints : List ℕ) (palette least : List Float) (word
     unfolding memoryRoom
     hints-unlike h = record { same = λ _ _. rw (eq-eqb (length order) (z .n) o, ne-eqb (length hints) (z .t) h); six = refused words }
 
-    module _ (i : length hints ≡ z .t) (x : Bool) (p : Roomy (z .s) (z .c) x (eqb (length palette) (3 * (z .s * z .c)))) where
+    module _ (i : length hints ≡ z .t) (x : Bool) (p : SameInRange (z .s) (z .c) x (eqb (length palette) (3 * (z .s * z .c)))) where
       pub palette-unlike : not x ≡ true → Lends (z .s) (z .c) false lent words
       unfolding memoryRoom coloursRoom
       palette-unlike h = record { same = λ l m. rw (eq-eqb (length order) (z .n) o, eq-eqb (length hints) (z .t) i, ← p l m, not-true x h); six = refused words }
 
-      module _ (a : not x ≡ false) (y : Bool) (q : Roomy (z .s) (z .c) y (eqb (length least) (3 * (z .s * z .c)))) where
+      module _ (a : not x ≡ false) (y : Bool) (q : SameInRange (z .s) (z .c) y (eqb (length least) (3 * (z .s * z .c)))) where
         pub least-unlike : not y ≡ true → Lends (z .s) (z .c) false lent words
         unfolding memoryRoom coloursRoom
         least-unlike h = record {
@@ -64,6 +64,6 @@ module _ (z : Sizes) (words : List ℕ) (x p : Bool) (L : Lends (z .s) (z .c) x 
   pub memory-unlike : not x ≡ true → Lends (z .s) (z .c) false (p && coloursRoom (plain z) more) words
   memory-unlike h = record { same = λ l m. rw (← L .same l m, not-true x h); six = refused words }
 
-  pub more-last : not x ≡ false → (y : Bool) → Roomy (z .s) (z .c) y (eqb (length more) (3 * (z .s * z .c))) → Lends (z .s) (z .c) y (p && coloursRoom (plain z) more) words
+  pub more-last : not x ≡ false → (y : Bool) → SameInRange (z .s) (z .c) y (eqb (length more) (3 * (z .s * z .c))) → Lends (z .s) (z .c) y (p && coloursRoom (plain z) more) words
   unfolding coloursRoom
   more-last h y q = record { same = λ l m. rw (← L .same l m, not-false x h) (q l m); six = λ _. L .six (not-false x h) }

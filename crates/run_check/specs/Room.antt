@@ -17,12 +17,12 @@ abbrev pub plain : Sizes → Course
 plain z = courseOf z [] [] [] []
 
 -- r is the test p, for sizes in their ranges
-abbrev pub Roomy : ℕ → ℕ → Bool → Bool → Type 0
-Roomy s c r p = s ≤ mostSubpalettes → c ≤ mostColours → r ≡ p
+abbrev pub SameInRange : ℕ → ℕ → Bool → Bool → Type 0
+SameInRange s c r p = s ≤ mostSubpalettes → c ≤ mostColours → r ≡ p
 
 -- so is the answer on all that is lent; where it is true the record has its six words
 pub record Lends (s c : ℕ) (r p : Bool) (words : List ℕ) : Type 0 where
-  pub same : Roomy s c r p
+  pub same : SameInRange s c r p
   pub six : r ≡ true → length words ≡ 6
 
 -- the number that a call of a run gets before its own rules

@@ -9,7 +9,7 @@ ghost use lib.Dec.{eqb};
 ghost use lib.ListN.{length};
 ghost use Rattle.quantizer.specs.Course.{courseOf};
 ghost use Rattle.stages.specs.Calls.{memory, memoryRoom, coloursRoom, startAnswer, advanceAnswer, handInAnswer, resultAnswer};
-ghost use Rattle.run_check.specs.Room.{plain, Roomy, Lends, runAnswer};
+ghost use Rattle.run_check.specs.Room.{plain, SameInRange, Lends, runAnswer};
 
 const MOST_SUBPALETTES: usize = 16;
 
@@ -19,7 +19,7 @@ const MOST_COLOURS: usize = 16;
 
 // Whether `numbers` are three for each of s·c colours, where s and c are in their ranges.
 fn colours_room(s: usize, c: usize, numbers: usize) -> bool
-    ensures { λ r. ⌜ Roomy s c r (eqb numbers (3 * (s * c))) ⌝ }
+    ensures { λ r. ⌜ SameInRange s c r (eqb numbers (3 * (s * c))) ⌝ }
 {
     if s > MOST_SUBPALETTES {
         return false;

@@ -15,13 +15,13 @@ pub record Whole (J : Job) (hints : List ℕ) (palette : List Float) : Type 0 wh
   pub each : length hints ≡ J .T
 
 -- and the second palette's room
-pub record Lent (J : Job) (hints : List ℕ) (palette least : List Float) : Type 0 where
+pub record RoomToKeep (J : Job) (hints : List ℕ) (palette least : List Float) : Type 0 where
   pub whole : Whole J hints palette
   pub room : length least ≡ 3 * (J .S * J .C)
 
 -- and, past the first round, a record with an error
 pub record Judging (J : Job) (hints : List ℕ) (palette least : List Float) (round : ℕ) (r : Record) : Type 0 where
-  pub lent : Lent J hints palette least
+  pub lent : RoomToKeep J hints palette least
   pub error : round ≢ 0 → r .error < 0x7f800000
 
 -- both palettes have the job's size

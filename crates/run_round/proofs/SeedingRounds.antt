@@ -22,7 +22,7 @@ module _ (J : Job) (h : List ℕ) (p : List Float) (r : Record) (A : Whole J h p
   pub shown : Shown J p (r .rounds + 2) 1
   shown =
       let A1 = A .shown in
-      record { ready = A1 .ready; subs = omega arith; most = more; some = omega arith; present = A1 .ready .sizes .some; room = A1 .room; near = A1 .near }
+      record { ready = A1 .ready; subs = omega arith; most = more; some = omega arith; present = A1 .ready .sizes .some; room = A1 .room; bounded = A1 .bounded }
 
   pub still-each : (h2 : List ℕ) → h2 ≡ hintsOf J p (r .rounds + 2) 1 h (J .T) → length h2 ≡ J .T
   still-each h2 e = rw e (length-hints J p (r .rounds + 2) 1 h (J .T) ∙ A .each)

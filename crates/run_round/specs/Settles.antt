@@ -12,7 +12,7 @@ use Rattle.stages.specs.State.{State}
 use Rattle.stages.specs.declared.Record.{Record}
 use Rattle.calls.specs.Place.{Placed}
 use Rattle.calls.specs.Sound.{Sound}
-use Rattle.run_keeping.specs.Closing.{Lent}
+use Rattle.run_keeping.specs.Closing.{RoomToKeep}
 
 -- a job that passed, at a place of its record, with sound memory
 pub record Standing (K : Course) (s : State) : Type 0 where
@@ -29,7 +29,7 @@ pub data Ripe (J : Job) (r : Record) : Type 0 where
 
 -- a round to be closed, of few
 pub record Closing (J : Job) (hints : List ℕ) (palette least : List Float) (r : Record) : Type 0 where
-  pub lent : Lent J hints palette least
+  pub lent : RoomToKeep J hints palette least
   pub ripe : Ripe J r
   pub few : r .rounds ≤ 16
 

@@ -14,16 +14,16 @@ use Rattle.quantizer_needs.specs.Asked.{Growing}
 use Rattle.stages.specs.declared.Record.{Record}
 use Rattle.stages.specs.State.{State, stateWith, placed}
 use Rattle.stages.specs.Stages.{openGrowing}
-use Rattle.run_keeping.specs.Closing.{Lent, Judging}
+use Rattle.run_keeping.specs.Closing.{RoomToKeep, Judging}
 use Rattle.run_turns.specs.Asked.{Opening, Turning}
 use Rattle.run_turns.specs.Rounds.{replaceOn, growOn, openTurn}
 
-pub can-open : (J : Job) (hints : List ℕ) (pal least : List Float) → Lent J hints pal least → (round : ℕ) → round < J .C - 1 → Opening J pal round hints
+pub can-open : (J : Job) (hints : List ℕ) (pal least : List Float) → RoomToKeep J hints pal least → (round : ℕ) → round < J .C - 1 → Opening J pal round hints
 can-open J hints pal least A round t =
     let A1 = A .whole .shown in
     record {
       growing = record {
-        shown = record { ready = A1 .ready; subs = A1 .subs; most = A1 .most; some = omega arith; present = omega arith; room = A1 .room; near = A1 .near };
+        shown = record { ready = A1 .ready; subs = A1 .subs; most = A1 .most; some = omega arith; present = omega arith; room = A1 .room; bounded = A1 .bounded };
         more = omega arith;
         each = A .whole .each;
       };

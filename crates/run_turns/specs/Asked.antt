@@ -7,7 +7,7 @@ use lib.ListN.{length}
 use Rattle.job.specs.Job.{Job}
 use Rattle.stages.specs.declared.Record.{Record}
 use Rattle.quantizer_needs.specs.Asked.{Growing}
-use Rattle.run_keeping.specs.Closing.{Lent}
+use Rattle.run_keeping.specs.Closing.{RoomToKeep}
 
 -- room for a subpalette more than are there, and one to copy
 pub record Doubling (s c : ℕ) (palette : List Float) (round from : ℕ) : Type 0 where
@@ -24,6 +24,6 @@ pub record Opening (J : Job) (pal : List Float) (round : ℕ) (hints : List ℕ)
 
 -- a subpalette to copy; and in a round of replacing past the first, an error is kept
 pub record Turning (J : Job) (hints : List ℕ) (palette least : List Float) (turn from : ℕ) (r : Record) : Type 0 where
-  pub lent : Lent J hints palette least
+  pub lent : RoomToKeep J hints palette least
   pub source : from < J .S
   pub error : (J .S - 1) + (J .C - 1) < turn → r .error < 0x7f800000

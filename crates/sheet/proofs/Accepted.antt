@@ -41,11 +41,11 @@ refused-not n x e = let z : _≡_ {A = ℕ} 0 1 = cc in omega arith
 
 -- the limit, and the reading within it
 pub within-limit : (s : List ℕ) (x : Sheet) → readSheet edition1 s ≡ accepted x → (length s ≤ 65536) × (readOf (sheet edition1) s ≡ accepted x)
-within-limit s x e = go (leb (length s) 65536) refl e
+within-limit s x e = by (leb (length s) 65536) refl e
   where
-    go : (b : Bool) → leb (length s) 65536 ≡ b → cond b (readOf (sheet edition1) s) (refused 13) ≡ accepted x → (length s ≤ 65536) × (readOf (sheet edition1) s ≡ accepted x)
-    go true f g = (leb→le (length s) 65536 (subst T (sym f) tt), g)
-    go false f g = absurd (refused-not 13 x g)
+    by : (b : Bool) → leb (length s) 65536 ≡ b → cond b (readOf (sheet edition1) s) (refused 13) ≡ accepted x → (length s ≤ 65536) × (readOf (sheet edition1) s ≡ accepted x)
+    by true f g = (leb→le (length s) 65536 (subst T (sym f) tt), g)
+    by false f g = absurd (refused-not 13 x g)
 
 module _ (s : List ℕ) where
   abbrev behind : Header → Parts → List Bool → Type 0
@@ -80,11 +80,11 @@ module _ (s : List ℕ) where
       }
 
   pub accepted-says : (a b t w : ℕ) → Sound a b t w ≡ checkedOf (readSheet edition1 s) → Accepted s a b t w
-  accepted-says a b t w e = go (readSheet edition1 s) refl e
+  accepted-says a b t w e = by (readSheet edition1 s) refl e
     where
-      go : (x : Answer Sheet) → readSheet edition1 s ≡ x → Sound a b t w ≡ checkedOf x → Accepted s a b t w
-      go (refused n) f g = absurd (sound-not n a b t w (sym g))
-      go (accepted x) f g =
+      by : (x : Answer Sheet) → readSheet edition1 s ≡ x → Sound a b t w ≡ checkedOf x → Accepted s a b t w
+      by (refused n) f g = absurd (sound-not n a b t w (sym g))
+      by (accepted x) f g =
           let k = sound-is a b t w (x .subs) (x .each) (x .tiles) (x .weight) g in
           let m = within-limit s x f in
           let (r, y, short, zeros) = ended-accepted (sheet edition1 .parse (bits s)) x (m .1) in

@@ -87,20 +87,20 @@ module _ (J : Job) (R : Ready J) (palette : List Float) (L : Lent (J .S) (J .C) 
   printed-long = ap length (sheet-print J R palette L edition1) ∙ sheet-size J R palette L
 
   pub file-long : length (encode (sheet edition1) (sheetOf J palette)) ≡ bytesFor wide
-  file-long = go (sheet edition1 .print (sheetOf J palette)) printed-long
+  file-long = for-any (sheet edition1 .print (sheetOf J palette)) printed-long
     where
-      go : (p : List Bool) → length p ≡ wide → length (bytesOf (bytesFor (length p)) (p ++ replicate (8 * bytesFor (length p) - length p) false)) ≡ bytesFor wide
-      go p e = length-bytesOf (bytesFor (length p)) (p ++ replicate (8 * bytesFor (length p) - length p) false) ∙ ap bytesFor e
+      for-any : (p : List Bool) → length p ≡ wide → length (bytesOf (bytesFor (length p)) (p ++ replicate (8 * bytesFor (length p) - length p) false)) ≡ bytesFor wide
+      for-any p e = length-bytesOf (bytesFor (length p)) (p ++ replicate (8 * bytesFor (length p) - length p) false) ∙ ap bytesFor e
 
   pub file-stored : (old new : List ℕ) (n : ℕ) → n ≡ wide → Bytewise old → Bytewise new → length new ≡ length old → bytesFor n ≤ length old
       → bits new ≡ sets (bits old) 0 (sheetBits edition1 (sheetOf J palette) ++ replicate (8 * bytesFor n - n) false)
       → new ≡ sets old 0 (encode (sheet edition1) (sheetOf J palette))
   file-stored old new n en ho hn ln room e =
-      go (sheet edition1 .print (sheetOf J palette)) (printed-long ∙ sym en) (sym (sheet-print J R palette L edition1))
+      for-any (sheet edition1 .print (sheetOf J palette)) (printed-long ∙ sym en) (sym (sheet-print J R palette L edition1))
     where
-      go : (p : List Bool) → length p ≡ n → sheetBits edition1 (sheetOf J palette) ≡ p
+      for-any : (p : List Bool) → length p ≡ n → sheetBits edition1 (sheetOf J palette) ≡ p
           → new ≡ sets old 0 (bytesOf (bytesFor (length p)) (p ++ replicate (8 * bytesFor (length p) - length p) false))
-      go p lp ep =
+      for-any p lp ep =
           let q : List Bool = p ++ replicate (8 * bytesFor n - n) false in
           let lq : length q ≡ 8 * bytesFor n = length-append p (replicate (8 * bytesFor n - n) false) ∙ omega (arith, length-replicate (8 * bytesFor n - n) false) in
           stored-front old new (bytesFor n) q ho hn ln lq room (e ∙ ap (λ (x : List Bool). sets (bits old) 0 (x ++ replicate (8 * bytesFor n - n) false)) ep)

@@ -81,8 +81,8 @@ components-back (suc n) (b ∷ v) h =
     let l : b < 2 ^ 32 = ltb→lt b (2 ^ 32) (and-l (ltb b (2 ^ 32)) (small b) g) in
     let t = and-r (ltb b (2 ^ 32)) (small b) g in
     let r = components-back n v (and-r (component .good b) (times n component .good v) h) in
-    (ap₂ {C = List ℕ} (λ i j. i ∷ j) (small-back b l t) (r .0), ap suc (r .1), ap suc (r .2), near b v (small-is b l .0 t) (r .3))
+    (ap₂ {C = List ℕ} (λ i j. i ∷ j) (small-back b l t) (r .0), ap suc (r .1), ap suc (r .2), bounded-on b v (small-is b l .0 t) (r .3))
   where
-    near : (b : ℕ) (v : List ℕ) → Within (ofBits binary32 b) 2 1 → Bounded (floats v) 2 → Bounded (floats (b ∷ v)) 2
-    near b v w r zero l = w
-    near b v w r (suc i) l = r i (omega arith)
+    bounded-on : (b : ℕ) (v : List ℕ) → Within (ofBits binary32 b) 2 1 → Bounded (floats v) 2 → Bounded (floats (b ∷ v)) 2
+    bounded-on b v w r zero l = w
+    bounded-on b v w r (suc i) l = r i (omega arith)

@@ -20,7 +20,7 @@ use Rattle.format.specs.Format.{above, times}
 use Rattle.format.proofs.Tests.{and-in}
 use Rattle.job.specs.Job.{Job, job, tileSize, firstOf, sizeOf, countsPart, coloursPart}
 use Rattle.job.specs.Gives.{Ready, Lent}
-use Rattle.job.proofs.Tiles.{counts-length, tile-three, tile-near}
+use Rattle.job.proofs.Tiles.{counts-length, tile-three, tile-bounded}
 use Rattle.pattern.specs.Pattern.{weighs}
 use Rattle.sheet_format.specs.Sheet.{edition1, component, Colour, colours, tile, sheet}
 use Rattle.sheet_format.specs.Lists.{floats, patterns, tileCounts, tileFloats, allCounts, allFloats, tableOf}
@@ -95,7 +95,7 @@ module _ (J : Job) (R : Ready J) (sized : J .size ≡ tileSize) (F : Singles (J 
       (subst (λ (j : ℕ). T ((ltb j (2 ^ 7) && leb j 64) && colours edition1 j 0 .good x)) (sym (length-coloursOf cs xs))
       (and-in (ltb (length cs) (2 ^ 7) && leb (length cs) 64) (colours edition1 (length cs) 0 .good x)
       (and-in (ltb (length cs) (2 ^ 7)) (leb (length cs) 64) (lt→ltb (length cs) (2 ^ 7) (omega arith)) (le→leb (length cs) 64 few))
-      (colours-good cs xs 0 (tile-three J R i l) (λ k n. R .low i k l n) (omega (arith, R .full i l, sized)) (singles-part i) (tile-near J R i l))))
+      (colours-good cs xs 0 (tile-three J R i l) (λ k n. R .low i k l n) (omega (arith, R .full i l, sized)) (singles-part i) (tile-bounded J R i l))))
       (tiles-good m (suc i) (omega arith))
 
   -- ---- counts, colours and table, one tile after another
@@ -175,4 +175,4 @@ module _ (J : Job) (R : Ready J) (sized : J .size ≡ tileSize) (F : Singles (J 
         (and-in (above 4 .good (J .S)) (C && (N && W)) (above-good 4 (J .S) (R .sizes .subs) (R .sizes .few))
         (and-in C (N && W) (above-good 4 (J .C) (R .sizes .some) (R .sizes .cap))
         (and-in N W (above-good 10 (J .T) (R .sizes .tiled) (R .sizes .tiles)) (weight-good (J .weight) F32 (above-zero (J .weight) (R .weight) (R .heavy), R .heavy)))))
-        (and-in p v (components-good (3 * (J .S * J .C)) palette (L .room) P (L .near)) (tiles-good (J .T) 0 (zero-add (J .T))))
+        (and-in p v (components-good (3 * (J .S * J .C)) palette (L .room) P (L .bounded)) (tiles-good (J .T) 0 (zero-add (J .T))))

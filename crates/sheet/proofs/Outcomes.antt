@@ -25,13 +25,13 @@ use Rattle.sheet.specs.Sheets.{Room, room, ReadOutcome, readOutcome, roo
 use Rattle.sheet.proofs.Accepted.{Accepted}
 
 -- what room there is
-pub record Roomy (t f c p : ℕ) : Type 0 where
+pub record SheetRoom (t f c p : ℕ) : Type 0 where
   pub tiles : 2048 ≤ t
   pub colours : 15420 ≤ f
   pub counts : 5140 ≤ c
   pub palette : 768 ≤ p
 
-pub roomy-says : (tiles colours counts palette : ℕ) (r : Bool) → r ≡ roomy tiles colours counts palette → not r ≡ false → Roomy tiles colours counts palette
+pub roomy-says : (tiles colours counts palette : ℕ) (r : Bool) → r ≡ roomy tiles colours counts palette → not r ≡ false → SheetRoom tiles colours counts palette
 unfolding roomy
 roomy-says tiles colours counts palette r e h =
     let a : roomy tiles colours counts palette ≡ true = sym e ∙ not-false r h in
@@ -56,14 +56,14 @@ module _ (s : List ℕ) (h : Room) (r : Bool) (e : r ≡ roomy (length (h .tiles
         sym (ap (λ (b : Bool). readInto (cond b (readSheet edition1 s) (refused 3)) h) (sym e ∙ not-false r g) ∙ ap (λ (y : Answer Sheet). readInto y h) f)
 
     pub refused-out : (n : ℕ) → Refused n ≡ checkedOf (readSheet edition1 s) → readOutcome (reading.Refused n) h ≡ readDef s h
-    refused-out n f = go (readSheet edition1 s) refl f
+    refused-out n f = by (readSheet edition1 s) refl f
       where
         same : (n m : ℕ) → _≡_ {A = Checked} (Refused n) (Refused m) → n ≡ m
         same n m e = cc
 
-        go : (x : Answer Sheet) → readSheet edition1 s ≡ x → Refused n ≡ checkedOf x → readOutcome (reading.Refused n) h ≡ readDef s h
-        go (refused m) k f = ap (λ (i : ℕ). readOutcome (reading.Refused i) h) (same n m f) ∙ by-sheet (refused m) k
-        go (accepted x) k f = absurd (sound-not n (x .subs) (x .each) (x .tiles) (x .weight) f)
+        by : (x : Answer Sheet) → readSheet edition1 s ≡ x → Refused n ≡ checkedOf x → readOutcome (reading.Refused n) h ≡ readDef s h
+        by (refused m) k f = ap (λ (i : ℕ). readOutcome (reading.Refused i) h) (same n m f) ∙ by-sheet (refused m) k
+        by (accepted x) k f = absurd (sound-not n (x .subs) (x .each) (x .tiles) (x .weight) f)
 
     pub accepted-out : (a b t w : ℕ) (z : Sizes) (tb : List ℕ) (cs : List ℕ) (f : List Float) (p : List Float) → Accepted s a b t w → z ≡ sizesOf a b t 0 (ofBits binary32 w)
         → p ≡ sets (h .palette) 0 (floats (listAt (times (3 * (a * b)) component) s 86))

@@ -62,9 +62,9 @@ over j (inf s) w = absurd w
 over j (fin false m e) w = le-fin← true 1 (pos j) false m e tt
 over j (fin true m e) w = le-fin← true 1 (pos j) true m e (omega arith)
 
-near : (xs : List Float) → Bounded xs 2 → componentsFit two xs ≡ true
+in-bound : (xs : List Float) → Bounded xs 2 → componentsFit two xs ≡ true
 unfolding firstBad componentFits within neg
-near xs b =
+in-bound xs b =
     eq-eqb (firstNot (componentFits two xs) (length xs)) (length xs)
     (sym (first-none (componentFits two xs) (length xs)
     (every-all (componentFits two xs) (length xs) λ i l.
@@ -228,7 +228,7 @@ taken x h fit =
     let z : 0 + i ≡ i = omega arith in
     let g = at i (x .tiles) 0 0 v (content-good x h) refl refl refl l in
     ap (partFits tileSize) (ap (countsPart (tableOf 0 v) (allCounts v)) (sym z) ∙ g .0) ∙ part-fits (getD v i []) (g .1) in
-    let near-rules : Passed (boundRules (floats (x .palette)) (allFloats v)) = (near (floats (x .palette)) (P .3), (near (allFloats v) (A .small), tt)) in
+    let near-rules : Passed (boundRules (floats (x .palette)) (allFloats v)) = (in-bound (floats (x .palette)) (P .3), (in-bound (allFloats v) (A .small), tt)) in
     let table-rules : Passed (tables (jobIn x) ++ boundRules (floats (x .palette)) (allFloats v)) = (
       weighty (ofBits binary32 (x .weight)) (W .0) (W .1),
       (le-leb (length (allCounts v)) mostTileColours (omega (arith, A .counts)), (table-fits v (x .tiles) (length (allCounts v)) (A .number) (A .counts) few, (parts-fit, near-rules))),

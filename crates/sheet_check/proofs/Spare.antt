@@ -24,12 +24,12 @@ num-clear (true ∷ l) h = absurd (true≢false (sym h))
 num-clear (false ∷ l) h = num-clear l h
 
 clear-num : (l : List Bool) → clear l ≡ eqb (num l) 0
-clear-num l = go (clear l) refl (num l) refl
+clear-num l = by (clear l) refl (num l) refl
   where
-    go : (b : Bool) → clear l ≡ b → (n : ℕ) → num l ≡ n → b ≡ eqb n 0
-    go true h n e = sym (eq-eqb n 0 (sym e ∙ num-clear l h))
-    go false h zero e = absurd (true≢false (sym (zero-bits (length l)) ∙ ap clear (ap (bitsOf (length l)) (sym e) ∙ bitsOf-num (length l) l refl) ∙ h))
-    go false h (suc n) e = sym (ne-eqb (suc n) 0 (omega arith))
+    by : (b : Bool) → clear l ≡ b → (n : ℕ) → num l ≡ n → b ≡ eqb n 0
+    by true h n e = sym (eq-eqb n 0 (sym e ∙ num-clear l h))
+    by false h zero e = absurd (true≢false (sym (zero-bits (length l)) ∙ ap clear (ap (bitsOf (length l)) (sym e) ∙ bitsOf-num (length l) l refl) ∙ h))
+    by false h (suc n) e = sym (ne-eqb (suc n) 0 (omega arith))
 
 module _ (s : List ℕ) (p : ℕ) where
   left : length (drop p (bits s)) ≡ 8 * length s - p

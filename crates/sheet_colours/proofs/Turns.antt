@@ -41,11 +41,11 @@ module _ {A : Type 0} (F : Format A) (L : Lawful F) (l : List Bool) (p : ℕ) (w
       )
 
   pub step-at : (q : ℕ) → At q ≡ stepOf l (F .parse (drop p l)) → (a : A) × (F .parse (drop p l) ≡ got a (drop q l)) × (q ≤ length l)
-  step-at q e = go (F .parse (drop p l)) refl e
+  step-at q e = by (F .parse (drop p l)) refl e
     where
-      go : (x : Res A) → F .parse (drop p l) ≡ x → At q ≡ stepOf l x → (a : A) × (F .parse (drop p l) ≡ got a (drop q l)) × (q ≤ length l)
-      go (fault n) f g = absurd (fault-not n q (sym g))
-      go (got a r) f g =
+      by : (x : Res A) → F .parse (drop p l) ≡ x → At q ≡ stepOf l x → (a : A) × (F .parse (drop p l) ≡ got a (drop q l)) × (q ≤ length l)
+      by (fault n) f g = absurd (fault-not n q (sym g))
+      by (got a r) f g =
           let z : q ≡ length l - length r = at-is q (length l - length r) g in
           (a, f ∙ ap (got a) (sym (left a r f .0) ∙ ap (λ (i : ℕ). drop i l) (sym z)), omega arith)
 

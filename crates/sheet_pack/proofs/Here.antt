@@ -12,7 +12,7 @@ use Rattle.bits.proofs.Numbers.{length-bitsOf}
 use Rattle.color.specs.Color.{Bounded}
 use Rattle.job.specs.Job.{Job, sizeOf, countsPart, coloursPart}
 use Rattle.job.specs.Gives.{Ready}
-use Rattle.job.proofs.Tiles.{counts-length, tile-three, tile-near}
+use Rattle.job.proofs.Tiles.{counts-length, tile-three, tile-bounded}
 use Rattle.sheet_format.specs.Sheet.{edition1, Colour}
 use Rattle.sheet_pack.specs.Packed.{coloursOf, tilesFrom, coloursBits, tileBits, Counted}
 use Rattle.sheet_pack.proofs.Prints.{length-coloursBits}
@@ -25,7 +25,7 @@ module _ (J : Job) (R : Ready J) (i : ℕ) (h : i < J .T) where
   pub record Here (part : List ℕ) (xs : List Float) : Type 0 where
     pub three : length xs ≡ 3 * length part
     pub counted : Counted part
-    pub near : Bounded xs 2
+    pub bounded : Bounded xs 2
     pub few : length part ≤ 256
     pub reach : sum (sizeOf (J .tiles)) i + length part ≤ length (J .counts)
     pub after : sum (sizeOf (J .tiles)) (i + 1) ≡ sum (sizeOf (J .tiles)) i + length part
@@ -47,7 +47,7 @@ module _ (J : Job) (R : Ready J) (i : ℕ) (h : i < J .T) where
   here part xs e g = record {
     three = spread part xs e g;
     counted = subst⁻¹ Counted e (λ k l. R .low i k h l);
-    near = subst⁻¹ (λ (l : List Float). Bounded l 2) g (tile-near J R i h);
+    bounded = subst⁻¹ (λ (l : List Float). Bounded l 2) g (tile-bounded J R i h);
     few = omega (arith, size part e, R .short i h, R .sizes .small);
     reach = omega (arith, size part e, R .inside i h, R .starts i h);
     after = sym (sum-more (sizeOf (J .tiles)) i (sum (sizeOf (J .tiles)) i) (length part) refl (size part e));

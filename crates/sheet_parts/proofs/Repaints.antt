@@ -66,7 +66,7 @@ module _ (b : List ℕ) (x : Sheet) (h : T (areBytes b)) (e : readSheet edition1
   its-palette = palette-back (jobIn x) (passed .ready) refl (singles-all (x .content)) weighed q (passed .lent) Q
 
   pub its-bound : Bounded (floats (sheetOf (jobIn x) q .palette)) 2
-  its-bound = subst⁻¹ (λ (v : List Float). Bounded v 2) its-palette (passed .lent .near)
+  its-bound = subst⁻¹ (λ (v : List Float). Bounded v 2) its-palette (passed .lent .bounded)
 
   -- in as many bytes
   pub repainted-long : length (encode (sheet edition1) (sheetOf (jobIn x) q)) ≡ length b

@@ -23,7 +23,7 @@ use Rattle.calls.proofs.Accepted.{job-passed, holds}
 use Rattle.calls.specs.Accepted.{Roomy}
 use Rattle.calls.proofs.Answers.{start-closed, advance-opened, advance-closed, handIn-closed}
 use Rattle.calls.proofs.Next.{held-state, done, refused, handIn-leaves}
-use Rattle.training.specs.Training.{cut, all, goOn, handCut, turn, trained, goCall, stopCall, turnCall, turnCalls, trainCalls}
+use Rattle.training.specs.Training.{cut, all, toStop, handCut, turn, trained, goCall, stopCall, turnCall, turnCalls, trainCalls}
 use Rattle.training.proofs.Cuts.{length-cut, cut-fits}
 use Rattle.training.proofs.Stops.{handed-late, handed-refined, handed-last, to-reduction, to-drawn, stays}
 
@@ -44,8 +44,8 @@ module _ (K : Course) (P : Passed (jobRules K true)) where
   }
 
   -- an advance. At a stop it is refused, and there the definition makes no draw
-  gone : {m : Memory} {s : State} → Holds m s → Holds (goCall K m) (goOn K s)
-  unfolding goOn
+  gone : {m : Memory} {s : State} → Holds m s → Holds (goCall K m) (toStop K s)
+  unfolding toStop
   gone {m} {s} H = record { is = ap (goCall K) (H .is) ∙ by (decide (draws (s .rec .stage))); fit = advance-fit K true D all s (H .fit) }
     where
       by : (draws (s .rec .stage) ≡ true) ⊎ (draws (s .rec .stage) ≡ false) → goCall K (memoryOf s) ≡ memoryOf (advance K all s)
@@ -82,7 +82,7 @@ module _ (K : Course) (P : Passed (jobRules K true)) where
           ∙ ap (λ (x : List Float). memoryOf (handIn K (cut x) s)) same
 
   -- a turn that comes to a stop
-  turned : {m : Memory} {s : State} → Holds m s → stops (goOn K s .rec .stage) ≡ true → Holds (turnCall K m) (turn K s)
+  turned : {m : Memory} {s : State} → Holds m s → stops (toStop K s .rec .stage) ≡ true → Holds (turnCall K m) (turn K s)
   unfolding turn turnCall
   turned H d = handed (gone H) d
 
@@ -94,7 +94,7 @@ module _ (K : Course) (P : Passed (jobRules K true)) where
     begun : State
     begun = start K 0 (m .hints)
 
-    at-reduction : goOn K begun .rec .stage ≡ 3
+    at-reduction : toStop K begun .rec .stage ≡ 3
     unfolding begun
     at-reduction = to-reduction K (D .ready .sizes .subs) (D .ready .sizes .some) few (D .few) (m .hints)
 
@@ -102,22 +102,22 @@ module _ (K : Course) (P : Passed (jobRules K true)) where
     unfolding turnCalls begun
     reduced = turned (started m r) (ap stops at-reduction)
 
-    at-drawn : goOn K (turn K begun) .rec .stage ≡ 5
+    at-drawn : toStop K (turn K begun) .rec .stage ≡ 5
     unfolding turn handCut
     at-drawn =
         to-drawn K (D .ready .sizes .subs) (D .ready .sizes .some) few (D .few) (turn K begun) (reduced .fit .rests)
-        (handed-late K (cut (goOn K begun .palette)) (goOn K begun) at-reduction)
+        (handed-late K (cut (toStop K begun .palette)) (toStop K begun) at-reduction)
 
     drawn : Holds (turnCalls K 2 (startCall K m 0 .after)) (turn K (turn K begun))
     unfolding turnCalls
     drawn = turned reduced (ap stops at-drawn)
 
     -- behind the refinements no draw is left
-    at-refined : goOn K (turn K (turn K begun)) .rec .stage ≡ 6
+    at-refined : toStop K (turn K (turn K begun)) .rec .stage ≡ 6
     at-refined = ap (λ (s : State). s .rec .stage) (stays K (turn K (turn K begun)) (ap draws refined)) ∙ refined
       where
         refined : turn K (turn K begun) .rec .stage ≡ 6
-        refined = unfold turn handCut in handed-refined K (cut (goOn K (turn K begun) .palette)) (goOn K (turn K begun)) at-drawn
+        refined = unfold turn handCut in handed-refined K (cut (toStop K (turn K begun) .palette)) (toStop K (turn K begun)) at-drawn
 
     finished : Holds (trainCalls K m) (trained K (m .hints))
     unfolding turnCalls trained begun
@@ -130,7 +130,7 @@ module _ (K : Course) (P : Passed (jobRules K true)) where
 
     -- it has its length, and is within 2
     pub trained-fits : (length (trained K (m .hints) .palette) ≡ 3 * (K .job .S * K .job .C)) × (componentsFit two (trained K (m .hints) .palette) ≡ true)
-    trained-fits = (finished .fit .sound .held .size, subst⁻¹ (λ (x : List Float). componentsFit two x ≡ true) last (cut-fits (goOn K (turn K (turn K begun)) .palette) (gone drawn .fit .sound .held .bound)))
+    trained-fits = (finished .fit .sound .held .size, subst⁻¹ (λ (x : List Float). componentsFit two x ≡ true) last (cut-fits (toStop K (turn K (turn K begun)) .palette) (gone drawn .fit .sound .held .bound)))
       where
-        last : trained K (m .hints) .palette ≡ cut (goOn K (turn K (turn K begun)) .palette)
-        last = unfold trained turn handCut begun in handed-last K (cut (goOn K (turn K (turn K begun)) .palette)) (goOn K (turn K (turn K begun))) at-refined
+        last : trained K (m .hints) .palette ≡ cut (toStop K (turn K (turn K begun)) .palette)
+        last = unfold trained turn handCut begun in handed-last K (cut (toStop K (turn K (turn K begun)) .palette)) (toStop K (turn K (turn K begun))) at-refined

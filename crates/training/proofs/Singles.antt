@@ -25,7 +25,7 @@ use Rattle.stages.specs.Stages.{closeSeeding, closeGrowing, closeReplacing, fin
 use Rattle.sheet.proofs.Floats.{Singles, singles-take, singles-drop, singles-append}
 use Rattle.calls.proofs.Cases.{both, all-stages}
 use Rattle.calls.proofs.Whilsts.{whilst-keeps}
-use Rattle.training.specs.Training.{cutOne, cut, all, goOn, handCut, turn, trained}
+use Rattle.training.specs.Training.{cutOne, cut, all, toStop, handCut, turn, trained}
 
 -- ---- lists
 singles-set : (s : List Float) (i : ℕ) (x : Float) → T (fits binary32 x) → Singles s → Singles (set s i x)
@@ -223,10 +223,10 @@ cut-singles (x ∷ s) h (suc i) = cut-singles s (λ j. h (suc j)) i
 -- ---- the whole run
 module _ (K : Course) where
   turn-single : (s : State) → Both-single s → Both-single (turn K s)
-  unfolding turn handCut goOn
+  unfolding turn handCut toStop
   turn-single s h =
       let gone = whilst-keeps going (step K) Both-single (λ z Z _. step-single K z Z) all s h in
-      handIn-single K (cut (goOn K s .palette)) (goOn K s) (cut-singles (goOn K s .palette) (gone .palette)) gone
+      handIn-single K (cut (toStop K s .palette)) (toStop K s) (cut-singles (toStop K s .palette) (gone .palette)) gone
 
   pub trained-singles : (hints : List ℕ) → Singles (trained K hints .palette)
   unfolding trained

@@ -20,7 +20,7 @@ use Rattle.calls.proofs.Place.{some-left, start-rests, advance-rests}
 use Rattle.calls.proofs.Made.{advance-made, all-spent, start-early, reaches}
 use Rattle.calls.specs.HandIns.{handIns}
 use Rattle.calls.proofs.HandIns.{advance-hand-ins, hand-in-one}
-use Rattle.training.specs.Training.{all, goOn}
+use Rattle.training.specs.Training.{all, toStop}
 
 -- two hand-ins to come: the final draws, or the stop behind them
 two-left : (k : ℕ) → handIns k ≡ 2 → (4 ≤ k) × (k ≤ 5)
@@ -37,8 +37,8 @@ drawn-out k e d = let (l, h) = two-left k e in omega (arith, still)
 
 module _ (K : Course) where
   -- where no draw is to be made, none is
-  pub stays : (s : State) → draws (s .rec .stage) ≡ false → goOn K s ≡ s
-  unfolding goOn
+  pub stays : (s : State) → draws (s .rec .stage) ≡ false → toStop K s ≡ s
+  unfolding toStop
   stays s d = whilst-stop going (step K) all s d
 
   pub handed-late : (reduced : List Float) (s : State) → s .rec .stage ≡ 3 → handIns (handIn K reduced s .rec .stage) ≡ 2
@@ -60,21 +60,21 @@ module _ (K : Course) (S1 : 1 ≤ K .job .S) (C1 : 1 ≤ K .job .C) (few : K .jo
   enough : (k : ℕ) → k ≤ 50 → k * b K ≤ all
   enough k l = le-trans (mul-le-mul l (le-trans (div-le-self (K .n) 10) n)) (omega arith)
 
-  pub to-reduction : (hints : List ℕ) → goOn K (start K 0 hints) .rec .stage ≡ 3
-  unfolding goOn
+  pub to-reduction : (hints : List ℕ) → toStop K (start K 0 hints) .rec .stage ≡ 3
+  unfolding toStop
   to-reduction hints =
       reaches K S1 C1 all (start K 0 hints) (start-rests K S1 C1 0 hints) (start-early K 0 hints)
       (omega (arith, enough (K .job .S + K .job .C + 8) (omega arith)))
 
-  pub to-drawn : (s : State) → Rests K s → handIns (s .rec .stage) ≡ 2 → goOn K s .rec .stage ≡ 5
-  unfolding goOn
+  pub to-drawn : (s : State) → Rests K s → handIns (s .rec .stage) ≡ 2 → toStop K s .rec .stage ≡ 5
+  unfolding toStop
   to-drawn s R h = elim (decide (draws (s .rec .stage))) [
-    | inl d ↦ go (advance K all s) refl (advance-rests K S1 C1 all s R) (advance-hand-ins K all s d ∙ h)
+    | inl d ↦ for-any (advance K all s) refl (advance-rests K S1 C1 all s R) (advance-hand-ins K all s d ∙ h)
     | inr d ↦ ap (λ (x : State). x .rec .stage) (stays K s d) ∙ drawn-out (s .rec .stage) h d
   ]
     where
-      go : (z : State) → z ≡ advance K all s → Rests K z → handIns (advance K all s .rec .stage) ≡ 2 → advance K all s .rec .stage ≡ 5
-      go z q Z k = elim (decide (draws (z .rec .stage))) [
+      for-any : (z : State) → z ≡ advance K all s → Rests K z → handIns (advance K all s .rec .stage) ≡ 2 → advance K all s .rec .stage ≡ 5
+      for-any z q Z k = elim (decide (draws (z .rec .stage))) [
         | inl t ↦ absurd (omega (
           arith,
           some-left K z Z t,

@@ -23,8 +23,8 @@ all = 0xffff_ffff_ffff_ffff
 
 module _ (K : Course) where
   -- all draws up to the next stop
-  unfoldable pub goOn : State → State
-  goOn s = advance K all s
+  unfoldable pub toStop : State → State
+  toStop s = advance K all s
 
   -- a stop is passed
   unfoldable pub handCut : State → State
@@ -32,7 +32,7 @@ module _ (K : Course) where
 
   -- a turn: all draws up to the next stop, none where the run stands at one; and that stop is passed
   unfoldable pub turn : State → State
-  turn s = handCut (goOn s)
+  turn s = handCut (toStop s)
 
   -- the run finished, from these hints: one turn for each of its three stops
   unfoldable pub trained : List ℕ → State

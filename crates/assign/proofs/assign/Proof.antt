@@ -1,6 +1,6 @@
 -- `assign::assign` meets its contract: a refusal writes nothing, and the rest is the walk over the tiles. Assumes nothing.
 use native.Mathlib.Omega.{arith}
-use Rattle.assign.proofs.Answers.{stop, go, done}
+use Rattle.assign.proofs.Answers.{stop, can-assign, done}
 use borrow.Author.Needs.{needs}
 use Rattle.assign.proofs.assign.Statement.{statement}
 use Rattle.assign.proofs.assign.Tie as tie
@@ -12,7 +12,7 @@ returns : tie.Need-returns
 returns c = stop _ _ _ _ (c .before .check-assign .ensures) (c .if1 .taken)
 
 assign-tiles-requires : tie.Need-assign-tiles-requires
-assign-tiles-requires c κs = go _ _ _ _ (c .before .before .before .check-assign .ensures) (c .before .before .if1 .left)
+assign-tiles-requires c κs = can-assign _ _ _ _ (c .before .before .before .check-assign .ensures) (c .before .before .if1 .left)
 
 same-length : tie.Need-same-length
 same-length c = search needs

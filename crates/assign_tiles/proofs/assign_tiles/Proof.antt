@@ -4,13 +4,13 @@ use mathlib.Core.Path.{refl}
 use borrow.Author.Needs.{needs}
 use Rattle.job.specs.Job.{jobOf}
 use Rattle.palette_tile.proofs.Walks.{walked-start}
-use Rattle.assign_tiles.specs.Tiles.{held}
+use Rattle.assign_tiles.specs.Tiles.{tileMemory}
 use Rattle.assign_tiles.proofs.Fills.{Filled, filled-lengths, filled-ready, filled-more, filled-end}
 use Rattle.assign_tiles.proofs.assign_tiles.Statement.{statement}
 use Rattle.assign_tiles.proofs.assign_tiles.Tie as tie
 
 abbrev Inv-loop : tie.InvT-loop
-Inv-loop z tiles colours counts palette hints₀ out₀ i₀ hints out i = Filled (jobOf z tiles colours counts) palette (held hints₀ out₀) (held hints out) i
+Inv-loop z tiles colours counts palette hints₀ out₀ i₀ hints out i = Filled (jobOf z tiles colours counts) palette (tileMemory hints₀ out₀) (tileMemory hints out) i
 
 abbrev μ-loop : tie.MeasureT-loop
 μ-loop z tiles colours counts palette hints₀ out₀ i₀ hints out i = z .t - i

@@ -6,7 +6,7 @@ use lib.ListN.{length}
 use borrow.Author.Needs.{needs}
 use Rattle.group.specs.Turn.{filled}
 use Rattle.group.specs.Entries.{fillTo}
-use Rattle.group_refusal.specs.Refusal.{given, lent}
+use Rattle.group_refusal.specs.Refusal.{given, entryRoom}
 use Rattle.group.proofs.Fills.{start, held-few, turn-on, ended}
 use Rattle.group_refusal.proofs.Passes.{sizes}
 use Rattle.group.proofs.fill.Statement.{statement}
@@ -15,7 +15,7 @@ use Rattle.group.proofs.fill.Tie as tie
 abbrev Inv-loop : tie.InvT-loop
 Inv-loop p pixels oklab zero entry-bytes₀ entry-oklab₀ entry-counts₀ index₀ n₀ k₀ entry-bytes entry-oklab entry-counts index n k =
     (k ≤ p) × (length entry-bytes ≡ length entry-bytes₀) × (length entry-oklab ≡ length entry-oklab₀) × (length entry-counts ≡ length entry-counts₀) × (length index ≡ length index₀)
-    × (filled n (lent entry-bytes entry-oklab entry-counts index) ≡ fillTo (given p pixels oklab zero) k (lent entry-bytes₀ entry-oklab₀ entry-counts₀ index₀))
+    × (filled n (entryRoom entry-bytes entry-oklab entry-counts index) ≡ fillTo (given p pixels oklab zero) k (entryRoom entry-bytes₀ entry-oklab₀ entry-counts₀ index₀))
 
 abbrev μ-loop : tie.MeasureT-loop
 μ-loop p pixels oklab zero entry-bytes₀ entry-oklab₀ entry-counts₀ index₀ n₀ k₀ entry-bytes entry-oklab entry-counts index n k =

@@ -4,7 +4,7 @@ use native.Mathlib.Omega.{arith}
 use borrow.Author.Tests.{eq-eqb}
 use Rattle.stages.specs.Calls.{stateOf, memoryRoom, coloursRoom, handInAnswer}
 use Rattle.job.proofs.Passing.{refuses, passes, skips, none}
-use Rattle.run_check.proofs.Answers.{near-fails, run-room, run-stops, run-goes}
+use Rattle.run_check.proofs.Answers.{bound-fails, run-room, run-stops, run-goes}
 use borrow.Author.Needs.{needs}
 use Rattle.run_check.proofs.refuses_hand_in.Statement.{statement}
 use Rattle.run_check.proofs.refuses_hand_in.Tie as tie
@@ -40,7 +40,7 @@ returns-3 c =
     let after-is-stop = c .before .before .before in let after-if1 = after-is-stop .before .before in let after-check-run = after-if1 .before in
     let after-wider-room = after-check-run .before in
     run-goes _ _ _ _ _ _ (after-check-run .check-run .ensures) _ (after-wider-room .wider-room .ensures .same) _ (after-if1 .if1 .left) _
-    (passes _ _ _ _ _ (after-is-stop .is-stop .ensures) (c .before .before .if2 .left) (near-fails _ _ _ _ _ (c .before .first-bad .ensures) (c .if3 .taken)))
+    (passes _ _ _ _ _ (after-is-stop .is-stop .ensures) (c .before .before .if2 .left) (bound-fails _ _ _ _ _ (c .before .first-bad .ensures) (c .if3 .taken)))
 
 returns-4 : tie.Need-returns-4
 unfolding handInAnswer memoryRoom coloursRoom stateOf

@@ -5,7 +5,7 @@ use lib.ListN.{length}
 use Rattle.job.specs.Job.{sizesOf}
 use Rattle.sheet.specs.Sheets.{room}
 use Rattle.sheet.proofs.Accepted.{Accepted, accepted-says}
-use Rattle.sheet.proofs.Outcomes.{Roomy, roomy-says, no-room, refused-out, accepted-out}
+use Rattle.sheet.proofs.Outcomes.{SheetRoom, roomy-says, no-room, refused-out, accepted-out}
 use borrow.Author.Needs.{needs}
 use Rattle.sheet.proofs.read.Statement.{statement}
 use Rattle.sheet.proofs.read.Tie as tie
@@ -37,7 +37,7 @@ says c =
 there : (c : tie.After-known-told2) →
     let past-if1 = c .before .before .before .before in
     let a = past-if1 .before .before .before .before .before .before .before .args in
-    Roomy (length (a .tiles .now)) (length (a .colours .now)) (length (a .counts .now)) (length (a .palette .now))
+    SheetRoom (length (a .tiles .now)) (length (a .colours .now)) (length (a .counts .now)) (length (a .palette .now))
 there c =
     let past-if1 = c .before .before .before .before in
     roomy-says _ _ _ _ _ (past-if1 .before .has-room .ensures) (past-if1 .if1 .left)

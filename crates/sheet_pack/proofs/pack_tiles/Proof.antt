@@ -45,7 +45,7 @@ pack-tile-requires c κs =
     let start = at-loop .before .before .before .before .before in
     let H = here _ (start .pre .2) (at-loop .loop .i) (omega arith) _ _ (after-counts-part .counts-part .ensures) (c .tile-part .ensures) in
     let reach = H .reach in
-    (omega arith, omega arith, H .three, H .counted, H .near)
+    (omega arith, omega arith, H .three, H .counted, H .bounded)
 
 mul-q : tie.Need-mul-q Inv-loop μ-loop
 mul-q c =
