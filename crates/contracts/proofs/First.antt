@@ -9,7 +9,7 @@ use Rattle.job.specs.Checks.{plainRules}
 use Rattle.assign_tiles.specs.Tiles.{TileMemory}
 use Rattle.assign.specs.Assign.{roomFor, assignDef}
 use Rattle.quantizer.specs.Course.{Course}
-use Rattle.stages.specs.Calls.{Memory, startCall, advanceCall, handInCall, resultCall}
+use Rattle.run_stages.specs.Calls.{Memory, startCall, advanceCall, handInCall, resultCall}
 use Rattle.dunkafeto.specs.Told.{toldRun, toldColours, toldTiles}
 use Rattle.dunkafeto.proofs.Apart.{start-apart, advance-apart, hand-in-apart, result-apart, assign-apart}
 use Rattle.demands.specs.First.{startRules, advanceRules, handInRules, resultRules}

@@ -9,7 +9,7 @@ use denote.Triple.Entry.{Args}
 use denote.Triple.Clauses.{atExit}
 use denote.Triple.Table.{run-framed}
 use denote.Triple.Weaken.{weaken}
-use Rattle.told.specs.Packed.{packed, Told, told}
+use Rattle.dunkafeto_told.specs.Packed.{packed, Told, told}
 use Rattle.demands.specs.Calls.{Call}
 use Rattle.contracts.specs.Answers.{Answers, Tells}
 use Rattle.contracts.specs.Keeps.{Compiled, Defined, Law, promising, Keeps, Sees}

@@ -9,7 +9,7 @@ use Rattle.job.specs.Checks.{plainAnswer}
 use Rattle.fits_check.specs.One.{oneAnswer, singleAnswer}
 use Rattle.assign_tiles.specs.Tiles.{TileMemory}
 use Rattle.quantizer.specs.Course.{Course}
-use Rattle.stages.specs.Calls.{Memory, advanceAnswer, advanceCall}
+use Rattle.run_stages.specs.Calls.{Memory, advanceAnswer, advanceCall}
 use Rattle.fits_outcome.specs.Fits.{numberOfSingle, singleDef}
 use Rattle.fits_outcome.specs.Pairs.{numberOfPair, pairDef}
 use Rattle.assign.specs.Assign.{assignAnswer, assignDef}

@@ -3,7 +3,7 @@ use Prim.Native.Nat.{ℕ, _+_, _/_}
 use mathlib.Core.Path.{_≡_, sym, ap, _∙_}
 use lib.ListN.{getD}
 use Rattle.quantizer.specs.Course.{Course}
-use Rattle.stages.specs.Calls.{Memory, advanceCall}
+use Rattle.run_stages.specs.Calls.{Memory, advanceCall}
 use Rattle.dunkafeto.specs.Told.{toldRun}
 use Rattle.dunkafeto.proofs.Apart.{advance-apart}
 use Rattle.demands.proofs.Third.{third-demand}

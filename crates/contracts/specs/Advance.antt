@@ -9,11 +9,11 @@ use denote.Triple.Clauses.{AtExit}
 use Rattle.job.specs.Job.{sizesOf}
 use Rattle.job.specs.Rules.{answer}
 use Rattle.quantizer.specs.Course.{Course, courseOf}
-use Rattle.stages.specs.Calls.{Memory, memory, stateOf, Outcome, outcome, advanceCall}
-use Rattle.stages.specs.History.{sampled}
+use Rattle.run_stages.specs.Calls.{Memory, memory, stateOf, Outcome, outcome, advanceCall}
+use Rattle.run_stages.specs.History.{sampled}
 use Rattle.demands.specs.Second.{Draws}
 use Rattle.demands.specs.First.{refused, advanceRules}
-use Rattle.told.specs.Packed.{Told, told}
+use Rattle.dunkafeto_told.specs.Packed.{Told, told}
 use Rattle.dunkafeto.specs.Told.{toldRun}
 use Rattle.run_advance.proofs.advance as function
 use Rattle.run_advance.proofs.advance.Symbol as symbol

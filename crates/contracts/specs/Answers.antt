@@ -2,7 +2,7 @@
 use Prim.Native.Nat.{ℕ, _%_}
 use mathlib.Core.Path.{_≡_}
 use mathlib.Core.Logic.{_≢_}
-use Rattle.told.specs.Packed.{Told, told}
+use Rattle.dunkafeto_told.specs.Packed.{Told, told}
 
 -- `table` is the number that the table of docs/SCOPE.md gives; `refusal k` is number k with nothing reported and nothing written
 pub record Answers (O : Type 0) (number : O → ℕ) (table : ℕ) (refusal : ℕ → O) (x : O) : Type 0 where

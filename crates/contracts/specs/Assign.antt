@@ -16,7 +16,7 @@ use Rattle.palette_tile.specs.Tiles.{winner}
 use Rattle.assign_tiles.specs.Tiles.{TileMemory, tileMemory}
 use Rattle.assign.specs.Assign.{Outcome, outcome, roomFor, assignDef}
 use Rattle.demands.specs.Second.{Chosen}
-use Rattle.told.specs.Packed.{Told, told}
+use Rattle.dunkafeto_told.specs.Packed.{Told, told}
 use Rattle.dunkafeto.specs.Told.{toldTiles}
 use Rattle.assign.proofs.assign as function
 use Rattle.assign.proofs.assign.Symbol as symbol

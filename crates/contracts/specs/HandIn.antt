@@ -8,9 +8,9 @@ use denote.Triple.Clauses.{AtExit}
 use Rattle.job.specs.Job.{sizesOf}
 use Rattle.job.specs.Rules.{answer}
 use Rattle.quantizer.specs.Course.{Course, courseOf}
-use Rattle.stages.specs.Calls.{Memory, memory, Outcome, outcome, handInCall}
+use Rattle.run_stages.specs.Calls.{Memory, memory, Outcome, outcome, handInCall}
 use Rattle.demands.specs.First.{refused, handInRules}
-use Rattle.told.specs.Packed.{Told, told}
+use Rattle.dunkafeto_told.specs.Packed.{Told, told}
 use Rattle.dunkafeto.specs.Told.{toldRun}
 use Rattle.run_hand_in.proofs.hand_in as function
 use Rattle.run_hand_in.proofs.hand_in.Symbol as symbol

@@ -8,9 +8,9 @@ use denote.Triple.Clauses.{AtExit}
 use Rattle.job.specs.Job.{sizesOf}
 use Rattle.job.specs.Rules.{answer}
 use Rattle.quantizer.specs.Course.{Course, courseOf}
-use Rattle.stages.specs.Calls.{Memory, memory, Copied, copiedTo, resultCall}
+use Rattle.run_stages.specs.Calls.{Memory, memory, Copied, copiedTo, resultCall}
 use Rattle.demands.specs.First.{resultRules}
-use Rattle.told.specs.Packed.{Told, told}
+use Rattle.dunkafeto_told.specs.Packed.{Told, told}
 use Rattle.dunkafeto.specs.Told.{toldColours}
 use Rattle.run_result.proofs.result as function
 use Rattle.run_result.proofs.result.Symbol as symbol

@@ -7,9 +7,9 @@ use denote.Triple.Clauses.{AtExit}
 use Rattle.job.specs.Job.{sizesOf}
 use Rattle.job.specs.Rules.{answer}
 use Rattle.quantizer.specs.Course.{Course, courseOf}
-use Rattle.stages.specs.Calls.{Memory, memory, Outcome, outcome, startCall}
+use Rattle.run_stages.specs.Calls.{Memory, memory, Outcome, outcome, startCall}
 use Rattle.demands.specs.First.{refused, startRules}
-use Rattle.told.specs.Packed.{Told, told}
+use Rattle.dunkafeto_told.specs.Packed.{Told, told}
 use Rattle.dunkafeto.specs.Told.{toldRun}
 use Rattle.run_start.proofs.start as function
 use Rattle.run_start.proofs.start.Symbol as symbol

@@ -6,14 +6,14 @@ use native.Mathlib.Omega.{arith}
 use lib.ListN.{length}
 use lib.Ieee.{Float}
 use Rattle.quantizer.specs.Course.{Course}
-use Rattle.stages.specs.State.{State}
-use Rattle.stages.specs.Stages.{advance, drawsOf, handIn}
-use Rattle.stages.specs.Calls.{Memory, memory, recordOf, wordsOf, stateOf, memoryOf, Outcome, advanceAnswer, handInAnswer, advanceCall, handInCall}
-use Rattle.calls.proofs.Traces.{Trace, drew, took, advance-trace, one-end}
-use Rattle.calls.proofs.Traces as traces
-use Rattle.calls.specs.Accepted.{Accepted}
-use Rattle.calls.proofs.Answers.{advance-opened, handIn-opened}
-use Rattle.calls.proofs.Next.{held-state, done, advanced-state, handed-state}
+use Rattle.run_stages.specs.State.{State}
+use Rattle.run_stages.specs.Stages.{advance, drawsOf, handIn}
+use Rattle.run_stages.specs.Calls.{Memory, memory, recordOf, wordsOf, stateOf, memoryOf, Outcome, advanceAnswer, handInAnswer, advanceCall, handInCall}
+use Rattle.run_calls.proofs.Traces.{Trace, drew, took, advance-trace, one-end}
+use Rattle.run_calls.proofs.Traces as traces
+use Rattle.run_calls.specs.Accepted.{Accepted}
+use Rattle.run_calls.proofs.Answers.{advance-opened, handIn-opened}
+use Rattle.run_calls.proofs.Next.{held-state, done, advanced-state, handed-state}
 use Rattle.demands.specs.Third.{Row, none, advanced, handedIn, Any-division}
 
 -- six words are those of the record that they are read as

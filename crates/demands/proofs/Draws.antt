@@ -29,21 +29,21 @@ use Rattle.quantizer.specs.Drawing.{targetOf, moved, movedHints}
 use Rattle.quantizer.proofs.Bounds.{sample-sized}
 use Rattle.quantizer.proofs.Indexes.{target-in}
 use Rattle.quantizer.proofs.Lengths.{length-moved, length-moved-hints}
-use Rattle.stages.specs.State.{State, draws}
-use Rattle.stages.specs.Stages.{due, subsOf, haveOf, alphaOf, draw, drawWith, going, step, advance, drawsOf}
-use Rattle.stages.specs.Calls.{Memory, stateOf, Outcome, advanceAnswer, advanceCall}
-use Rattle.stages.specs.History.{sampleAt, sampled}
-use Rattle.calls.proofs.Cases.{decide}
-use Rattle.calls.proofs.Whilsts.{whilst-zero, whilst-step, whilst-stop, times-zero, times-step, times-stop}
-use Rattle.calls.proofs.Split.{settle-idle}
-use Rattle.calls.proofs.Presence.{draw-shown}
-use Rattle.calls.proofs.Sound.{sample-in}
-use Rattle.calls.specs.Fit.{Fit}
-use Rattle.calls.proofs.Fit.{step-fit}
-use Rattle.calls.specs.Accepted.{Accepted}
-use Rattle.calls.proofs.Accepted.{job-passed}
-use Rattle.calls.proofs.Answers.{advance-opened}
-use Rattle.calls.proofs.Next.{done, advanced-state}
+use Rattle.run_stages.specs.State.{State, draws}
+use Rattle.run_stages.specs.Stages.{due, subsOf, haveOf, alphaOf, draw, drawWith, going, step, advance, drawsOf}
+use Rattle.run_stages.specs.Calls.{Memory, stateOf, Outcome, advanceAnswer, advanceCall}
+use Rattle.run_stages.specs.History.{sampleAt, sampled}
+use Rattle.run_calls.proofs.Cases.{decide}
+use Rattle.run_calls.proofs.Whilsts.{whilst-zero, whilst-step, whilst-stop, times-zero, times-step, times-stop}
+use Rattle.run_calls.proofs.Split.{settle-idle}
+use Rattle.run_calls.proofs.Presence.{draw-shown}
+use Rattle.run_calls.proofs.Sound.{sample-in}
+use Rattle.run_calls.specs.Fit.{Fit}
+use Rattle.run_calls.proofs.Fit.{step-fit}
+use Rattle.run_calls.specs.Accepted.{Accepted}
+use Rattle.run_calls.proofs.Accepted.{job-passed}
+use Rattle.run_calls.proofs.Answers.{advance-opened}
+use Rattle.run_calls.proofs.Next.{done, advanced-state}
 use Rattle.demands.specs.Second.{gaps, Chosen, Moves, Draws, none, drawn}
 use Rattle.demands.proofs.Fits.{chosen}
 

@@ -12,20 +12,20 @@ use borrow.Author.Tests.{eq-eqb}
 use Rattle.job.specs.Job.{two}
 use Rattle.job.specs.Checks.{componentsFit}
 use Rattle.quantizer.specs.Course.{Course, b}
-use Rattle.stages.specs.State.{State, draws, stops}
-use Rattle.stages.specs.Stages.{going, step, advance, drawsOf}
-use Rattle.stages.specs.Calls.{Memory, stateOf, Outcome, coloursRoom, advanceAnswer, handInAnswer, resultAnswer, advanceCall, handInCall}
-use Rattle.calls.proofs.Cases.{decide}
-use Rattle.calls.proofs.Whilsts.{times-step}
-use Rattle.calls.specs.Place.{Placed, seeding, growing, replacing, reducing, finishing, over}
-use Rattle.calls.proofs.Place.{some-left}
-use Rattle.calls.proofs.Made.{advance-made, handIn-made, all-spent}
-use Rattle.calls.specs.HandIns.{handIns}
-use Rattle.calls.proofs.HandIns.{few-hand-ins, advance-hand-ins, hand-in-one}
-use Rattle.calls.proofs.Settling.{made-few}
-use Rattle.calls.specs.Accepted.{Accepted}
-use Rattle.calls.proofs.Answers.{advance-opened, advance-closed, handIn-opened, handIn-closed, result-closed}
-use Rattle.calls.proofs.Next.{done, advanced-state, handed-state, advance-leaves, call-draws}
+use Rattle.run_stages.specs.State.{State, draws, stops}
+use Rattle.run_stages.specs.Stages.{going, step, advance, drawsOf}
+use Rattle.run_stages.specs.Calls.{Memory, stateOf, Outcome, coloursRoom, advanceAnswer, handInAnswer, resultAnswer, advanceCall, handInCall}
+use Rattle.run_calls.proofs.Cases.{decide}
+use Rattle.run_calls.proofs.Whilsts.{times-step}
+use Rattle.run_calls.specs.Place.{Placed, seeding, growing, replacing, reducing, finishing, over}
+use Rattle.run_calls.proofs.Place.{some-left}
+use Rattle.run_calls.proofs.Made.{advance-made, handIn-made, all-spent}
+use Rattle.run_calls.specs.HandIns.{handIns}
+use Rattle.run_calls.proofs.HandIns.{few-hand-ins, advance-hand-ins, hand-in-one}
+use Rattle.run_calls.proofs.Settling.{made-few}
+use Rattle.run_calls.specs.Accepted.{Accepted}
+use Rattle.run_calls.proofs.Answers.{advance-opened, advance-closed, handIn-opened, handIn-closed, result-closed}
+use Rattle.run_calls.proofs.Next.{done, advanced-state, handed-state, advance-leaves, call-draws}
 use Rattle.demands.specs.Ends.{Calls, advanced, ahead, handedIn, none}
 
 module _ (K : Course) where

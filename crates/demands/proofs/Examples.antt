@@ -14,7 +14,7 @@ use Rattle.prng.proofs.Shuffled.{shuffle-one}
 use Rattle.cycle.specs.Cycle.{drawAt}
 use Rattle.cycle.proofs.Examples.{tenths, twenty-of-ten, forty-four-of-twenty-five}
 use Rattle.stats.proofs.Examples.{smallest-two-of-2-1-1, smallest-two-of-5}
-use Rattle.extremes.proofs.Examples.{argmax-of-1-3-3, argmin-of-2-1-1}
+use Rattle.stats_extremes.proofs.Examples.{argmax-of-1-3-3, argmin-of-2-1-1}
 use Rattle.stats.specs.declared.Near.{Near}
 use Rattle.job.specs.Job.{job}
 use Rattle.job.specs.Rules.{answer}
@@ -25,9 +25,9 @@ use Rattle.palette_tile.specs.Tiles.{fitAt}
 use Rattle.assign_tiles.specs.Tiles.{TileMemory, tileMemory}
 use Rattle.assign.specs.Assign.{roomFor, assignAnswer, assignDef}
 use Rattle.quantizer.specs.Course.{Course}
-use Rattle.stages.specs.Calls.{Memory, coloursRoom, memoryRoom, startAnswer}
-use Rattle.stages.specs.History.{Run}
-use Rattle.calls.proofs.Follow.{run-samples, run-end}
+use Rattle.run_stages.specs.Calls.{Memory, coloursRoom, memoryRoom, startAnswer}
+use Rattle.run_stages.specs.History.{Run}
+use Rattle.run_calls.proofs.Follow.{run-samples, run-end}
 use Rattle.demands.proofs.Second.{second-demand}
 use Rattle.demands.specs.Examples.{Each-twice, Examples, Most-twice, Past, blank, half, oneColour, sheetJob, sheetPalette}
 use Rattle.demands.specs.Ends.{Finished}

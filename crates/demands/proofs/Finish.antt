@@ -16,12 +16,12 @@ use Rattle.job.specs.Checks.{componentsFit}
 use Rattle.quantizer.specs.Course.{Course}
 use Rattle.quantizer.specs.Sums.{zeros}
 use Rattle.quantizer.proofs.Lists.{length-zeros, zeros-bounded}
-use Rattle.stages.specs.Calls.{Memory, coloursRoom, startAnswer, advanceAnswer, handInAnswer, startCall, advanceCall, handInCall}
-use Rattle.stages.specs.History.{Run}
-use Rattle.stages.specs.History as history
-use Rattle.calls.proofs.Limits.{fits-two}
-use Rattle.calls.specs.Accepted.{Accepted}
-use Rattle.calls.proofs.Next.{start-leaves, advance-leaves, handIn-leaves}
+use Rattle.run_stages.specs.Calls.{Memory, coloursRoom, startAnswer, advanceAnswer, handInAnswer, startCall, advanceCall, handInCall}
+use Rattle.run_stages.specs.History.{Run}
+use Rattle.run_stages.specs.History as history
+use Rattle.run_calls.proofs.Limits.{fits-two}
+use Rattle.run_calls.specs.Accepted.{Accepted}
+use Rattle.run_calls.proofs.Next.{start-leaves, advance-leaves, handIn-leaves}
 use Rattle.demands.specs.Third.{Row, none, advanced, handedIn}
 use Rattle.demands.specs.Ends.{ahead, Ending, Finished, Ends}
 use Rattle.demands.proofs.Ends.{advance-nearer, advance-draws, advance-stops, hand-in-nearer, ends, few-calls, goes-on, finished}

@@ -26,7 +26,7 @@ use Rattle.sheet.specs.declared.Reading.the-variants as reading
 use Rattle.sheet.specs.declared.Writing.the-variants as writing
 use Rattle.sheet.specs.Sheets.{Room, ReadOutcome, readOutcome, readInto, readDef, WriteOutcome, writeOutcome, storedIn, writeDef}
 use Rattle.quantizer.specs.Course.{Course}
-use Rattle.stages.specs.Calls.{Memory, Outcome, outcome, answered, Copied, copiedTo, startAnswer, advanceAnswer, handInAnswer, resultAnswer, startCall, advanceCall, handInCall, resultCall}
+use Rattle.run_stages.specs.Calls.{Memory, Outcome, outcome, answered, Copied, copiedTo, startAnswer, advanceAnswer, handInAnswer, resultAnswer, startCall, advanceCall, handInCall, resultCall}
 use Rattle.demands.specs.Calls.{Call, Ruled}
 use Rattle.demands.specs.First.{refused, startRules, advanceRules, handInRules, resultRules, numberOfReading, faultOf, found, numberOfWriting, file, writeRules, First}
 use Rattle.demands.proofs.Calls.{decided, decides, ruled}

@@ -11,14 +11,14 @@ use Rattle.job.specs.Job.{two}
 use Rattle.job.specs.Rules.{Rule, rule, answer}
 use Rattle.job.specs.Checks.{componentsFit}
 use Rattle.quantizer.specs.Course.{Course}
-use Rattle.stages.specs.State.{State, draws, stops}
-use Rattle.stages.specs.Stages.{advance as advances, drawsOf, start as starts, handIn}
-use Rattle.stages.specs.Record.{stateRules}
-use Rattle.stages.specs.Calls.{Memory, wordsOf, stateOf, memoryOf, outcome, answered, copiedTo, coloursRoom, memoryRoom, jobRules, runRules}
-use Rattle.stages.specs.Calls.{startAnswer, advanceAnswer, handInAnswer, resultAnswer, startCall, advanceCall, handInCall, resultCall}
-use Rattle.calls.proofs.Hintless.{Alike, advance-alike, draws-alike, sampled-alike, start-alike, handIn-alike}
-use Rattle.calls.specs.Accepted.{Accepted}
-use Rattle.calls.proofs.Next.{started-state, advanced-state, handed-state, start-leaves, advance-leaves, handIn-leaves}
+use Rattle.run_stages.specs.State.{State, draws, stops}
+use Rattle.run_stages.specs.Stages.{advance as advances, drawsOf, start as starts, handIn}
+use Rattle.run_stages.specs.Record.{stateRules}
+use Rattle.run_stages.specs.Calls.{Memory, wordsOf, stateOf, memoryOf, outcome, answered, copiedTo, coloursRoom, memoryRoom, jobRules, runRules}
+use Rattle.run_stages.specs.Calls.{startAnswer, advanceAnswer, handInAnswer, resultAnswer, startCall, advanceCall, handInCall, resultCall}
+use Rattle.run_calls.proofs.Hintless.{Alike, advance-alike, draws-alike, sampled-alike, start-alike, handIn-alike}
+use Rattle.run_calls.specs.Accepted.{Accepted}
+use Rattle.run_calls.proofs.Next.{started-state, advanced-state, handed-state, start-leaves, advance-leaves, handIn-leaves}
 use Rattle.demands.specs.Second.{Hints-apart, Same-but-hints, Request, start, advance, hand-in, called, left, Whatever-hints}
 
 -- ---- states and memories

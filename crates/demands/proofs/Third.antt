@@ -10,10 +10,10 @@ use Rattle.cycle.specs.Even.{Even}
 use Rattle.cycle.proofs.Even.{even}
 use Rattle.cycle.proofs.Tenths.{tenth-is}
 use Rattle.quantizer.specs.Course.{Course}
-use Rattle.stages.specs.Calls.{Memory}
-use Rattle.stages.specs.History.{Run}
-use Rattle.calls.proofs.Next.{advance-split, call-draws, start-straight}
-use Rattle.calls.proofs.Follow.{run-made, run-samples, run-waits, run-accepted, run-end}
+use Rattle.run_stages.specs.Calls.{Memory}
+use Rattle.run_stages.specs.History.{Run}
+use Rattle.run_calls.proofs.Next.{advance-split, call-draws, start-straight}
+use Rattle.run_calls.proofs.Follow.{run-made, run-samples, run-waits, run-accepted, run-end}
 use Rattle.demands.proofs.Prefixes.{take-firsts}
 use Rattle.demands.specs.Third.{Evenly, Third}
 use Rattle.demands.proofs.Division.{any-division}

@@ -21,7 +21,7 @@ use Rattle.sheet.proofs.Inverse.{sets-front, accepted-job}
 use Rattle.sheet.proofs.Accepted.{within-limit}
 use Rattle.sheet_parts.proofs.Repaints.{read-repainted, same-weight, same-content, same-job, its-palette, its-bound, repainted-long}
 use Rattle.fit_lines.specs.Lines.{refusedLine}
-use Rattle.training.proofs.Singles.{trained-singles}
+use Rattle.train_run.proofs.Singles.{trained-singles}
 use Rattle.train_samples.proofs.Accepted as refusals
 use Rattle.train_text.specs.Trained.{courseOf, trainedPalette, trainedFile}
 use Rattle.train_text.specs.Train.{textOf, TrainOutcome, trainOutcome, trainDef}

@@ -10,11 +10,11 @@ use lib.Ieee.{Float}
 use Rattle.job.specs.Job.{two}
 use Rattle.job.specs.Checks.{componentsFit}
 use Rattle.quantizer.specs.Course.{Course, b}
-use Rattle.stages.specs.State.{draws}
-use Rattle.stages.specs.Calls.{Memory, coloursRoom, startAnswer, advanceAnswer, handInAnswer, resultAnswer, advanceCall, handInCall}
-use Rattle.stages.specs.History.{Run}
-use Rattle.calls.specs.HandIns.{handIns}
-use Rattle.calls.specs.Accepted.{Accepted}
+use Rattle.run_stages.specs.State.{draws}
+use Rattle.run_stages.specs.Calls.{Memory, coloursRoom, startAnswer, advanceAnswer, handInAnswer, resultAnswer, advanceCall, handInCall}
+use Rattle.run_stages.specs.History.{Run}
+use Rattle.run_calls.specs.HandIns.{handIns}
+use Rattle.run_calls.specs.Accepted.{Accepted}
 use Rattle.demands.specs.Third.{Row}
 
 -- the draws and hand-ins to the finish

@@ -10,15 +10,15 @@ use Rattle.lists.specs.Firsts.{hits}
 use Rattle.prng.specs.Shuffle.{deck, shuffleOf}
 use Rattle.cycle.specs.Tenth.{tenth}
 use Rattle.stats.specs.Stats.{valueAt, leastTwo}
-use Rattle.extremes.specs.Extremes.{argmaxOf, argminOf}
+use Rattle.stats_extremes.specs.Extremes.{argmaxOf, argminOf}
 use Rattle.job.specs.Job.{Job, job, tileSize}
 use Rattle.color.specs.Blend.{blend}
 use Rattle.palette_tile.specs.Tiles.{fitAt}
 use Rattle.assign_tiles.specs.Tiles.{tileMemory}
 use Rattle.assign.specs.Assign.{assignDef}
 use Rattle.quantizer.specs.Course.{Course, course}
-use Rattle.stages.specs.Calls.{Memory, memory}
-use Rattle.stages.specs.History.{Run}
+use Rattle.run_stages.specs.Calls.{Memory, memory}
+use Rattle.run_stages.specs.History.{Run}
 use Rattle.demands.specs.Ends.{Finished}
 
 -- ---- numbers as f32

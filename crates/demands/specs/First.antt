@@ -27,8 +27,8 @@ use Rattle.sheet.specs.declared.Writing.{Writing}
 use Rattle.sheet.specs.declared.Writing.the-variants as writing
 use Rattle.sheet.specs.Sheets.{Room, ReadOutcome, readOutcome, roomy, readDef, WriteOutcome, writeOutcome, writeDef}
 use Rattle.quantizer.specs.Course.{Course}
-use Rattle.stages.specs.State.{draws, stops}
-use Rattle.stages.specs.Calls.{Memory, stateOf, Outcome, outcome, Copied, copiedTo, coloursRoom, memoryRoom, jobRules, runRules, startCall, advanceCall, handInCall, resultCall}
+use Rattle.run_stages.specs.State.{draws, stops}
+use Rattle.run_stages.specs.Calls.{Memory, stateOf, Outcome, outcome, Copied, copiedTo, coloursRoom, memoryRoom, jobRules, runRules, startCall, advanceCall, handInCall, resultCall}
 use Rattle.demands.specs.Calls.{Call, Ruled}
 
 -- ---- start, advance, hand-in, result: a refusal reports no draws and leaves the memory as it was

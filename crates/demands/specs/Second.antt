@@ -25,11 +25,11 @@ use Rattle.fits_outcome.specs.declared.Pair.the-variants as pair
 use Rattle.assign_tiles.specs.Tiles.{TileMemory, tileMemory}
 use Rattle.assign.specs.Assign.{assignAnswer, assignDef}
 use Rattle.quantizer.specs.Course.{Course, sampleTile, sampleColour}
-use Rattle.stages.specs.State.{State}
-use Rattle.stages.specs.Stages.{settle, cycleOf, subsOf, haveOf, alphaOf, draw}
-use Rattle.stages.specs.Calls.{Memory, stateOf, Outcome, advanceAnswer, startCall, advanceCall, handInCall, resultCall}
-use Rattle.stages.specs.History.{sampleAt, sampled}
-use Rattle.calls.specs.Accepted.{Accepted}
+use Rattle.run_stages.specs.State.{State}
+use Rattle.run_stages.specs.Stages.{settle, cycleOf, subsOf, haveOf, alphaOf, draw}
+use Rattle.run_stages.specs.Calls.{Memory, stateOf, Outcome, advanceAnswer, startCall, advanceCall, handInCall, resultCall}
+use Rattle.run_stages.specs.History.{sampleAt, sampled}
+use Rattle.run_calls.specs.Accepted.{Accepted}
 
 -- the distance of tile t to each of the n subpalettes of `have` colours that are present: nearest distance times count, summed colour by colour
 abbrev pub distances : Job → List Float → ℕ → ℕ → ℕ → ℕ → Float

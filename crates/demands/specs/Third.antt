@@ -12,11 +12,11 @@ use Rattle.cycle.specs.Cycle.{drawAt}
 use Rattle.cycle.specs.Even.{Even}
 use Rattle.cycle.specs.Tenth.{tenth}
 use Rattle.quantizer.specs.Course.{Course, b}
-use Rattle.stages.specs.State.{draws}
-use Rattle.stages.specs.Stages.{advance}
-use Rattle.stages.specs.Calls.{Memory, stateOf, outcome, startAnswer, advanceAnswer, handInAnswer, startCall, advanceCall, handInCall}
-use Rattle.stages.specs.History.{Run}
-use Rattle.calls.specs.Accepted.{Accepted}
+use Rattle.run_stages.specs.State.{draws}
+use Rattle.run_stages.specs.Stages.{advance}
+use Rattle.run_stages.specs.Calls.{Memory, stateOf, outcome, startAnswer, advanceAnswer, handInAnswer, startCall, advanceCall, handInCall}
+use Rattle.run_stages.specs.History.{Run}
+use Rattle.run_calls.specs.Accepted.{Accepted}
 
 -- ds are all samples that the calls since the start from that seed drew, in their order, and m is the memory that the last call left
 pub record Evenly (K : Course) (seed : ℕ) (m : Memory) (ds : List ℕ) : Type 0 where

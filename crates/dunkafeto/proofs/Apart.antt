@@ -13,11 +13,11 @@ use Rattle.job.specs.Job.{Job, two}
 use Rattle.job.specs.Rules.{Rule, rule, answer}
 use Rattle.job.specs.Checks.{componentsFit, plainRules, plainAnswer}
 use Rattle.quantizer.specs.Course.{Course}
-use Rattle.stages.specs.State.{draws, stops}
-use Rattle.stages.specs.Calls.{Memory, stateOf, Outcome, answered, Copied, coloursRoom, memoryRoom, jobRules, runRules, startAnswer, advanceAnswer, handInAnswer, resultAnswer, startCall, advanceCall, handInCall, resultCall}
-use Rattle.calls.proofs.Cases.{both}
+use Rattle.run_stages.specs.State.{draws, stops}
+use Rattle.run_stages.specs.Calls.{Memory, stateOf, Outcome, answered, Copied, coloursRoom, memoryRoom, jobRules, runRules, startAnswer, advanceAnswer, handInAnswer, resultAnswer, startCall, advanceCall, handInCall, resultCall}
+use Rattle.run_calls.proofs.Cases.{both}
 use Rattle.assign.specs.Assign as assigning
-use Rattle.told.proofs.Apart.{Apart, apart}
+use Rattle.dunkafeto_told.proofs.Apart.{Apart, apart}
 use Rattle.dunkafeto.specs.Told.{toldRun, toldColours, toldTiles}
 
 -- ---- the number is that of a rule, and each of these is below 256

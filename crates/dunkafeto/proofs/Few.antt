@@ -6,13 +6,13 @@ use native.Mathlib.Omega.{arith}
 use lib.Dec.{eqb}
 use borrow.Author.Tests.{eqb-true}
 use Rattle.quantizer.specs.Course.{Course}
-use Rattle.stages.specs.Stages.{advance, drawsOf}
-use Rattle.stages.specs.Calls.{Memory, Outcome, stateOf, answered, advanceAnswer, advanceCall}
-use Rattle.calls.proofs.Cases.{by-test}
-use Rattle.calls.proofs.Place.{advance-rests}
-use Rattle.calls.proofs.Made.{advance-made}
-use Rattle.calls.proofs.Accepted.{job-passed}
-use Rattle.calls.proofs.Answers.{advance-opened}
+use Rattle.run_stages.specs.Stages.{advance, drawsOf}
+use Rattle.run_stages.specs.Calls.{Memory, Outcome, stateOf, answered, advanceAnswer, advanceCall}
+use Rattle.run_calls.proofs.Cases.{by-test}
+use Rattle.run_calls.proofs.Place.{advance-rests}
+use Rattle.run_calls.proofs.Made.{advance-made}
+use Rattle.run_calls.proofs.Accepted.{job-passed}
+use Rattle.run_calls.proofs.Answers.{advance-opened}
 use Rattle.run_draw.proofs.Draws.{few-made}
 
 pub draws-few : (K : Course) (m : Memory) (a : ℕ) → advanceCall K m a .drew ≤ 81950

@@ -8,9 +8,9 @@ use lib.Ieee.{Float}
 use Rattle.job.specs.declared.Sizes.{Sizes}
 use Rattle.job.specs.Job.{jobOf}
 use Rattle.quantizer.specs.Course.{Course, courseOf}
-use Rattle.stages.specs.Calls.{Memory, Outcome, outcome, Copied, copiedTo, startCall, advanceCall, handInCall, resultCall}
+use Rattle.run_stages.specs.Calls.{Memory, Outcome, outcome, Copied, copiedTo, startCall, advanceCall, handInCall, resultCall}
 use Rattle.assign.specs.Assign as assigning
-use Rattle.told.specs.Packed.{packed, told}
+use Rattle.dunkafeto_told.specs.Packed.{packed, told}
 use Rattle.dunkafeto.specs.Told.{toldRun, toldColours, toldTiles}
 use Rattle.dunkafeto.proofs.Few.{draws-few}
 

@@ -1,8 +1,8 @@
 -- What each exported call tells, of the outcome that its definition gives. Definitions only. Assumes nothing.
 use mathlib.Core.List.{List}
 use lib.Ieee.{Float}
-use Rattle.stages.specs.Calls.{Memory, Outcome, Copied}
-use Rattle.told.specs.Packed.{packed, Told, told}
+use Rattle.run_stages.specs.Calls.{Memory, Outcome, Copied}
+use Rattle.dunkafeto_told.specs.Packed.{packed, Told, told}
 use Rattle.assign.specs.Assign as assigning
 
 -- start, advance, hand-in

@@ -1,12 +1,12 @@
 // The calls for C and Rust hosts: forwarders only, each with the contract of what it forwards to. Assumes nothing.
-// The answer is one number, draws times 256 and the answer number (crate told). A slice is a pointer and a length in C.
+// The answer is one number, draws times 256 and the answer number (crate dunkafeto_told). A slice is a pointer and a length in C.
 ghost use mathlib.Core.Path.{_≡_};
 ghost use Rattle.job.specs.Job.{sizesOf, jobOf};
 ghost use Rattle.quantizer.specs.Course.{courseOf};
-ghost use Rattle.stages.specs.Calls.{memory, startCall, advanceCall, handInCall, resultCall};
+ghost use Rattle.run_stages.specs.Calls.{memory, startCall, advanceCall, handInCall, resultCall};
 ghost use Rattle.assign_tiles.specs.Tiles.{tileMemory};
 ghost use Rattle.assign.specs.Assign.{assignDef};
-ghost use Rattle.told.specs.Packed.{told};
+ghost use Rattle.dunkafeto_told.specs.Packed.{told};
 ghost use Rattle.dunkafeto.specs.Told.{toldRun, toldColours, toldTiles};
 
 // Starts a run, as `run_start::start`. It makes no draw.
@@ -88,7 +88,7 @@ pub extern "C" fn dunkafeto_advance(
         words,
         allotment,
     );
-    told::pack(a.number, a.draws)
+    dunkafeto_told::pack(a.number, a.draws)
 }
 
 // Hands in reduced colours at a stop, as `run_hand_in::hand_in`. It makes no draw.

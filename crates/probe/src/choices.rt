@@ -4,14 +4,14 @@ ghost use lib.Dec.{T};
 ghost use lib.Ieee.{isNan};
 ghost use lib.ListN.{length};
 ghost use Rattle.stats.specs.Stats.{valueAt};
-ghost use Rattle.extremes.specs.Extremes.{NoNan};
+ghost use Rattle.stats_extremes.specs.Extremes.{NoNan};
 use stats::Two;
 
 #[no_mangle]
 pub extern "C" fn probe_narrow(x: f64) -> f32
     requires { ⌜ T (not (isNan x)) ⌝ }
 {
-    narrow::narrow(x)
+    ieee_narrow::narrow(x)
 }
 
 // One value more, d at index i: `dist` and `second` hold the values so far, then those with it.
@@ -38,12 +38,12 @@ pub extern "C" fn probe_smallest_two(
 pub extern "C" fn probe_argmax(values: &[f32]) -> usize
     requires { ⌜ NoNan (valueAt (now values)) (length (now values)) ⌝ }
 {
-    extremes::argmax(values)
+    stats_extremes::argmax(values)
 }
 
 #[no_mangle]
 pub extern "C" fn probe_argmin(values: &[f32]) -> usize
     requires { ⌜ NoNan (valueAt (now values)) (length (now values)) ⌝ }
 {
-    extremes::argmin(values)
+    stats_extremes::argmin(values)
 }

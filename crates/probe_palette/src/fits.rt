@@ -92,7 +92,7 @@ pub extern "C" fn probe_view_nearest(
     weight: f32,
     dist: &mut f32,
 ) -> usize {
-    let near = view::nearest_in(sub, Oklab { l, a, b }, weight);
+    let near = palette_view::nearest_in(sub, Oklab { l, a, b }, weight);
     *dist = near.dist;
     near.index
 }
@@ -107,7 +107,7 @@ pub extern "C" fn probe_view_nearest_two(
     dist: &mut f32,
     second: &mut f32,
 ) -> usize {
-    let two = view::nearest_two_in(sub, Oklab { l, a, b }, weight);
+    let two = palette_view::nearest_two_in(sub, Oklab { l, a, b }, weight);
     *dist = two.dist;
     *second = two.second;
     two.index

@@ -30,7 +30,7 @@ pub extern "C" fn probe_mse(
         n: 0,
         weight,
     };
-    mse_sum::mse(z, tiles, colours, counts, pal, n, have, hints)
+    palette_mse_sum::mse(z, tiles, colours, counts, pal, n, have, hints)
 }
 
 #[no_mangle]

@@ -6,7 +6,7 @@ use native.Mathlib.Omega.{arith}
 use lib.ListN.{length}
 use lib.Ieee.{Float}
 use Rattle.stats.specs.Stats.{valueAt}
-use Rattle.extremes.proofs.Choices.{max-below, min-below}
+use Rattle.stats_extremes.proofs.Choices.{max-below, min-below}
 use Rattle.quantizer.specs.Sums.{sumsAt, greatest, smallest}
 use Rattle.quantizer.proofs.Lists.{length-sums}
 

@@ -13,7 +13,7 @@ use Rattle.ieee.proofs.Plus.{plus-real}
 use Rattle.ieee.proofs.Goods.{add-good}
 use Rattle.lists.proofs.Runs.{all-set}
 use Rattle.stats.specs.Stats.{valueAt}
-use Rattle.extremes.specs.Extremes.{NoNan}
+use Rattle.stats_extremes.specs.Extremes.{NoNan}
 use Rattle.quantizer.specs.Sums.{bump, zeros, sumsAt}
 use Rattle.quantizer.proofs.Lists.{zeros-all, length-sums, sum-at}
 use Rattle.quantizer.specs.Goods.{AllGood}

@@ -5,7 +5,7 @@ use lib.ListN.{getD, length, set, take, drop, replicate}
 use lib.Ieee.{Float, nan, binary32, add, ofBits}
 use Rattle.stats.specs.Stats.{valueAt}
 use Rattle.job.specs.Job.{mostSubpalettes, mostColours}
-use Rattle.extremes.specs.Extremes.{argmaxOf, argminOf}
+use Rattle.stats_extremes.specs.Extremes.{argmaxOf, argminOf}
 
 -- d(i) += x
 abbrev pub bump : List Float → ℕ → Float → List Float

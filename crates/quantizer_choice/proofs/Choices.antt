@@ -8,7 +8,7 @@ use lib.ListN.{getD, length}
 use lib.Ieee.{Float, nan}
 use borrow.Author.Tests.{eq-eqb, ne-eqb}
 use Rattle.stats.specs.Stats.{valueAt}
-use Rattle.extremes.proofs.Choices.{max-below, min-below}
+use Rattle.stats_extremes.proofs.Choices.{max-below, min-below}
 use Rattle.quantizer.specs.Sums.{greatest, smallest}
 use Rattle.quantizer.specs.Replacing.{givesWay, swapAt, swapOf}
 use Rattle.quantizer_choice.specs.Choosing.{Choosing}

@@ -5,7 +5,7 @@ use mathlib.Core.List.{List}
 use lib.ListN.{length}
 use lib.Ieee.{Float}
 use Rattle.stats.specs.Stats.{valueAt}
-use Rattle.extremes.specs.Extremes.{NoNan}
+use Rattle.stats_extremes.specs.Extremes.{NoNan}
 
 pub record Choosing (had lost : List Float) : Type 0 where
   pub some : 1 ≤ length had

@@ -12,8 +12,8 @@ pub fn choose(had: &[f32], lost: &[f32]) -> Swap
     requires { ⌜ Choosing (now had) (now lost) ⌝ }
     ensures { λ r. ⌜ r ≡ swapOf (now (had .entry)) (now (lost .entry)) ⌝ }
 {
-    let from = extremes::argmax(had);
-    let to = extremes::argmin(lost);
+    let from = stats_extremes::argmax(had);
+    let to = stats_extremes::argmin(lost);
     if to == from {
         return Swap {
             from,

@@ -12,8 +12,8 @@ use lib.Dec.{eqb}
 use lib.Ieee.{Float}
 use borrow.Author.Tests.{eq-eqb, ne-eqb}
 use Rattle.stats.specs.Stats.{valueAt}
-use Rattle.extremes.specs.Extremes.{NoNan}
-use Rattle.extremes.proofs.Choices.{max-below}
+use Rattle.stats_extremes.specs.Extremes.{NoNan}
+use Rattle.stats_extremes.proofs.Choices.{max-below}
 use Rattle.job.specs.Job.{Job}
 use Rattle.palette_edit.specs.Edits.{colourCopied}
 use Rattle.palette_edit.proofs.Kept.{place-room}

@@ -16,7 +16,7 @@ fn split_color(pal: &mut [f32], c: usize, have: usize, i: usize, total: &[f32])
     ensures { λ r. ⌜ now (pal .exit) ≡ colourCopied (now (pal .entry)) c i (greatest (sumsAt (now (total .entry)) (i * c) have)) have ⌝ }
 {
     let at = i * c;
-    let split = extremes::argmax(&total[at..at + have]);
+    let split = stats_extremes::argmax(&total[at..at + have]);
     palette_edit::duplicate_color(pal, c, have, i, split)
 }
 

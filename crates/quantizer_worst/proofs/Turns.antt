@@ -10,7 +10,7 @@ use lib.Ieee.{Float}
 use Rattle.job.specs.Job.{Job, mostSubpalettes, isEmpty}
 use Rattle.stats.specs.declared.Near.{Near}
 use Rattle.stats.specs.Stats.{valueAt}
-use Rattle.extremes.specs.Extremes.{NoNan}
+use Rattle.stats_extremes.specs.Extremes.{NoNan}
 use Rattle.palette_tile.specs.Tiles.{fitAt, hintStep, Shown}
 use Rattle.palette_tile.proofs.Walks.{Walked, walked-has}
 use Rattle.palette_tile.proofs.Turns.{passed-over, taken-up, hint-kept, hint-written, fit-below}

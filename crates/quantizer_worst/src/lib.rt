@@ -60,5 +60,5 @@ pub fn worst(
         );
         i += 1;
     }
-    extremes::argmax(&distances[0..subs])
+    stats_extremes::argmax(&distances[0..subs])
 }

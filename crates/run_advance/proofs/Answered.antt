@@ -7,11 +7,11 @@ use lib.Ieee.{Float}
 use lib.ListN.{length}
 use borrow.Author.Tests.{eq-eqb, ne-eqb}
 use Rattle.quantizer.specs.Course.{Course}
-use Rattle.stages.specs.State.{stateWith}
-use Rattle.stages.specs.Stages.{advance, drawsOf}
-use Rattle.stages.specs.Calls.{Outcome, recordOf, stateOf, memory, memoryOf, outcome, answered, advanceAnswer, advanceCall}
-use Rattle.calls.proofs.Accepted.{job-passed}
-use Rattle.calls.proofs.Answers.{advance-opened}
+use Rattle.run_stages.specs.State.{stateWith}
+use Rattle.run_stages.specs.Stages.{advance, drawsOf}
+use Rattle.run_stages.specs.Calls.{Outcome, recordOf, stateOf, memory, memoryOf, outcome, answered, advanceAnswer, advanceCall}
+use Rattle.run_calls.proofs.Accepted.{job-passed}
+use Rattle.run_calls.proofs.Answers.{advance-opened}
 use Rattle.run_steps.specs.Running.{Running}
 
 module _ (K : Course) (o h : List ℕ) (p l : List Float) (w : List ℕ) (a : ℕ) (e : a ≡ advanceAnswer K (memory o h p l w)) where

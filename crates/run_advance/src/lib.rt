@@ -2,7 +2,7 @@
 use job::Sizes;
 ghost use mathlib.Core.Path.{_≡_};
 ghost use Rattle.quantizer.specs.Course.{courseOf};
-ghost use Rattle.stages.specs.Calls.{memory, outcome, advanceCall};
+ghost use Rattle.run_stages.specs.Calls.{memory, outcome, advanceCall};
 
 // The number, 0 or that of the first rule that is broken, and the draws made.
 pub struct Advanced {

@@ -11,7 +11,7 @@ use Rattle.quantizer.specs.Course.{Course}
 use Rattle.quantizer.specs.Sums.{zeros}
 use Rattle.quantizer.specs.Seeding.{seeded}
 use Rattle.quantizer_seed.specs.Seeds.{Seeding}
-use Rattle.stages.specs.State.{stateWith}
+use Rattle.run_stages.specs.State.{stateWith}
 use Rattle.run_blank.specs.Blanks.{begun, dealt, Blanking}
 
 -- ---- both palettes

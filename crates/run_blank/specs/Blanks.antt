@@ -7,8 +7,8 @@ use lib.ListN.{length}
 use Rattle.cycle.specs.Cycle.{after}
 use Rattle.quantizer.specs.Course.{Course}
 use Rattle.quantizer_sample.specs.Samples.{Sampling}
-use Rattle.stages.specs.declared.Record.{Record}
-use Rattle.stages.specs.State.{State, stateWith}
+use Rattle.run_stages.specs.declared.Record.{Record}
+use Rattle.run_stages.specs.State.{State, stateWith}
 
 -- a record at the very beginning
 abbrev pub begun : ℕ → Record

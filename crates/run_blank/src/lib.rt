@@ -1,7 +1,7 @@
 // What a start writes before its first round: both palettes nought but for the samples' mean, and the first order.
 use cycle::SampleCycle;
 use job::Sizes;
-use stages::Record;
+use run_stages::Record;
 ghost use mathlib.Core.Path.{_≡_};
 ghost use mathlib.Core.List.{[]};
 ghost use Prim.Native.Nat.{_*_, _^_, _≤_};
@@ -9,7 +9,7 @@ ghost use lib.ListN.{length};
 ghost use Rattle.quantizer.specs.Course.{courseOf};
 ghost use Rattle.quantizer.specs.Sums.{zeros};
 ghost use Rattle.quantizer.specs.Seeding.{seeded};
-ghost use Rattle.stages.specs.State.{stateWith};
+ghost use Rattle.run_stages.specs.State.{stateWith};
 ghost use Rattle.run_blank.specs.Blanks.{dealt, Blanking};
 
 // Both palettes are zeroed, and the first colour becomes the mean of the samples.

@@ -13,10 +13,10 @@ use Rattle.job.specs.Job.{Job}
 use Rattle.job.specs.Checks.{firstBad, componentsFit, sizeRules, sampledAnswer}
 use Rattle.job.proofs.Ready.{sizes-of, sampled-ready}
 use Rattle.quantizer.specs.Course.{course}
-use Rattle.stages.specs.declared.Record.{Record}
-use Rattle.stages.specs.State.{stateWith}
-use Rattle.stages.specs.Record.{stageOf, placeFits, madeBy, stateRules}
-use Rattle.stages.specs.Calls.{Memory, recordOf, stateOf, jobRules}
+use Rattle.run_stages.specs.declared.Record.{Record}
+use Rattle.run_stages.specs.State.{stateWith}
+use Rattle.run_stages.specs.Record.{stageOf, placeFits, madeBy, stateRules}
+use Rattle.run_stages.specs.Calls.{Memory, recordOf, stateOf, jobRules}
 use Rattle.run_record.specs.Sized.{sized, Sized}
 use Rattle.run_check.specs.Room.{SameInRange, runAnswer}
 

@@ -11,7 +11,7 @@ use lib.ListN.{length}
 use borrow.Author.Tests.{eq-eqb, ne-eqb, eqb-true, not-true, not-false}
 use Rattle.job.specs.Job.{mostSubpalettes, mostColours}
 use Rattle.job.specs.declared.Sizes.{Sizes}
-use Rattle.stages.specs.Calls.{memory, memoryRoom, coloursRoom}
+use Rattle.run_stages.specs.Calls.{memory, memoryRoom, coloursRoom}
 use Rattle.run_check.specs.Room.{plain, SameInRange, Lends}
 
 pub too-many : (s c : ℕ) (p : Bool) → mostSubpalettes < s → SameInRange s c false p

@@ -9,8 +9,8 @@ use Rattle.job.specs.Job.{mostSubpalettes, mostColours}
 use Rattle.job.specs.declared.Sizes.{Sizes}
 use Rattle.quantizer.specs.Course.{courseOf, Course}
 use Rattle.job.specs.Rules.{answer}
-use Rattle.stages.specs.Record.{stateRules}
-use Rattle.stages.specs.Calls.{Memory, stateOf, jobRules}
+use Rattle.run_stages.specs.Record.{stateRules}
+use Rattle.run_stages.specs.Calls.{Memory, stateOf, jobRules}
 
 -- the sizes that lengths are held to, as a course of empty tables
 abbrev pub plain : Sizes → Course

@@ -1,14 +1,14 @@
 // Which number a call of a run gets: the job's, the record's, the working colours', the order's, the moment's, the reduced colours'.
 // Every check takes what a stranger wrote: no sum or product in it can wrap.
 use job::Sizes;
-use stages::Record;
+use run_stages::Record;
 ghost use mathlib.Core.Path.{_≡_};
 ghost use mathlib.Core.Bool.{true, _&&_};
 ghost use Prim.Native.Nat.{_*_};
 ghost use lib.Dec.{eqb};
 ghost use lib.ListN.{length};
 ghost use Rattle.quantizer.specs.Course.{courseOf};
-ghost use Rattle.stages.specs.Calls.{memory, memoryRoom, coloursRoom, startAnswer, advanceAnswer, handInAnswer, resultAnswer};
+ghost use Rattle.run_stages.specs.Calls.{memory, memoryRoom, coloursRoom, startAnswer, advanceAnswer, handInAnswer, resultAnswer};
 ghost use Rattle.run_check.specs.Room.{plain, SameInRange, Lends, runAnswer};
 
 const MOST_SUBPALETTES: usize = 16;
@@ -236,7 +236,7 @@ pub fn refuses_result(
     if a != 0 {
         return a;
     }
-    if !run_stage::is_finished(words[1]) {
+    if !run_cycle::is_finished(words[1]) {
         return 11;
     }
     0

@@ -9,14 +9,14 @@ use lib.Dec.{lit<}
 use lib.Ieee.{Float}
 use Rattle.job.specs.Gives.{Sampled}
 use Rattle.quantizer.specs.Course.{Course, b}
-use Rattle.stages.specs.declared.Record.{Record}
-use Rattle.stages.specs.State.{State, stateWith, draws}
-use Rattle.stages.specs.Stages.{subsOf, haveOf, alphaOf, draw, drawWith}
-use Rattle.calls.specs.Place.{Placed, Rests, seeding, growing, replacing, reducing, finishing, over}
-use Rattle.calls.proofs.Place.{some-left}
-use Rattle.calls.proofs.Settling.{made-few}
-use Rattle.calls.proofs.Presence.{draw-shown}
-use Rattle.calls.specs.Sound.{Sound}
+use Rattle.run_stages.specs.declared.Record.{Record}
+use Rattle.run_stages.specs.State.{State, stateWith, draws}
+use Rattle.run_stages.specs.Stages.{subsOf, haveOf, alphaOf, draw, drawWith}
+use Rattle.run_calls.specs.Place.{Placed, Rests, seeding, growing, replacing, reducing, finishing, over}
+use Rattle.run_calls.proofs.Place.{some-left}
+use Rattle.run_calls.proofs.Settling.{made-few}
+use Rattle.run_calls.proofs.Presence.{draw-shown}
+use Rattle.run_calls.specs.Sound.{Sound}
 use Rattle.run_draw.specs.Drawable.{Drawable}
 
 -- the state with another second palette

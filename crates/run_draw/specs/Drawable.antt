@@ -2,8 +2,8 @@
 use Prim.Native.Nat.{_≤_}
 use Rattle.quantizer.specs.Course.{Course}
 use Rattle.quantizer_draw.specs.Draws.{Going}
-use Rattle.stages.specs.State.{State}
-use Rattle.stages.specs.Stages.{cycleOf, subsOf, haveOf}
+use Rattle.run_stages.specs.State.{State}
+use Rattle.run_stages.specs.Stages.{cycleOf, subsOf, haveOf}
 
 -- a course that passed, with its palette, hints and order; few rounds finished, and a draw left
 pub record Drawable (K : Course) (s : State) : Type 0 where

@@ -1,11 +1,11 @@
 // One draw on the lent memory: the record's generator and draws made drive the cycle of samples, its stage and rounds say what is present.
 use job::Sizes;
-use stages::Record;
+use run_stages::Record;
 ghost use mathlib.Core.Path.{_≡_};
 ghost use mathlib.Core.List.{[]};
 ghost use Rattle.quantizer.specs.Course.{courseOf};
-ghost use Rattle.stages.specs.State.{stateWith};
-ghost use Rattle.stages.specs.Stages.{draw};
+ghost use Rattle.run_stages.specs.State.{stateWith};
+ghost use Rattle.run_stages.specs.Stages.{draw};
 ghost use Rattle.run_draw.specs.Drawable.{Drawable};
 
 // The record after one draw more of a round that has one left.
@@ -25,10 +25,10 @@ pub fn draw(
         ≡ draw (courseOf z (now (tiles .entry)) (now (colours .entry)) (now (counts .entry)) (now (samples .entry)))
         (stateWith (now (order .entry)) (now (hints .entry)) (now (palette .entry)) [] r) ⌝ }
 {
-    let subs = run_stage::subs_of(z.s, r);
-    let have = run_stage::have_of(z.c, r);
-    let alpha = run_stage::alpha_of(r);
-    let at = run_stage::cycle_of(r);
+    let subs = run_cycle::subs_of(z.s, r);
+    let have = run_cycle::have_of(z.c, r);
+    let alpha = run_cycle::alpha_of(r);
+    let at = run_cycle::cycle_of(r);
     let after = quantizer_draw::draw(
         z,
         tiles,
@@ -43,5 +43,5 @@ pub fn draw(
         hints,
         alpha,
     );
-    run_stage::count_draw(r, after)
+    run_cycle::count_draw(r, after)
 }

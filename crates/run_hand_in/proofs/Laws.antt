@@ -13,17 +13,17 @@ use Rattle.color.proofs.Sizes.{bounded-wider}
 use Rattle.job.specs.Job.{two}
 use Rattle.job.proofs.Ready.{two-within, components-within}
 use Rattle.quantizer.specs.Course.{Course, b}
-use Rattle.stages.specs.declared.Record.{Record}
-use Rattle.stages.specs.State.{State, stateWith, placed, beside}
-use Rattle.stages.specs.Stages.{finishRound, settle, refinedOnce, handIn}
-use Rattle.stages.specs.Calls.{Memory, memory, recordOf, wordsOf, stateOf, memoryOf, outcome, coloursRoom, handInAnswer, handInCall}
-use Rattle.calls.proofs.Cases.{decide}
-use Rattle.calls.specs.Place.{Placed}
-use Rattle.calls.proofs.Place.{final-placed, made-at-3}
-use Rattle.calls.proofs.Settling.{settle-done, settle-more, finish-placed}
-use Rattle.calls.proofs.Accepted.{job-passed}
-use Rattle.calls.proofs.Answers.{handIn-opened}
-use Rattle.calls.proofs.Next as next
+use Rattle.run_stages.specs.declared.Record.{Record}
+use Rattle.run_stages.specs.State.{State, stateWith, placed, beside}
+use Rattle.run_stages.specs.Stages.{finishRound, settle, refinedOnce, handIn}
+use Rattle.run_stages.specs.Calls.{Memory, memory, recordOf, wordsOf, stateOf, memoryOf, outcome, coloursRoom, handInAnswer, handInCall}
+use Rattle.run_calls.proofs.Cases.{decide}
+use Rattle.run_calls.specs.Place.{Placed}
+use Rattle.run_calls.proofs.Place.{final-placed, made-at-3}
+use Rattle.run_calls.proofs.Settling.{settle-done, settle-more, finish-placed}
+use Rattle.run_calls.proofs.Accepted.{job-passed}
+use Rattle.run_calls.proofs.Answers.{handIn-opened}
+use Rattle.run_calls.proofs.Next as next
 use Rattle.run_refine.specs.Refines.{refinedTimes, hintsTimes, finalDraws, Handed}
 
 -- ---- what follows a stop

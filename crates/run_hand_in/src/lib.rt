@@ -1,12 +1,12 @@
 // The public call that hands in reduced colours at a stop: they become the palette, and what follows that needs no draw is done.
 // The order, the second palette and the samples are not read; they are there to be checked, and named in what is promised.
 use job::Sizes;
-use stages::Record;
+use run_stages::Record;
 ghost use mathlib.Core.Path.{_≡_};
 ghost use Rattle.quantizer.specs.Course.{courseOf};
-ghost use Rattle.stages.specs.State.{stateWith};
-ghost use Rattle.stages.specs.Stages.{handIn};
-ghost use Rattle.stages.specs.Calls.{memory, outcome, handInCall};
+ghost use Rattle.run_stages.specs.State.{stateWith};
+ghost use Rattle.run_stages.specs.Stages.{handIn};
+ghost use Rattle.run_stages.specs.Calls.{memory, outcome, handInCall};
 ghost use Rattle.run_refine.specs.Refines.{Handed};
 
 // What follows a stop, with the colours handed in as the palette.

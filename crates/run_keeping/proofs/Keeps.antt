@@ -11,16 +11,16 @@ use lib.Ieee.{Float, binary32, lt, ofBits, toBits, isNan, nanBits}
 use lib.Ieee.Bits.{nanBits-above}
 use borrow.Author.Tests.{eq-eqb, ne-eqb}
 use Rattle.ieee.proofs.Bounds.{within-real}
-use Rattle.mse.proofs.Fine.{mse-error}
-use Rattle.mse.specs.Mse.{mseOf}
-use Rattle.calls.proofs.Limits.{error-bits}
+use Rattle.palette_mse.proofs.Fine.{mse-error}
+use Rattle.palette_mse.specs.Mse.{mseOf}
+use Rattle.run_calls.proofs.Limits.{error-bits}
 use Rattle.job.specs.Job.{Job}
 use Rattle.palette_tile.specs.Tiles.{Shown, hintsOf}
 use Rattle.quantizer.specs.Course.{Course}
 use Rattle.quantizer.specs.Sums.{zeros}
-use Rattle.stages.specs.declared.Record.{Record}
-use Rattle.stages.specs.State.{stateWith, placed, noted}
-use Rattle.stages.specs.Stages.{noticed, errorOf, keep, enterReducing}
+use Rattle.run_stages.specs.declared.Record.{Record}
+use Rattle.run_stages.specs.State.{stateWith, placed, noted}
+use Rattle.run_stages.specs.Stages.{noticed, errorOf, keep, enterReducing}
 use Rattle.run_keeping.specs.Keeping.{keeps, seen}
 
 module _ (K : Course) (h : List ℕ) (p l : List Float) (r : Record) (round : ℕ) (e : Float) (ee : e ≡ mseOf (K .job) p (K .job .S) (K .job .C))

@@ -7,7 +7,7 @@ use lib.Ieee.{Float}
 use lib.ListN.{length}
 use Rattle.job.specs.Job.{Job}
 use Rattle.palette_tile.specs.Tiles.{Shown}
-use Rattle.stages.specs.declared.Record.{Record}
+use Rattle.run_stages.specs.declared.Record.{Record}
 
 -- a palette of all its colours, and a hint for each tile
 pub record Whole (J : Job) (hints : List ℕ) (palette : List Float) : Type 0 where

@@ -4,8 +4,8 @@ use mathlib.Core.Bool.{Bool, true, cond}
 use lib.Dec.{eqb}
 use lib.Ieee.{Float, binary32, lt, ofBits}
 use Rattle.quantizer.specs.Course.{Course}
-use Rattle.stages.specs.State.{State}
-use Rattle.stages.specs.Stages.{noticed, errorOf, keep}
+use Rattle.run_stages.specs.State.{State}
+use Rattle.run_stages.specs.Stages.{noticed, errorOf, keep}
 
 unfoldable pub keeps : ℕ → Float → ℕ → Bool
 keeps round e error = cond (eqb round 0) true (lt e (ofBits binary32 error))

@@ -1,15 +1,15 @@
 // The second palette keeps the first one of least error: the first of its stage at once, a later one where its error is below the one kept.
 // The stop for reduction gives it back. The order of the samples is not touched, so it is left out.
 use job::Sizes;
-use stages::Record;
+use run_stages::Record;
 ghost use mathlib.Core.Path.{_≡_};
 ghost use mathlib.Core.Logic.{_≢_};
 ghost use mathlib.Core.List.{[]};
 ghost use Prim.Native.Nat.{_<_};
 ghost use Rattle.job.specs.Job.{jobOf};
 ghost use Rattle.quantizer.specs.Course.{courseOf};
-ghost use Rattle.stages.specs.State.{stateWith};
-ghost use Rattle.stages.specs.Stages.{enterReducing};
+ghost use Rattle.run_stages.specs.State.{stateWith};
+ghost use Rattle.run_stages.specs.Stages.{enterReducing};
 ghost use Rattle.run_record.specs.Sized.{sized};
 ghost use Rattle.run_keeping.specs.Keeping.{keeps, seen};
 ghost use Rattle.run_keeping.specs.Closing.{Judging, Ending};
@@ -42,7 +42,7 @@ pub fn look(
         ≡ seen (courseOf z (now (tiles .entry)) (now (colours .entry)) (now (counts .entry)) []) round
         (stateWith [] (now (hints .entry)) (now (palette .entry)) (now (least .entry)) r) ⌝ }
 {
-    let e = mse_sum::mse(z, tiles, colours, counts, palette, z.s, z.c, hints);
+    let e = palette_mse_sum::mse(z, tiles, colours, counts, palette, z.s, z.c, hints);
     if is_kept(round, e, r.error) {
         run_memory::copy(palette, least);
         return run_record::noted(r, f32::to_bits(e) as u64);

@@ -10,9 +10,9 @@ use mir.Facts.{fits-le, fits-lit}
 use borrow.Author.Tests.{leb-true, ltb-true}
 use Rattle.lists.proofs.Tests.{and-l, and-r}
 use Rattle.quantizer.specs.Course.{Course, b}
-use Rattle.stages.specs.declared.Stage.{Stage}
-use Rattle.stages.specs.State.{draws, beside}
-use Rattle.stages.specs.Record.{stageOf, placeFits, madeBy}
+use Rattle.run_stages.specs.declared.Stage.{Stage}
+use Rattle.run_stages.specs.State.{draws, beside}
+use Rattle.run_stages.specs.Record.{stageOf, placeFits, madeBy}
 use Rattle.run_record.specs.Sized.{sized, Sized}
 use Rattle.run_record.proofs.Lines.{tenths-small}
 

@@ -1,11 +1,11 @@
 // The record's rules: its place, the draws made that the place implies, its error.
 // They take what a stranger wrote: no sum or product in them can wrap.
-use stages::Record;
+use run_stages::Record;
 ghost use mathlib.Core.Path.{_≡_};
 ghost use mathlib.Core.Bool.{true};
 ghost use mathlib.Core.List.{[]};
 ghost use Rattle.job.specs.Rules.{answer};
-ghost use Rattle.stages.specs.Record.{placeFits, madeBy, recordRules};
+ghost use Rattle.run_stages.specs.Record.{placeFits, madeBy, recordRules};
 ghost use Rattle.run_record.specs.Sized.{sized, Sized};
 
 // Word 4, from words 1 to 3 of a record whose place fits.

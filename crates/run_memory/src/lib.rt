@@ -1,10 +1,10 @@
 // Writing of lent memory as a whole: a palette copied, a palette zeroed, the record's words.
-use stages::Record;
+use run_stages::Record;
 ghost use mathlib.Core.Path.{_≡_};
 ghost use Prim.Native.Nat.{ℕ};
 ghost use lib.ListN.{length};
 ghost use Rattle.quantizer.specs.Sums.{zeros};
-ghost use Rattle.stages.specs.Calls.{wordsOf};
+ghost use Rattle.run_stages.specs.Calls.{wordsOf};
 
 pub fn copy(from: &[f32], to: &mut [f32])
     requires { ⌜ length (now to) ≡ length (now from) ⌝ }

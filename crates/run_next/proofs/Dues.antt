@@ -5,7 +5,7 @@ use mathlib.Core.Logic.{_≢_}
 use mathlib.Core.Bool.{Bool, true, false, _&&_}
 use lib.Dec.{eqb}
 use borrow.Author.Tests.{eq-eqb, ne-eqb}
-use Rattle.stages.specs.State.{draws}
+use Rattle.run_stages.specs.State.{draws}
 
 pub some-left : (k l : ℕ) → l ≢ 0 → false ≡ (draws k && eqb l 0)
 some-left k l h = rw (ne-eqb l 0 h) (sym (none (draws k)))

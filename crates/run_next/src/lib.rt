@@ -1,11 +1,11 @@
 // What follows in the record of a run: whether a round is to be closed, a round opened, the final draws ended.
-use stages::Record;
+use run_stages::Record;
 ghost use mathlib.Core.Path.{_≡_};
 ghost use mathlib.Core.Bool.{_&&_};
 ghost use mathlib.Core.List.{[]};
 ghost use Prim.Native.Nat.{_/_};
 ghost use lib.Dec.{eqb};
-ghost use Rattle.stages.specs.State.{placed, draws};
+ghost use Rattle.run_stages.specs.State.{placed, draws};
 
 // Whether a round is to be closed.
 pub fn is_due(r: Record) -> bool

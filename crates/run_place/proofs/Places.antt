@@ -5,9 +5,9 @@ use mathlib.Core.Bool.{Bool, true, false}
 use lib.Dec.{eqb, leb}
 use borrow.Author.Tests.{eq-eqb, ne-eqb, le-leb, lt-leb, lt-ltb, le-ltb}
 use Rattle.quantizer.specs.Course.{Course}
-use Rattle.stages.specs.State.{draws}
-use Rattle.stages.specs.declared.Stage.{Stage}
-use Rattle.stages.specs.Record.{stageOf, placeFits}
+use Rattle.run_stages.specs.State.{draws}
+use Rattle.run_stages.specs.declared.Stage.{Stage}
+use Rattle.run_stages.specs.Record.{stageOf, placeFits}
 
 module _ (K : Course) (k r l : ℕ) where
   pub place-late : 7 < k → false ≡ placeFits K k r l

@@ -1,7 +1,7 @@
 // The record's words that a rule holds to their stage: its place, words 1 to 3, and the error, word 5.
 // They take what a stranger wrote.
 ghost use mathlib.Core.Path.{_≡_};
-ghost use Rattle.stages.specs.Record.{errorFits, placeFits};
+ghost use Rattle.run_stages.specs.Record.{errorFits, placeFits};
 ghost use Rattle.run_record.specs.Sized.{sized, Sized};
 
 // Words 1 to 3.

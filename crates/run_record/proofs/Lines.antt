@@ -7,8 +7,8 @@ use mir.Val.{Fits}
 use mir.Syntax.{w64}
 use mir.Facts.{fits-le, fits-lit}
 use borrow.Author.Tests.{eq-eqb, ne-eqb}
-use Rattle.stages.specs.State.{beside}
-use Rattle.stages.specs.Record.{stageWith, stageOf}
+use Rattle.run_stages.specs.State.{beside}
+use Rattle.run_stages.specs.Record.{stageWith, stageOf}
 use Rattle.run_record.specs.Sized.{sized, Sized}
 
 -- b is a tenth of the samples

@@ -1,13 +1,13 @@
 // What the words of a record say by themselves: their names, what a stage does, its rounds and their draws.
-use stages::Record;
-use stages::Stage;
+use run_stages::Record;
+use run_stages::Stage;
 ghost use mathlib.Core.Path.{_≡_};
 ghost use mathlib.Core.Bool.{_&&_};
 ghost use lib.Dec.{ltb};
 ghost use lib.ListN.{length};
-ghost use Rattle.stages.specs.State.{placed, noted, draws, stops};
-ghost use Rattle.stages.specs.Record.{stageOf};
-ghost use Rattle.stages.specs.Calls.{recordOf};
+ghost use Rattle.run_stages.specs.State.{placed, noted, draws, stops};
+ghost use Rattle.run_stages.specs.Record.{stageOf};
+ghost use Rattle.run_stages.specs.Calls.{recordOf};
 ghost use Rattle.run_record.specs.Sized.{sized, Sized};
 
 // The record's words by name.

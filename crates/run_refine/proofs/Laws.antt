@@ -10,10 +10,10 @@ use Rattle.job.specs.Job.{Job}
 use Rattle.palette_tile.specs.Tiles.{Shown, hintsOf}
 use Rattle.quantizer.specs.Course.{Course, course}
 use Rattle.quantizer.specs.Refining.{refined}
-use Rattle.stages.specs.declared.Record.{Record}
-use Rattle.stages.specs.State.{placed}
-use Rattle.calls.specs.Sound.{Held}
-use Rattle.calls.proofs.Sound.{all-shown, refined-held, hinted}
+use Rattle.run_stages.specs.declared.Record.{Record}
+use Rattle.run_stages.specs.State.{placed}
+use Rattle.run_calls.specs.Sound.{Held}
+use Rattle.run_calls.proofs.Sound.{all-shown, refined-held, hinted}
 use Rattle.run_refine.specs.Refines.{refinedTimes, hintsTimes, finalDraws, Refinable}
 
 -- ---- the final draws: ten rounds of d draws in one

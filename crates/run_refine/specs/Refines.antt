@@ -12,9 +12,9 @@ use Rattle.job.specs.Gives.{Ready}
 use Rattle.palette_tile.specs.Tiles.{hintsOf}
 use Rattle.quantizer.specs.Course.{Course}
 use Rattle.quantizer.specs.Refining.{refined}
-use Rattle.stages.specs.declared.Record.{Record}
-use Rattle.stages.specs.State.{State, placed}
-use Rattle.calls.specs.Place.{Placed}
+use Rattle.run_stages.specs.declared.Record.{Record}
+use Rattle.run_stages.specs.State.{State, placed}
+use Rattle.run_calls.specs.Place.{Placed}
 
 module _ (J : Job) where
   open Job J using (S, C, T)

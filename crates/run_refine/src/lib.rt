@@ -1,6 +1,6 @@
 // What a hand-in does after a stop, by itself: the final draws begin, or the palette is refined four times.
 use job::Sizes;
-use stages::Record;
+use run_stages::Record;
 ghost use mathlib.Core.Path.{_≡_};
 ghost use Prim.Native.Nat.{_≤_};
 ghost use Rattle.job.specs.Job.{jobOf};

@@ -6,8 +6,8 @@ use lib.Ieee.{Float}
 use lib.ListN.{length}
 use borrow.Author.Tests.{eq-eqb, ne-eqb, eqb-true}
 use Rattle.quantizer.specs.Course.{Course}
-use Rattle.stages.specs.Calls.{Memory, copiedTo, coloursRoom, resultAnswer, resultCall}
-use Rattle.calls.proofs.Answers.{result-opened}
+use Rattle.run_stages.specs.Calls.{Memory, copiedTo, coloursRoom, resultAnswer, resultCall}
+use Rattle.run_calls.proofs.Answers.{result-opened}
 
 module _ (K : Course) (m : Memory) (out : List Float) (a : ℕ) (e : a ≡ resultAnswer K m out) where
   pub refused : (a ≡ 0 → ⊥) → copiedTo a out ≡ resultCall K m out

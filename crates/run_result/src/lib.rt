@@ -2,7 +2,7 @@
 use job::Sizes;
 ghost use mathlib.Core.Path.{_≡_};
 ghost use Rattle.quantizer.specs.Course.{courseOf};
-ghost use Rattle.stages.specs.Calls.{memory, copiedTo, resultCall};
+ghost use Rattle.run_stages.specs.Calls.{memory, copiedTo, resultCall};
 
 // 0, or the number of the first rule that is broken; then `out` stays as it is.
 pub fn result(

@@ -1,11 +1,11 @@
 -- The state that a start begins with is sound, and so is its first round, which stands at a place of the record. Assumes nothing.
 use mathlib.Core.Path.{_≡_, subst⁻¹}
 use Rattle.quantizer.specs.Course.{Course}
-use Rattle.stages.specs.State.{State}
-use Rattle.calls.specs.Place.{Placed}
-use Rattle.calls.proofs.Place.{first-placed}
-use Rattle.calls.specs.Sound.{Sound}
-use Rattle.calls.proofs.Sound.{fresh-sound, first-sound}
+use Rattle.run_stages.specs.State.{State}
+use Rattle.run_calls.specs.Place.{Placed}
+use Rattle.run_calls.proofs.Place.{first-placed}
+use Rattle.run_calls.specs.Sound.{Sound}
+use Rattle.run_calls.proofs.Sound.{fresh-sound, first-sound}
 use Rattle.run_round.specs.Settles.{Standing}
 use Rattle.run_round.specs.First.{firstRound, Beginning}
 

@@ -6,14 +6,14 @@ use mathlib.Core.List.{[]}
 use native.Mathlib.Omega.{arith}
 use Rattle.lists.proofs.Tests.{and-l}
 use Rattle.quantizer.specs.Course.{Course, course}
-use Rattle.stages.specs.State.{State, draws}
-use Rattle.stages.specs.Stages.{finishRound, due, settle}
-use Rattle.calls.proofs.Cases.{stage0, stage1, stage2, stage4}
-use Rattle.calls.specs.Place.{Placed, seeding, growing, replacing, reducing, finishing, over}
-use Rattle.calls.proofs.Place.{quiet, togo}
-use Rattle.calls.proofs.Settling.{settle-done, settle-more, finish-placed, togo-less}
-use Rattle.calls.specs.Sound.{Second, in2, out2}
-use Rattle.calls.proofs.Sound.{all-shown, finish-sound}
+use Rattle.run_stages.specs.State.{State, draws}
+use Rattle.run_stages.specs.Stages.{finishRound, due, settle}
+use Rattle.run_calls.proofs.Cases.{stage0, stage1, stage2, stage4}
+use Rattle.run_calls.specs.Place.{Placed, seeding, growing, replacing, reducing, finishing, over}
+use Rattle.run_calls.proofs.Place.{quiet, togo}
+use Rattle.run_calls.proofs.Settling.{settle-done, settle-more, finish-placed, togo-less}
+use Rattle.run_calls.specs.Sound.{Second, in2, out2}
+use Rattle.run_calls.proofs.Sound.{all-shown, finish-sound}
 use Rattle.run_round.specs.Settles.{Standing, Ripe, seeds, grows, replaces, finishes, Closing}
 use Rattle.run_round.proofs.Orders.{ordered, seeding-any, growing-any, replacing-any, final-any}
 

@@ -9,10 +9,10 @@ use lib.ListN.{length}
 use borrow.Author.Tests.{eq-eqb, ne-eqb}
 use Rattle.job.specs.Job.{Job}
 use Rattle.quantizer.specs.Course.{Course}
-use Rattle.stages.specs.declared.Record.{Record}
-use Rattle.stages.specs.State.{State, stateWith, placed}
-use Rattle.stages.specs.Stages.{finishRound}
-use Rattle.calls.proofs.Cases.{stage0, stage1, stage2, stage4}
+use Rattle.run_stages.specs.declared.Record.{Record}
+use Rattle.run_stages.specs.State.{State, stateWith, placed}
+use Rattle.run_stages.specs.Stages.{finishRound}
+use Rattle.run_calls.proofs.Cases.{stage0, stage1, stage2, stage4}
 use Rattle.run_turns.specs.Asked.{Turning}
 use Rattle.run_turns.specs.Rounds.{openTurn}
 use Rattle.run_turns.proofs.Turns.{seeded-on, grown-on, replaced-on}

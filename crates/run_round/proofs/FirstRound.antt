@@ -4,9 +4,9 @@ use mathlib.Core.Path.{_≡_, ap, _∙_}
 use mathlib.Core.List.{[]}
 use native.Mathlib.Omega.{arith}
 use Rattle.quantizer.specs.Course.{Course, course}
-use Rattle.stages.specs.State.{State}
-use Rattle.stages.specs.Stages.{settle}
-use Rattle.calls.proofs.Sound.{all-shown}
+use Rattle.run_stages.specs.State.{State}
+use Rattle.run_stages.specs.Stages.{settle}
+use Rattle.run_calls.proofs.Sound.{all-shown}
 use Rattle.run_turns.specs.Asked.{Turning}
 use Rattle.run_turns.specs.Rounds.{openTurn}
 use Rattle.run_turns.proofs.Turns.{first-turn}

@@ -7,8 +7,8 @@ use lib.Dec.{ltb}
 use lib.Ieee.{binary32, lt, ofBits}
 use Rattle.quantizer.specs.Course.{Course, course}
 use Rattle.quantizer.specs.Seeding.{worstOf}
-use Rattle.stages.specs.State.{State, stateWith, at}
-use Rattle.stages.specs.Stages.{noticed, openSeeding, openGrowing, openReplacing, errorOf, keep, judged, enterReplacing, enterGrowing, enterReducing, closeSeeding, closeGrowing, closeReplacing}
+use Rattle.run_stages.specs.State.{State, stateWith, at}
+use Rattle.run_stages.specs.Stages.{noticed, openSeeding, openGrowing, openReplacing, errorOf, keep, judged, enterReplacing, enterGrowing, enterReducing, closeSeeding, closeGrowing, closeReplacing}
 use Rattle.run_round.specs.First.{firstRound}
 
 -- the state with another order

@@ -12,9 +12,9 @@ use Rattle.palette_tile.proofs.Hints.{length-hints}
 use Rattle.quantizer.specs.Course.{Course}
 use Rattle.quantizer.specs.Seeding.{worstOf}
 use Rattle.quantizer.proofs.Indexes.{worst-below}
-use Rattle.stages.specs.declared.Record.{Record}
-use Rattle.stages.specs.State.{stateWith}
-use Rattle.stages.specs.Stages.{noticed}
+use Rattle.run_stages.specs.declared.Record.{Record}
+use Rattle.run_stages.specs.State.{stateWith}
+use Rattle.run_stages.specs.Stages.{noticed}
 use Rattle.run_keeping.specs.Closing.{Whole}
 use Rattle.run_round.specs.Seeds.{Sought}
 

@@ -6,8 +6,8 @@ use lib.Dec.{ltb}
 use lib.ListN.{length}
 use Rattle.job.specs.Gives.{Sampled}
 use Rattle.quantizer.specs.Course.{Course}
-use Rattle.stages.specs.State.{State}
-use Rattle.stages.specs.Stages.{openSeeding, enterGrowing, fresh}
+use Rattle.run_stages.specs.State.{State}
+use Rattle.run_stages.specs.Stages.{openSeeding, enterGrowing, fresh}
 
 -- of seeding, or where there is one subpalette, what follows it
 unfoldable pub firstRound : Course → State → State

@@ -7,7 +7,7 @@ use lib.Ieee.{Float}
 use Rattle.job.specs.Job.{Job}
 use Rattle.palette_tile.specs.Tiles.{hintsOf}
 use Rattle.quantizer.specs.Seeding.{worstOf}
-use Rattle.stages.specs.declared.Record.{Record}
+use Rattle.run_stages.specs.declared.Record.{Record}
 use Rattle.run_keeping.specs.Closing.{Whole}
 
 -- in a round of seeding a subpalette more than are there belongs to the job

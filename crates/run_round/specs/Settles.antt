@@ -8,10 +8,10 @@ use lib.Ieee.{Float}
 use Rattle.job.specs.Job.{Job}
 use Rattle.job.specs.Gives.{Ready}
 use Rattle.quantizer.specs.Course.{Course}
-use Rattle.stages.specs.State.{State}
-use Rattle.stages.specs.declared.Record.{Record}
-use Rattle.calls.specs.Place.{Placed}
-use Rattle.calls.specs.Sound.{Sound}
+use Rattle.run_stages.specs.State.{State}
+use Rattle.run_stages.specs.declared.Record.{Record}
+use Rattle.run_calls.specs.Place.{Placed}
+use Rattle.run_calls.specs.Sound.{Sound}
 use Rattle.run_keeping.specs.Closing.{RoomToKeep}
 
 -- a job that passed, at a place of its record, with sound memory

@@ -1,10 +1,10 @@
 // The first round of a run, and all that then needs no draw.
 use job::Sizes;
-use stages::Record;
+use run_stages::Record;
 ghost use mathlib.Core.Path.{_≡_};
 ghost use Rattle.quantizer.specs.Course.{courseOf};
-ghost use Rattle.stages.specs.State.{stateWith};
-ghost use Rattle.stages.specs.Stages.{settle};
+ghost use Rattle.run_stages.specs.State.{stateWith};
+ghost use Rattle.run_stages.specs.Stages.{settle};
 ghost use Rattle.run_round.specs.First.{firstRound, Beginning};
 
 // The first round is opened, and all that needs no draw is done.

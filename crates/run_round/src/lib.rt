@@ -5,14 +5,14 @@ use job::Sizes;
 pub mod first;
 mod seeding;
 
-use stages::Record;
+use run_stages::Record;
 ghost use mathlib.Core.Path.{_≡_};
 ghost use mathlib.Core.List.{[]};
 ghost use Prim.Native.Nat.{_≤_};
 ghost use Rattle.job.specs.Job.{jobOf};
 ghost use Rattle.quantizer.specs.Course.{courseOf};
-ghost use Rattle.stages.specs.State.{stateWith};
-ghost use Rattle.stages.specs.Stages.{finishRound, settle};
+ghost use Rattle.run_stages.specs.State.{stateWith};
+ghost use Rattle.run_stages.specs.Stages.{finishRound, settle};
 ghost use Rattle.run_round.specs.Settles.{Standing, Closing, turnAfter};
 
 // The turn after a round that is closed.

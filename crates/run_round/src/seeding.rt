@@ -1,7 +1,7 @@
 // What is sought when a round of seeding is closed: the subpalette of greatest summed distance, which the next round duplicates.
 // The order of the samples is not touched, so it is left out.
 use job::Sizes;
-use stages::Record;
+use run_stages::Record;
 ghost use Rattle.job.specs.Job.{jobOf};
 ghost use Rattle.run_round.specs.Seeds.{Seeking, Sought};
 

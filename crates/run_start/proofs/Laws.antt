@@ -10,13 +10,13 @@ use lib.ListN.{length}
 use Rattle.quantizer.specs.Course.{Course}
 use Rattle.quantizer.specs.Sums.{zeros}
 use Rattle.quantizer.specs.Seeding.{seeded}
-use Rattle.stages.specs.declared.Record.{Record}
-use Rattle.stages.specs.State.{State, stateWith}
-use Rattle.stages.specs.Stages.{settle, fresh, start}
-use Rattle.stages.specs.Calls.{Memory, memory, wordsOf, memoryOf, outcome, startAnswer, startCall}
-use Rattle.calls.proofs.Accepted.{job-passed}
-use Rattle.calls.proofs.Answers.{start-opened}
-use Rattle.calls.proofs.Next as next
+use Rattle.run_stages.specs.declared.Record.{Record}
+use Rattle.run_stages.specs.State.{State, stateWith}
+use Rattle.run_stages.specs.Stages.{settle, fresh, start}
+use Rattle.run_stages.specs.Calls.{Memory, memory, wordsOf, memoryOf, outcome, startAnswer, startCall}
+use Rattle.run_calls.proofs.Accepted.{job-passed}
+use Rattle.run_calls.proofs.Answers.{start-opened}
+use Rattle.run_calls.proofs.Next as next
 use Rattle.run_blank.specs.Blanks.{dealt, Blanking}
 use Rattle.run_round.specs.First.{firstRound, Beginning}
 

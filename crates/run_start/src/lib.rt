@@ -2,7 +2,7 @@
 use job::Sizes;
 ghost use mathlib.Core.Path.{_≡_};
 ghost use Rattle.quantizer.specs.Course.{courseOf};
-ghost use Rattle.stages.specs.Calls.{memory, outcome, startCall};
+ghost use Rattle.run_stages.specs.Calls.{memory, outcome, startCall};
 
 // 0, or the number of the first rule that is broken; then all memory stays as it is.
 pub fn start(

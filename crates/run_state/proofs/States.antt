@@ -7,9 +7,9 @@ use Rattle.job.specs.Rules.{rule, answer, numbered}
 use Rattle.job.proofs.Passing.{stops, goes}
 use Rattle.job.specs.Checks.{componentsFit}
 use Rattle.quantizer.specs.Course.{Course}
-use Rattle.stages.specs.declared.Record.{Record}
-use Rattle.stages.specs.State.{stateWith}
-use Rattle.stages.specs.Record.{four, orderFits, leastFits, recordRules, stateRules}
+use Rattle.run_stages.specs.declared.Record.{Record}
+use Rattle.run_stages.specs.State.{stateWith}
+use Rattle.run_stages.specs.Record.{four, orderFits, leastFits, recordRules, stateRules}
 
 -- ---- the record, then the working colours and the order
 module _ (K : Course) (order : List ℕ) (palette least : List Float) (r : Record) (a : ℕ) (e : a ≡ answer (recordRules K r)) where

@@ -1,11 +1,11 @@
 // Which number what a run holds gives: its record, its working colours, its order.
 // Assumes nothing of them but sizes within their limits: they are what a stranger wrote.
-use stages::Record;
+use run_stages::Record;
 ghost use mathlib.Core.Path.{_≡_};
 ghost use mathlib.Core.List.{[]};
 ghost use Rattle.job.specs.Rules.{answer};
-ghost use Rattle.stages.specs.State.{stateWith};
-ghost use Rattle.stages.specs.Record.{stateRules};
+ghost use Rattle.run_stages.specs.State.{stateWith};
+ghost use Rattle.run_stages.specs.Record.{stateRules};
 ghost use Rattle.run_record.specs.Sized.{sized, Sized};
 
 // Numbers 10, 7 and 9 of what a run holds.

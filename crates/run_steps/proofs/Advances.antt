@@ -10,14 +10,14 @@ use lib.ListN.{length}
 use borrow.Author.Tests.{ltb-true, ltb-false}
 use Rattle.lists.proofs.Tests.{and-l, and-r}
 use Rattle.quantizer.specs.Course.{Course}
-use Rattle.stages.specs.declared.Record.{Record}
-use Rattle.stages.specs.State.{State, stateWith, draws}
-use Rattle.stages.specs.Stages.{going, step, advance, drawsOf}
-use Rattle.stages.specs.Calls.{recordOf, wordsOf, memory, memoryOf, outcome}
-use Rattle.calls.proofs.Cases.{decide}
-use Rattle.calls.proofs.Whilsts.{Far, far-start, far-step, far-stop, far-end}
-use Rattle.calls.specs.Fit.{Fit}
-use Rattle.calls.proofs.Fit.{step-fit}
+use Rattle.run_stages.specs.declared.Record.{Record}
+use Rattle.run_stages.specs.State.{State, stateWith, draws}
+use Rattle.run_stages.specs.Stages.{going, step, advance, drawsOf}
+use Rattle.run_stages.specs.Calls.{recordOf, wordsOf, memory, memoryOf, outcome}
+use Rattle.run_calls.proofs.Cases.{decide}
+use Rattle.run_calls.proofs.Whilsts.{Far, far-start, far-step, far-stop, far-end}
+use Rattle.run_calls.specs.Fit.{Fit}
+use Rattle.run_calls.proofs.Fit.{step-fit}
 use Rattle.run_steps.specs.Running.{Running, Ongoing}
 
 -- of `a` draws from the first state, m are made and s is reached; both states are runs

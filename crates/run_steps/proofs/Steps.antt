@@ -4,11 +4,11 @@ use mathlib.Core.List.{List, []}
 use Prim.Native.Nat.{ℕ}
 use lib.Ieee.{Float}
 use Rattle.quantizer.specs.Course.{Course}
-use Rattle.stages.specs.declared.Record.{Record}
-use Rattle.stages.specs.State.{State, stateWith}
-use Rattle.stages.specs.Stages.{subsOf, haveOf, draw, settle, step}
-use Rattle.calls.proofs.Place.{draw-place}
-use Rattle.calls.proofs.Sound.{draw-sound}
+use Rattle.run_stages.specs.declared.Record.{Record}
+use Rattle.run_stages.specs.State.{State, stateWith}
+use Rattle.run_stages.specs.Stages.{subsOf, haveOf, draw, settle, step}
+use Rattle.run_calls.proofs.Place.{draw-place}
+use Rattle.run_calls.proofs.Sound.{draw-sound}
 use Rattle.run_draw.specs.Drawable.{Drawable}
 use Rattle.run_draw.proofs.Draws.{drawable, draw-beside}
 use Rattle.run_round.specs.Settles.{Standing}

@@ -3,8 +3,8 @@ use mathlib.Core.Path.{_≡_}
 use mathlib.Core.Bool.{Bool, true}
 use Rattle.job.specs.Gives.{Sampled}
 use Rattle.quantizer.specs.Course.{Course}
-use Rattle.stages.specs.State.{State, draws}
-use Rattle.calls.specs.Fit.{Fit}
+use Rattle.run_stages.specs.State.{State, draws}
+use Rattle.run_calls.specs.Fit.{Fit}
 
 -- a job with samples that passed, and a state between calls
 pub record Running (K : Course) (s : State) : Type 0 where

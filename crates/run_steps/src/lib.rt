@@ -1,12 +1,12 @@
 // The draws of a run that was accepted: each makes all that is then due, and none is made past a stop or past an allotment.
 use job::Sizes;
-use stages::Record;
+use run_stages::Record;
 ghost use mathlib.Core.Path.{_≡_};
 ghost use lib.ListN.{length};
 ghost use Rattle.quantizer.specs.Course.{courseOf};
-ghost use Rattle.stages.specs.State.{stateWith};
-ghost use Rattle.stages.specs.Stages.{step, advance, drawsOf};
-ghost use Rattle.stages.specs.Calls.{recordOf, memory, memoryOf, outcome};
+ghost use Rattle.run_stages.specs.State.{stateWith};
+ghost use Rattle.run_stages.specs.Stages.{step, advance, drawsOf};
+ghost use Rattle.run_stages.specs.Calls.{recordOf, memory, memoryOf, outcome};
 ghost use Rattle.run_steps.specs.Running.{Running, Ongoing};
 
 // One draw, and all that is then due.

@@ -11,9 +11,9 @@ use Rattle.job.specs.Job.{Job}
 use Rattle.quantizer.specs.Course.{Course}
 use Rattle.quantizer.specs.Growing.{grown, grownHints}
 use Rattle.quantizer_needs.specs.Asked.{Growing}
-use Rattle.stages.specs.declared.Record.{Record}
-use Rattle.stages.specs.State.{State, stateWith, placed}
-use Rattle.stages.specs.Stages.{openGrowing}
+use Rattle.run_stages.specs.declared.Record.{Record}
+use Rattle.run_stages.specs.State.{State, stateWith, placed}
+use Rattle.run_stages.specs.Stages.{openGrowing}
 use Rattle.run_keeping.specs.Closing.{RoomToKeep, Judging}
 use Rattle.run_turns.specs.Asked.{Opening, Turning}
 use Rattle.run_turns.specs.Rounds.{replaceOn, growOn, openTurn}

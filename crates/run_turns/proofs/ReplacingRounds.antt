@@ -8,9 +8,9 @@ use Rattle.run_record.specs.Sized.{sized}
 use Rattle.run_keeping.specs.Keeping.{seen}
 use Rattle.quantizer.specs.Course.{Course}
 use Rattle.quantizer.specs.Replacing.{replaced, replacedHints}
-use Rattle.stages.specs.declared.Record.{Record}
-use Rattle.stages.specs.State.{State, stateWith, placed}
-use Rattle.stages.specs.Stages.{openReplacing, enterReducing}
+use Rattle.run_stages.specs.declared.Record.{Record}
+use Rattle.run_stages.specs.State.{State, stateWith, placed}
+use Rattle.run_stages.specs.Stages.{openReplacing, enterReducing}
 use Rattle.run_turns.specs.Rounds.{replaceOn}
 
 pub opened-by : (K : Course) (h : List ℕ) (p : List Float) (r : Record) (round : ℕ) (h2 : List ℕ) (p2 : List Float) → p2 ≡ replaced (K .job) p → h2 ≡ replacedHints (K .job) p h

@@ -11,9 +11,9 @@ use Rattle.palette_edit.specs.Edits.{subCopied}
 use Rattle.quantizer.specs.Course.{Course}
 use Rattle.quantizer.specs.Seeding.{duplicated}
 use Rattle.quantizer.proofs.Bounds.{row-in}
-use Rattle.stages.specs.declared.Record.{Record}
-use Rattle.stages.specs.State.{State, stateWith, placed}
-use Rattle.stages.specs.Stages.{openSeeding}
+use Rattle.run_stages.specs.declared.Record.{Record}
+use Rattle.run_stages.specs.State.{State, stateWith, placed}
+use Rattle.run_stages.specs.Stages.{openSeeding}
 use Rattle.run_record.specs.Sized.{sized}
 use Rattle.run_turns.specs.Asked.{Doubling, Turning}
 use Rattle.run_turns.specs.Rounds.{openTurn}

@@ -9,8 +9,8 @@ use borrow.Author.Tests.{lt-ltb, le-ltb, ne-eqb}
 use Rattle.lists.proofs.Runs.{lt-or-ge}
 use Rattle.quantizer.specs.Course.{Course}
 use Rattle.quantizer.specs.Seeding.{worstOf}
-use Rattle.stages.specs.State.{State}
-use Rattle.stages.specs.Stages.{noticed, openSeeding, enterReplacing, enterGrowing, closeSeeding, closeGrowing, closeReplacing, judged}
+use Rattle.run_stages.specs.State.{State}
+use Rattle.run_stages.specs.Stages.{noticed, openSeeding, enterReplacing, enterGrowing, closeSeeding, closeGrowing, closeReplacing, judged}
 use Rattle.run_keeping.specs.Keeping.{keeps, seen}
 use Rattle.run_turns.specs.Rounds.{replaceOn, growOn, openTurn}
 

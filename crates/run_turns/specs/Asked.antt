@@ -5,7 +5,7 @@ use mathlib.Core.List.{List}
 use lib.Ieee.{Float}
 use lib.ListN.{length}
 use Rattle.job.specs.Job.{Job}
-use Rattle.stages.specs.declared.Record.{Record}
+use Rattle.run_stages.specs.declared.Record.{Record}
 use Rattle.quantizer_needs.specs.Asked.{Growing}
 use Rattle.run_keeping.specs.Closing.{RoomToKeep}
 

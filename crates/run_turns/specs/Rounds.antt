@@ -3,8 +3,8 @@ use Prim.Native.Nat.{ℕ, _-_}
 use mathlib.Core.Bool.{cond}
 use lib.Dec.{ltb}
 use Rattle.quantizer.specs.Course.{Course}
-use Rattle.stages.specs.State.{State}
-use Rattle.stages.specs.Stages.{openSeeding, openGrowing, openReplacing, enterReducing}
+use Rattle.run_stages.specs.State.{State}
+use Rattle.run_stages.specs.Stages.{openSeeding, openGrowing, openReplacing, enterReducing}
 use Rattle.run_keeping.specs.Keeping.{seen}
 
 -- the next round of replacing, or the stop

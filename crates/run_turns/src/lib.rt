@@ -5,13 +5,13 @@ use job::Sizes;
 
 mod replacing;
 
-use stages::Record;
+use run_stages::Record;
 ghost use mathlib.Core.Path.{_≡_};
 ghost use mathlib.Core.List.{[]};
 ghost use Rattle.job.specs.Job.{jobOf};
 ghost use Rattle.quantizer.specs.Course.{courseOf};
-ghost use Rattle.stages.specs.State.{stateWith};
-ghost use Rattle.stages.specs.Stages.{openSeeding, openGrowing};
+ghost use Rattle.run_stages.specs.State.{stateWith};
+ghost use Rattle.run_stages.specs.Stages.{openSeeding, openGrowing};
 ghost use Rattle.run_record.specs.Sized.{sized};
 ghost use Rattle.run_turns.specs.Asked.{Doubling, Opening, Turning};
 ghost use Rattle.run_turns.specs.Rounds.{openTurn};

@@ -1,13 +1,13 @@
 // What a round of replacing opens with; the palette is looked at before it, and after the tenth comes the stop.
 // The order of the samples is not touched, so it is left out.
 use job::Sizes;
-use stages::Record;
+use run_stages::Record;
 ghost use mathlib.Core.Path.{_≡_};
 ghost use mathlib.Core.List.{[]};
 ghost use Rattle.job.specs.Job.{jobOf};
 ghost use Rattle.quantizer.specs.Course.{courseOf};
-ghost use Rattle.stages.specs.State.{stateWith};
-ghost use Rattle.stages.specs.Stages.{openReplacing};
+ghost use Rattle.run_stages.specs.State.{stateWith};
+ghost use Rattle.run_stages.specs.Stages.{openReplacing};
 ghost use Rattle.run_keeping.specs.Closing.{Whole, Judging};
 ghost use Rattle.run_turns.specs.Rounds.{replaceOn};
 

@@ -10,7 +10,7 @@ use borrow.Author.Tests.{eq-eqb, ne-eqb, lt-ltb, le-ltb}
 use Rattle.lists.specs.Every.{every}
 use Rattle.lists.proofs.Loops.{every-fails, every-more}
 use Rattle.job.specs.Checks.{firstBad, componentsFit}
-use Rattle.stages.specs.Record.{four, entryFits, orderFits, leastFits}
+use Rattle.run_stages.specs.Record.{four, entryFits, orderFits, leastFits}
 
 -- ---- an order, entry by entry
 module _ (n : ℕ) (order : List ℕ) (i w : ℕ) (e : w ≡ getD order i 0) where

@@ -1,7 +1,7 @@
 // The working colours and the order of a run, held to their limits: they are what a stranger wrote.
 ghost use mathlib.Core.Path.{_≡_};
 ghost use Rattle.job.specs.Checks.{componentsFit};
-ghost use Rattle.stages.specs.Record.{four, orderFits, leastFits};
+ghost use Rattle.run_stages.specs.Record.{four, orderFits, leastFits};
 
 // The magnitude of a working component, at most.
 const MOST_WORKING: f32 = 4.0;

@@ -12,7 +12,7 @@ use Rattle.format.specs.Format.{got, both, times, Answer, refused, accepted, re
 use Rattle.format.proofs.Lawful.{same-value, next-got}
 use Rattle.format.proofs.Files.{ended-accepted}
 use Rattle.format.proofs.Fixed.{both-first, both-second, times-fixed}
-use Rattle.pattern.specs.Pattern.{weighs}
+use Rattle.format_pattern.specs.Pattern.{weighs}
 use Rattle.sheet_format.specs.Sheet.{edition1, component, Header, Sheet, Parts, whole, tile, header, rest, sheet, readSheet}
 use Rattle.sheet_format.proofs.Headed.{header-fixed, header-sized, header-long}
 use Rattle.sheet_format.specs.Lists.{total}

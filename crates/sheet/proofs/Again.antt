@@ -10,7 +10,7 @@ use lib.Seq.{take-at, drop-at, drop-drop, getD-drop}
 use lib.Ieee.{Float, binary32, ofBits, toBits}
 use Rattle.format.specs.Format.{above, times}
 use Rattle.format.proofs.Tests.{and-l, and-r}
-use Rattle.pattern.proofs.Patterns.{weighs-back}
+use Rattle.format_pattern.proofs.Patterns.{weighs-back}
 use Rattle.job.specs.Job.{firstOf, sizeOf, countsPart, coloursPart}
 use Rattle.sheet_format.specs.Sheet.{edition1, component, Colour, entry, colours, tile, Sheet, whole, parts, header, rest, sheet}
 use Rattle.sheet_format.proofs.Headed.{Sized, good-says}

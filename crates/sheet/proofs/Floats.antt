@@ -12,8 +12,8 @@ use Rattle.ieee.specs.Terms.{zeroF, Within}
 use Rattle.color.specs.Color.{Bounded}
 use Rattle.format.specs.Format.{times}
 use Rattle.format.proofs.Tests.{and-l, and-r, and-in}
-use Rattle.pattern.specs.Pattern.{small, weighs}
-use Rattle.pattern.proofs.Patterns.{small-is, small-back, weighs-is}
+use Rattle.format_pattern.specs.Pattern.{small, weighs}
+use Rattle.format_pattern.proofs.Patterns.{small-is, small-back, weighs-is}
 use Rattle.sheet_format.specs.Sheet.{component}
 use Rattle.sheet_format.specs.Lists.{floats, patterns}
 

@@ -21,7 +21,7 @@ use Rattle.format.proofs.Tests.{and-in}
 use Rattle.job.specs.Job.{Job, job, tileSize, firstOf, sizeOf, countsPart, coloursPart}
 use Rattle.job.specs.Gives.{Ready, Lent}
 use Rattle.job.proofs.Tiles.{counts-length, tile-three, tile-bounded}
-use Rattle.pattern.specs.Pattern.{weighs}
+use Rattle.format_pattern.specs.Pattern.{weighs}
 use Rattle.sheet_format.specs.Sheet.{edition1, component, Colour, colours, tile, sheet}
 use Rattle.sheet_format.specs.Lists.{floats, patterns, tileCounts, tileFloats, allCounts, allFloats, tableOf}
 use Rattle.sheet_pack.specs.Packed.{coloursOf, tilesFrom, sheetOf, Counted}

@@ -24,7 +24,7 @@ use Rattle.job.specs.Rules.{Passed}
 use Rattle.job.proofs.First.{first-none}
 use Rattle.job.proofs.Passing.{pass-all}
 use Rattle.job.specs.Job.{tileSize, mostTileColours, firstOf, sizeOf, countsPart, nought, two, sixteen}
-use Rattle.pattern.proofs.Patterns.{weighs-is}
+use Rattle.format_pattern.proofs.Patterns.{weighs-is}
 use Rattle.sheet_format.specs.Sheet.{edition1, component, Colour, entry, colours, tile, Sheet, sheet}
 use Rattle.sheet_format.proofs.Headed.{above-says}
 use Rattle.sheet_format.specs.Lists.{floats, tileCounts, tileFloats, allCounts, allFloats, tableOf, total}

@@ -43,7 +43,7 @@ pub fn read(
                 counts,
                 colours,
             );
-            let heavy = pattern::weight(weight);
+            let heavy = format_pattern::weight(weight);
             Reading::Sheet(job::sizes_of(subs as usize, each as usize, t as usize, 0, heavy))
         }
     }

@@ -10,7 +10,7 @@ use Rattle.bits.specs.Bits.{bits, fieldAt}
 use Rattle.bits.proofs.Bytes.{length-bits}
 use Rattle.format.specs.Format.{Res, fault, got, next, field, above}
 use Rattle.format.proofs.Reading.{field-short, field-found, above-short, above-found, checked-fault, checked-got, both-fault, both-got, literal-short, literal-same, literal-other}
-use Rattle.pattern.specs.Pattern.{weighs}
+use Rattle.format_pattern.specs.Pattern.{weighs}
 use Rattle.sheet_format.specs.Sheet.{Edition, opening, weight, tiled, coloured, sized, dated, header}
 
 module _ (l : List Bool) where

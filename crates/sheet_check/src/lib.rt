@@ -43,7 +43,7 @@ pub fn head(s: &[u8]) -> Checked
         return Checked::Refused(13);
     }
     let weight = bits::get(s, sheet_format::WEIGHT_AT, 32);
-    if !pattern::is_weight(weight) {
+    if !format_pattern::is_weight(weight) {
         return Checked::Refused(4);
     }
     Checked::Sound {

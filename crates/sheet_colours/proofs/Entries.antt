@@ -10,7 +10,7 @@ use Rattle.bits.specs.Bits.{bits, fieldAt}
 use Rattle.bits.proofs.Bytes.{length-bits}
 use Rattle.format.specs.Format.{Res, fault, got, next, field, checked, above, times}
 use Rattle.format.proofs.Reading.{field-short, field-found, above-short, above-found, checked-fault, checked-got, both-fault, both-got}
-use Rattle.pattern.specs.Pattern.{small}
+use Rattle.format_pattern.specs.Pattern.{small}
 use Rattle.sheet_format.specs.Sheet.{Edition, component, entry}
 
 module _ (s : List ℕ) (q : ℕ) where

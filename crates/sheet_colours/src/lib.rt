@@ -27,7 +27,7 @@ pub fn components(s: &[u8], p: usize, n: usize) -> Step
         if end - q < 32 {
             return Step::Fault(13);
         }
-        if pattern::is_small(bits::get(s, q, 32)) {
+        if format_pattern::is_small(bits::get(s, q, 32)) {
             q += 32;
             i += 1;
         } else {

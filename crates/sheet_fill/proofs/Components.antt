@@ -13,7 +13,7 @@ use Rattle.bits.proofs.Bytes.{length-bits}
 use Rattle.format.specs.Format.{fault, got, field, times}
 use Rattle.format.proofs.Lawful.{cond-got, same-value, next-got}
 use Rattle.format.proofs.Fixed.{Fixed, field-says, field-fixed, checked-fixed, cons-parts}
-use Rattle.pattern.specs.Pattern.{small}
+use Rattle.format_pattern.specs.Pattern.{small}
 use Rattle.sheet_format.specs.Sheet.{component}
 use Rattle.sheet_format.specs.Lists.{floats}
 use Rattle.sheet_fill.specs.Fill.{Reads, listOf, listAt}

@@ -18,7 +18,7 @@ pub fn fill_components(s: &[u8], p: usize, n: usize, dst: &mut [f32], at: usize)
     let mut i = 0;
     while i < n {
         let k = at + i;
-        dst[k] = pattern::component(bits::get(s, q, 32));
+        dst[k] = format_pattern::component(bits::get(s, q, 32));
         q += 32;
         i += 1;
     }

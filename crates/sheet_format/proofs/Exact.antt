@@ -10,7 +10,7 @@ use Rattle.format.specs.Format.{field, checked, above, both, times, accepted, r
 use Rattle.format.proofs.Tests.{and-r}
 use Rattle.format.proofs.Lawful.{Lawful, field-lawful, checked-lawful, mapped-lawful, above-lawful, both-lawful, literal-lawful, none-lawful, cons-lawful, times-lawful, counted-lawful}
 use Rattle.format.proofs.Files.{decode-encode, encode-decode}
-use Rattle.pattern.specs.Pattern.{small, weighs}
+use Rattle.format_pattern.specs.Pattern.{small, weighs}
 use Rattle.sheet_format.specs.Sheet.{Edition, opening, component, Colour, Sheet, whole, parts, entry, colours, tile, header, rest, sheet}
 
 pub component-lawful : Lawful component

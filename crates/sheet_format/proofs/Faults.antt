@@ -7,7 +7,7 @@ use lib.Dec.{leb, eqb}
 use lib.ListN.{length, take, drop}
 use Rattle.bits.specs.Bits.{num}
 use Rattle.format.specs.Format.{Res, fault, got, next, Format, field, checked, above, both, literal, cons, times, counted}
-use Rattle.pattern.specs.Pattern.{small, weighs}
+use Rattle.format_pattern.specs.Pattern.{small, weighs}
 use Rattle.sheet_format.specs.Sheet.{Edition, opening, component, weight, tiled, coloured, sized, whole, entry, colours, tile, dated, header, rest, sheet}
 use Rattle.sheet_format.specs.Opened.{misopened}
 

@@ -5,7 +5,7 @@ use mathlib.Core.List.{List}
 use lib.Dec.{leb}
 use lib.ListN.{length}
 use Rattle.format.specs.Format.{Format, field, checked, mapped, above, both, literal, none, cons, times, counted, Answer, refused, readOf}
-use Rattle.pattern.specs.Pattern.{small, weighs}
+use Rattle.format_pattern.specs.Pattern.{small, weighs}
 
 -- what differs between editions: its number, the pixels of a tile, the bits of a tile's number of colours and of a count less one
 pub record Edition : Type 0 where

@@ -8,7 +8,7 @@ use native.Mathlib.Numerals.{add-one}
 use lib.Ieee.{Float, nan}
 use lib.ListN.{length, getD, set, take, length-map, List·getD-map}
 use lib.Seq.{paste, paste-zero, paste-suc, take-paste, take-all}
-use Rattle.training.specs.Training.{cutOne, cut}
+use Rattle.train_run.specs.Training.{cutOne, cut}
 
 -- the first i of `to` are cut ones
 abbrev pub Cut : List Float → List Float → ℕ → List Float → Type 0

@@ -2,7 +2,7 @@
 ghost use mathlib.Core.Path.{_≡_};
 ghost use Prim.Native.Nat.{_≤_};
 ghost use lib.ListN.{length, take};
-ghost use Rattle.training.specs.Training.{cutOne, cut};
+ghost use Rattle.train_run.specs.Training.{cutOne, cut};
 
 // Room for the order and for the samples of any sheet. The contracts give only the lengths.
 pub fn order_room() -> [u32; 16384]

@@ -11,10 +11,10 @@ use lib.ListN.{length}
 use lib.Ieee.{Float}
 use Rattle.job.specs.Rules.{Passed}
 use Rattle.quantizer.specs.Course.{Course}
-use Rattle.stages.specs.Calls.{Memory, Outcome, outcome, jobRules, startCall, advanceCall, handInCall}
-use Rattle.calls.specs.Accepted.{Roomy}
-use Rattle.training.specs.Training.{cut, all, trained, stopCall, turnCall, turnCalls}
-use Rattle.training.proofs.ByCalls.{calls-train}
+use Rattle.run_stages.specs.Calls.{Memory, Outcome, outcome, jobRules, startCall, advanceCall, handInCall}
+use Rattle.run_calls.specs.Accepted.{Roomy}
+use Rattle.train_run.specs.Training.{cut, all, trained, stopCall, turnCall, turnCalls}
+use Rattle.train_run.proofs.ByCalls.{calls-train}
 
 module _ (K : Course) where
   -- a call's memory, from its outcome

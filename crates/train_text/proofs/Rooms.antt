@@ -9,10 +9,10 @@ use lib.Seq.{length-take-le}
 use lib.Ieee.{Float}
 use Rattle.job.specs.Gives.{Sampled}
 use Rattle.quantizer.specs.Course.{Course}
-use Rattle.stages.specs.Calls.{Memory, memory, outcome, startCall}
-use Rattle.calls.specs.Accepted.{Roomy}
-use Rattle.calls.proofs.Accepted.{job-passed}
-use Rattle.training.specs.Training.{trained, turnCalls}
+use Rattle.run_stages.specs.Calls.{Memory, memory, outcome, startCall}
+use Rattle.run_calls.specs.Accepted.{Roomy}
+use Rattle.run_calls.proofs.Accepted.{job-passed}
+use Rattle.train_run.specs.Training.{trained, turnCalls}
 use Rattle.sheet_parts.proofs.Hints.{no-hint}
 use Rattle.train_text.proofs.Joined.{run-joined}
 use Rattle.train_text.specs.Trained.{trainedPalette, Drawable}

@@ -17,7 +17,7 @@ use Rattle.job.specs.Gives.{Ready}
 use Rattle.job.proofs.Ready.{plain-ready}
 use Rattle.job.proofs.Tiles.{counts-length, counts-placed}
 use Rattle.quantizer.specs.Course.{course}
-use Rattle.stages.specs.Calls.{jobRules}
+use Rattle.run_stages.specs.Calls.{jobRules}
 use Rattle.lists.proofs.Loops.{every-all}
 use Rattle.train_samples.specs.Samples.{units, samplesTo, unitsTo, Countable}
 use Rattle.train_samples.proofs.Numbers.{length-samples}

@@ -13,10 +13,10 @@ use borrow.Author.Tests.{ne-eqb}
 use Rattle.job.specs.Job.{Job, mostSamples}
 use Rattle.job.specs.Rules.{Passed}
 use Rattle.job.specs.Checks.{plainAnswer}
-use Rattle.stages.specs.Calls.{Memory, memory, jobRules}
-use Rattle.calls.specs.Accepted.{Roomy}
+use Rattle.run_stages.specs.Calls.{Memory, memory, jobRules}
+use Rattle.run_calls.specs.Accepted.{Roomy}
 use Rattle.fit_lines.specs.Lines.{refusedLine}
-use Rattle.training.proofs.ByCalls.{trained-fits}
+use Rattle.train_run.proofs.ByCalls.{trained-fits}
 use Rattle.train_samples.specs.Refusal.{refusalOf}
 use Rattle.train_samples.proofs.Accepted as refusals
 use Rattle.train_samples.specs.Samples.{unitsTo}

@@ -9,12 +9,12 @@ use lib.Ieee.{Float}
 use Rattle.job.specs.Job.{Job}
 use Rattle.job.specs.Rules.{Passed}
 use Rattle.quantizer.specs.Course.{Course, course}
-use Rattle.stages.specs.Calls.{jobRules}
+use Rattle.run_stages.specs.Calls.{jobRules}
 use Rattle.format.specs.Format.{encode}
 use Rattle.sheet_format.specs.Sheet.{edition1, sheet}
 use Rattle.sheet_pack.specs.Packed.{sheetOf}
 use Rattle.fit_lines.specs.Lines.{refusedLine}
-use Rattle.training.specs.Training.{trained}
+use Rattle.train_run.specs.Training.{trained}
 use Rattle.train_samples.specs.Refusal.{refusalOf}
 use Rattle.train_samples.specs.Samples.{samplesTo, unitsTo}
 

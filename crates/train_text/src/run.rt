@@ -5,8 +5,8 @@ ghost use mathlib.Core.Path.{_≡_};
 ghost use Prim.Native.Nat.{_≤_};
 ghost use lib.ListN.{length};
 ghost use Rattle.quantizer.specs.Course.{courseOf};
-ghost use Rattle.stages.specs.Calls.{memory};
-ghost use Rattle.training.specs.Training.{turnCalls};
+ghost use Rattle.run_stages.specs.Calls.{memory};
+ghost use Rattle.train_run.specs.Training.{turnCalls};
 ghost use Rattle.train_text.specs.Trained.{trainedPalette, Drawable};
 
 const SEED: u64 = 0;

@@ -2,7 +2,7 @@
 use mathlib.Core.Path.{sym, _∙_}
 use native.Mathlib.Omega.{arith}
 use borrow.Author.Tests.{eq-eqb}
-use Rattle.stages.specs.Calls.{stateOf, memoryRoom, coloursRoom, handInAnswer}
+use Rattle.run_stages.specs.Calls.{stateOf, memoryRoom, coloursRoom, handInAnswer}
 use Rattle.job.proofs.Passing.{refuses, passes, skips, none}
 use Rattle.run_check.proofs.Answers.{bound-fails, run-room, run-stops, run-goes}
 use borrow.Author.Needs.{needs}

@@ -1,5 +1,5 @@
 -- `run_check::refuses_start` meets its contract: lengths matter only where the sizes are in their ranges. Assumes nothing.
-use Rattle.stages.specs.Calls.{memoryRoom, coloursRoom, startAnswer}
+use Rattle.run_stages.specs.Calls.{memoryRoom, coloursRoom, startAnswer}
 use Rattle.run_check.proofs.Answers.{job-whole}
 use borrow.Author.Needs.{needs}
 use Rattle.run_check.proofs.refuses_start.Statement.{statement}

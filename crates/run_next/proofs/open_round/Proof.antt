@@ -1,6 +1,6 @@
 -- `run_next::open_round` meets its contract: what is left is the draws of a round. Assumes nothing.
 use mathlib.Core.Path.{ap, _∙_}
-use Rattle.stages.specs.State.{placed}
+use Rattle.run_stages.specs.State.{placed}
 use borrow.Author.Needs.{needs}
 use Rattle.run_next.proofs.open_round.Statement.{statement}
 use Rattle.run_next.proofs.open_round.Tie as tie

@@ -1,6 +1,6 @@
 -- `run_place::error_fits` meets its contract, return by return. Assumes nothing.
 use borrow.Author.Tests.{eq-eqb, ne-eqb}
-use Rattle.stages.specs.Record.{errorFits}
+use Rattle.run_stages.specs.Record.{errorFits}
 use Rattle.run_place.proofs.error_fits.Statement.{statement}
 use Rattle.run_place.proofs.error_fits.Tie as tie
 

@@ -1,8 +1,8 @@
 -- `run_round::settle` meets its contract. The invariant: what settling gives is still to come, from a state that can be closed. Assumes nothing.
 use mathlib.Core.Path.{refl, sym, _∙_}
 use Rattle.quantizer.specs.Course.{courseOf}
-use Rattle.stages.specs.State.{stateWith}
-use Rattle.calls.proofs.Place.{togo}
+use Rattle.run_stages.specs.State.{stateWith}
+use Rattle.run_calls.proofs.Place.{togo}
 use Rattle.run_round.proofs.Closes.{Settling, begun, to-close, fewer, again, ended}
 use Rattle.run_round.proofs.settle.Statement.{statement}
 use Rattle.run_round.proofs.settle.Tie as tie

@@ -3,7 +3,7 @@ use native.Mathlib.Omega.{arith}
 use Prim.Native.Nat.{_-_}
 use mir.Facts.{fits-le}
 use Rattle.quantizer.specs.Course.{courseOf}
-use Rattle.stages.specs.State.{stateWith}
+use Rattle.run_stages.specs.State.{stateWith}
 use Rattle.run_steps.proofs.Advances.{Advancing, begun, ongoing, allotted, drawn-more, order-kept, hints-kept, palette-kept, least-kept, worked}
 use borrow.Author.Needs.{needs}
 use Rattle.run_steps.proofs.advance_work.Statement.{statement}

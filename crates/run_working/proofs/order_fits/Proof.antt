@@ -5,7 +5,7 @@ use mathlib.Core.Bool.{true}
 use lib.ListN.{length}
 use Rattle.lists.specs.Every.{every}
 use Rattle.lists.proofs.Loops.{every-end}
-use Rattle.stages.specs.Record.{entryFits, orderFits}
+use Rattle.run_stages.specs.Record.{entryFits, orderFits}
 use Rattle.run_working.proofs.Works.{order-fails, order-more}
 use borrow.Author.Needs.{needs}
 use Rattle.run_working.proofs.order_fits.Statement.{statement}

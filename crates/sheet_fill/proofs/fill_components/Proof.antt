@@ -8,7 +8,7 @@ use lib.ListN.{length, set, length-set}
 use lib.Seq.{sets}
 use lib.Ieee.{binary32, ofBits}
 use Rattle.format.specs.Format.{times}
-use Rattle.pattern.specs.Pattern.{small}
+use Rattle.format_pattern.specs.Pattern.{small}
 use Rattle.sheet_format.specs.Sheet.{component}
 use Rattle.sheet_format.specs.Lists.{floats}
 use Rattle.sheet_fill.specs.Fill.{Reads, listAt}

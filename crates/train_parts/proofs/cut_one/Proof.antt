@@ -1,5 +1,5 @@
 -- `cut_one` meets its contract: each comparison is decided by its branch. Assumes nothing.
-use Rattle.training.specs.Training.{cutOne}
+use Rattle.train_run.specs.Training.{cutOne}
 use Rattle.train_parts.proofs.cut_one.Statement.{statement}
 use Rattle.train_parts.proofs.cut_one.Tie as tie
 

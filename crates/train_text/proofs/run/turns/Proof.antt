@@ -2,7 +2,7 @@
 use Prim.Native.Nat.{_-_}
 use native.Mathlib.Omega.{arith}
 use Rattle.quantizer.specs.Course.{courseOf}
-use Rattle.stages.specs.Calls.{memory}
+use Rattle.run_stages.specs.Calls.{memory}
 use Rattle.sheet_parts.proofs.Parts.{front-long}
 use Rattle.train_text.proofs.Joined.{Turned, none-turned, one-more, next-fits, nearer, all-turned}
 use Rattle.train_text.proofs.run.turns.Statement.{statement}
