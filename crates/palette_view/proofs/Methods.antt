@@ -75,8 +75,8 @@ module _ (T : Declared) (laws : LL.Laws T) (answerOf : List Float → Oklab → 
       abbrev Own : Fml
       Own = owns (B κ ∷ Ts) (d, given c w) (whole d, passed c w)
 
-      abbrev Sliced : Fml
-      Sliced = owns (ShrSlice (named 0) κ f32 ∷ Ts) (d .colors, given c w) (part (d .colors), passed c w)
+      abbrev TheSlice : Fml
+      TheSlice = owns (ShrSlice (named 0) κ f32 ∷ Ts) (d .colors, given c w) (part (d .colors), passed c w)
 
       -- what the callee is passed
       abbrev to : Sliced T answerOf 𝓤 H A .Ghost
@@ -85,9 +85,9 @@ module _ (T : Declared) (laws : LL.Laws T) (answerOf : List Float → Oklab → 
       apart : ent 𝓤 (onEntry 𝓤 H A (viewed T answerOf .signature) (κ, tt) (q, tt) (d, given c w) (whole d, passed c w)) (sep 𝓤 (Sliced T answerOf 𝓤 H A .pre to) (sem 𝓤 H A Own))
       apart =
           qed W ((‵ Alive ⊛ ‵ ftrue) ∷ ‵ Own ∷ []) ∵ move ! (1 ∷ []) $
-          use1 W (‵ Sliced ⊛ ‵ Own) (opened 𝓤 H A W κ Ts (LL.copy O.the-type O′.the-copy 𝓤 H A W, (float-copy 𝓤 H A W binary32, tt)) (given c w) (passed c w) d) $
+          use1 W (‵ TheSlice ⊛ ‵ Own) (opened 𝓤 H A W κ Ts (LL.copy O.the-type O′.the-copy 𝓤 H A W, (float-copy 𝓤 H A W binary32, tt)) (given c w) (passed c w) d) $
           split ! $ move ! (2 ∷ 0 ∷ []) $
-          use2 W (raw (Sliced T answerOf 𝓤 H A .pre to)) (qed W ((‵ Alive ⊛ ‵ ftrue) ∷ ‵ Sliced ∷ []) ∵ join ! $ frame ! $ done !) $ frame ! $ done !
+          use2 W (raw (Sliced T answerOf 𝓤 H A .pre to)) (qed W ((‵ Alive ⊛ ‵ ftrue) ∷ ‵ TheSlice ∷ []) ∵ join ! $ frame ! $ done !) $ frame ! $ done !
 
       -- of what the callee ensures, the clause alone: it has no `&mut`, so what is said of last values is dropped
       said : (r : T .D) → ent 𝓤 (ensured 𝓤 H A (sliced T answerOf) (of-slice T answerOf 𝓤) (κ, tt) (d .colors, given c w) tt r) (fact 𝓤 (r ≡ found))
