@@ -42,7 +42,8 @@ fn tile_step(
     sum: Tally,
 ) -> Tally
     requires { ⌜ Turn (jobOf z (now tiles) (now colours) (now counts)) (now pal) n have (now hints) i sum ⌝ }
-    ensures { λ r. ⌜ (r ≡ tallyStep (jobOf z (now (tiles .entry)) (now (colours .entry)) (now (counts .entry))) (now (pal .entry)) n have i sum) × (now (hints .exit) ≡ hintStep (jobOf z (now (tiles .entry)) (now (colours .entry)) (now (counts .entry))) (now (pal .entry)) n have i (now (hints .entry))) ⌝ }
+    ensures { λ r. ⌜ (r ≡ tallyStep (jobOf z (now (tiles .entry)) (now (colours .entry)) (now (counts .entry))) (now (pal .entry)) n have i sum)
+        × (now (hints .exit) ≡ hintStep (jobOf z (now (tiles .entry)) (now (colours .entry)) (now (counts .entry))) (now (pal .entry)) n have i (now (hints .entry))) ⌝ }
 {
     if job::is_empty(tiles, i) {
         return sum;
@@ -78,7 +79,8 @@ pub fn mse(
     hints: &mut [u32],
 ) -> f32
     requires { ⌜ Shown (jobOf z (now tiles) (now colours) (now counts)) (now pal) n have × (length (now hints) ≡ (z .t)) ⌝ }
-    ensures { λ r. ⌜ (r ≡ mseOf (jobOf z (now (tiles .entry)) (now (colours .entry)) (now (counts .entry))) (now (pal .entry)) n have) × (now (hints .exit) ≡ hintsOf (jobOf z (now (tiles .entry)) (now (colours .entry)) (now (counts .entry))) (now (pal .entry)) n have (now (hints .entry)) (z .t)) ⌝ }
+    ensures { λ r. ⌜ (r ≡ mseOf (jobOf z (now (tiles .entry)) (now (colours .entry)) (now (counts .entry))) (now (pal .entry)) n have)
+        × (now (hints .exit) ≡ hintsOf (jobOf z (now (tiles .entry)) (now (colours .entry)) (now (counts .entry))) (now (pal .entry)) n have (now (hints .entry)) (z .t)) ⌝ }
 {
     let mut sum = Tally {
         total: 0.0,

@@ -102,7 +102,8 @@ pub needs-good : (J : Job) (pal : List Float) (have : ℕ) → Shown J pal (J .S
 unfolding walk needStep
 needs-good J pal have S zero h = zeros-good 256
 needs-good J pal have S (suc t) h =
-    tile-needs-good J pal (J .S) have S t h (winner J pal (J .S) have t) (winner-below J pal (J .S) have S t) (needsOf J pal have t) (length-needs J pal have t) (needs-good J pal have S t (omega arith)) (length (tileAt J t .counts)) (le-refl _)
+    tile-needs-good J pal (J .S) have S t h (winner J pal (J .S) have t) (winner-below J pal (J .S) have S t) (needsOf J pal have t) (length-needs J pal have t)
+    (needs-good J pal have S t (omega arith)) (length (tileAt J t .counts)) (le-refl _)
 
 -- ---- replacing
 module _ (J : Job) (pal : List Float) (S : Shown J pal (J .S) (J .C)) where

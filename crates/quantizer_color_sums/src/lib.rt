@@ -20,7 +20,9 @@ fn color_step(
     second: &mut [f32],
 )
     requires { ⌜ OwnerTurn (jobOf z (now tiles) (now colours) (now counts)) (now pal) (now hints) i (shares (now total) (now second)) ⌝ }
-    ensures { λ r. ⌜ shares (now (total .exit)) (now (second .exit)) ≡ spreadStep (jobOf z (now (tiles .entry)) (now (colours .entry)) (now (counts .entry))) (now (pal .entry)) (ownerOf (jobOf z (now (tiles .entry)) (now (colours .entry)) (now (counts .entry))) (now (pal .entry)) i) i (shares (now (total .entry)) (now (second .entry))) ⌝ }
+    ensures { λ r. ⌜ shares (now (total .exit)) (now (second .exit))
+        ≡ spreadStep (jobOf z (now (tiles .entry)) (now (colours .entry)) (now (counts .entry))) (now (pal .entry))
+        (ownerOf (jobOf z (now (tiles .entry)) (now (colours .entry)) (now (counts .entry))) (now (pal .entry)) i) i (shares (now (total .entry)) (now (second .entry))) ⌝ }
 {
     let owner = quantizer_owner::nearest_palette_of(z.s, hints, i);
     let sub = palette::part(pal, z.c, z.c, owner);
@@ -41,7 +43,8 @@ pub fn color_sums(
     second: &mut [f32],
 )
     requires { ⌜ Owned (jobOf z (now tiles) (now colours) (now counts)) (now pal) (now hints) × ((now total ≡ zeros places) × (now second ≡ zeros places)) ⌝ }
-    ensures { λ r. ⌜ shares (now (total .exit)) (now (second .exit)) ≡ spreadOf (jobOf z (now (tiles .entry)) (now (colours .entry)) (now (counts .entry))) (now (pal .entry)) (ownerOf (jobOf z (now (tiles .entry)) (now (colours .entry)) (now (counts .entry))) (now (pal .entry))) (z .t) ⌝ }
+    ensures { λ r. ⌜ shares (now (total .exit)) (now (second .exit))
+        ≡ spreadOf (jobOf z (now (tiles .entry)) (now (colours .entry)) (now (counts .entry))) (now (pal .entry)) (ownerOf (jobOf z (now (tiles .entry)) (now (colours .entry)) (now (counts .entry))) (now (pal .entry))) (z .t) ⌝ }
 {
     let mut i = 0;
     while i < z.t {

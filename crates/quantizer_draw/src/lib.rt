@@ -25,7 +25,11 @@ pub fn draw(
     alpha: f32,
 ) -> SampleCycle
     requires { ⌜ Going (courseOf z (now tiles) (now colours) (now counts) (now samples)) (cycle (deck (now order) (at .prng .state)) (at .made)) (now pal) subs have (now hints) ⌝ }
-    ensures { λ r. ⌜ (cycle (deck (now (order .exit)) (r .prng .state)) (r .made) ≡ drawOne (cycle (deck (now (order .entry)) (at .prng .state)) (at .made)) .next) × ((now (pal .exit) ≡ movedBy (courseOf z (now (tiles .entry)) (now (colours .entry)) (now (counts .entry)) (now (samples .entry))) (now (pal .entry)) subs have (drawOne (cycle (deck (now (order .entry)) (at .prng .state)) (at .made)) .sample) alpha) × (now (hints .exit) ≡ hintsBy (courseOf z (now (tiles .entry)) (now (colours .entry)) (now (counts .entry)) (now (samples .entry))) (now (pal .entry)) subs have (drawOne (cycle (deck (now (order .entry)) (at .prng .state)) (at .made)) .sample) (now (hints .entry)))) ⌝ }
+    ensures { λ r. ⌜ (cycle (deck (now (order .exit)) (r .prng .state)) (r .made) ≡ drawOne (cycle (deck (now (order .entry)) (at .prng .state)) (at .made)) .next)
+        × ((now (pal .exit) ≡ movedBy (courseOf z (now (tiles .entry)) (now (colours .entry)) (now (counts .entry)) (now (samples .entry))) (now (pal .entry)) subs have
+        (drawOne (cycle (deck (now (order .entry)) (at .prng .state)) (at .made)) .sample) alpha)
+        × (now (hints .exit) ≡ hintsBy (courseOf z (now (tiles .entry)) (now (colours .entry)) (now (counts .entry)) (now (samples .entry))) (now (pal .entry)) subs have
+        (drawOne (cycle (deck (now (order .entry)) (at .prng .state)) (at .made)) .sample) (now (hints .entry)))) ⌝ }
 {
     let drawn = at.next(order);
     quantizer_move::nudge(

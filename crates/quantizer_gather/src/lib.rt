@@ -21,7 +21,10 @@ fn gather_step(
     cnts: &mut [u32],
 )
     requires { ⌜ Turned (jobOf z (now tiles) (now colours) (now counts)) (now pal) (now hints) i (gather (now sums) (now cnts)) ⌝ }
-    ensures { λ r. ⌜ (gather (now (sums .exit)) (now (cnts .exit)) ≡ gatherStep (jobOf z (now (tiles .entry)) (now (colours .entry)) (now (counts .entry))) (now (pal .entry)) (winner (jobOf z (now (tiles .entry)) (now (colours .entry)) (now (counts .entry))) (now (pal .entry)) (z .s) (z .c) i) i (gather (now (sums .entry)) (now (cnts .entry)))) × (now (hints .exit) ≡ hintStep (jobOf z (now (tiles .entry)) (now (colours .entry)) (now (counts .entry))) (now (pal .entry)) (z .s) (z .c) i (now (hints .entry))) ⌝ }
+    ensures { λ r. ⌜ (gather (now (sums .exit)) (now (cnts .exit))
+        ≡ gatherStep (jobOf z (now (tiles .entry)) (now (colours .entry)) (now (counts .entry))) (now (pal .entry))
+        (winner (jobOf z (now (tiles .entry)) (now (colours .entry)) (now (counts .entry))) (now (pal .entry)) (z .s) (z .c) i) i (gather (now (sums .entry)) (now (cnts .entry))))
+        × (now (hints .exit) ≡ hintStep (jobOf z (now (tiles .entry)) (now (colours .entry)) (now (counts .entry))) (now (pal .entry)) (z .s) (z .c) i (now (hints .entry))) ⌝ }
 {
     if job::is_empty(tiles, i) {
         return;
@@ -46,7 +49,8 @@ pub fn gather_all(
     cnts: &mut [u32],
 )
     requires { ⌜ Shown (jobOf z (now tiles) (now colours) (now counts)) (now pal) (z .s) (z .c) × ((length (now hints) ≡ (z .t)) × (gather (now sums) (now cnts) ≡ nothing)) ⌝ }
-    ensures { λ r. ⌜ (gather (now (sums .exit)) (now (cnts .exit)) ≡ gatherOf (jobOf z (now (tiles .entry)) (now (colours .entry)) (now (counts .entry))) (now (pal .entry)) (z .t)) × (now (hints .exit) ≡ hintsOf (jobOf z (now (tiles .entry)) (now (colours .entry)) (now (counts .entry))) (now (pal .entry)) (z .s) (z .c) (now (hints .entry)) (z .t)) ⌝ }
+    ensures { λ r. ⌜ (gather (now (sums .exit)) (now (cnts .exit)) ≡ gatherOf (jobOf z (now (tiles .entry)) (now (colours .entry)) (now (counts .entry))) (now (pal .entry)) (z .t))
+        × (now (hints .exit) ≡ hintsOf (jobOf z (now (tiles .entry)) (now (colours .entry)) (now (counts .entry))) (now (pal .entry)) (z .s) (z .c) (now (hints .entry)) (z .t)) ⌝ }
 {
     let mut i = 0;
     while i < z.t {

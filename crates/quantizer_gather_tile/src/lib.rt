@@ -28,7 +28,8 @@ pub fn gather_tile(
     cnts: &mut [u32],
 )
     requires { ⌜ Gathering (now sub) (tileWith (now tile) (now counts)) base (gather (now sums) (now cnts)) ⌝ }
-    ensures { λ r. ⌜ gather (now (sums .exit)) (now (cnts .exit)) ≡ tileGather (now (sub .entry)) (tileWith (now (tile .entry)) (now (counts .entry))) w base (gather (now (sums .entry)) (now (cnts .entry))) (length (now (counts .entry))) ⌝ }
+    ensures { λ r. ⌜ gather (now (sums .exit)) (now (cnts .exit))
+        ≡ tileGather (now (sub .entry)) (tileWith (now (tile .entry)) (now (counts .entry))) w base (gather (now (sums .entry)) (now (cnts .entry))) (length (now (counts .entry))) ⌝ }
 {
     let n = counts.len();
     let mut k = 0;

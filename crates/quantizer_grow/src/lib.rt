@@ -31,7 +31,8 @@ pub fn grow_palette(
     hints: &mut [u32],
 )
     requires { ⌜ Growing (jobOf z (now tiles) (now colours) (now counts)) (now pal) have (now hints) ⌝ }
-    ensures { λ r. ⌜ (now (pal .exit) ≡ grown (jobOf z (now (tiles .entry)) (now (colours .entry)) (now (counts .entry))) (now (pal .entry)) have) × (now (hints .exit) ≡ grownHints (jobOf z (now (tiles .entry)) (now (colours .entry)) (now (counts .entry))) (now (pal .entry)) have (now (hints .entry))) ⌝ }
+    ensures { λ r. ⌜ (now (pal .exit) ≡ grown (jobOf z (now (tiles .entry)) (now (colours .entry)) (now (counts .entry))) (now (pal .entry)) have)
+        × (now (hints .exit) ≡ grownHints (jobOf z (now (tiles .entry)) (now (colours .entry)) (now (counts .entry))) (now (pal .entry)) have (now (hints .entry))) ⌝ }
 {
     let mut total_color_distances = [0.0f32; 256];
     quantizer_needs::color_distances(

@@ -20,7 +20,8 @@ pub fn nudge(
     alpha: f32,
 )
     requires { ⌜ Drawing (courseOf z (now tiles) (now colours) (now counts) (now samples)) (now pal) subs have (now hints) i ⌝ }
-    ensures { λ r. ⌜ (now (pal .exit) ≡ movedBy (courseOf z (now (tiles .entry)) (now (colours .entry)) (now (counts .entry)) (now (samples .entry))) (now (pal .entry)) subs have i alpha) × (now (hints .exit) ≡ hintsBy (courseOf z (now (tiles .entry)) (now (colours .entry)) (now (counts .entry)) (now (samples .entry))) (now (pal .entry)) subs have i (now (hints .entry))) ⌝ }
+    ensures { λ r. ⌜ (now (pal .exit) ≡ movedBy (courseOf z (now (tiles .entry)) (now (colours .entry)) (now (counts .entry)) (now (samples .entry))) (now (pal .entry)) subs have i alpha)
+        × (now (hints .exit) ≡ hintsBy (courseOf z (now (tiles .entry)) (now (colours .entry)) (now (counts .entry)) (now (samples .entry))) (now (pal .entry)) subs have i (now (hints .entry))) ⌝ }
 {
     let tile = quantizer_sample::sample_tile(samples, i);
     let q = quantizer_sample::sample_colour(tiles, colours, samples, i);

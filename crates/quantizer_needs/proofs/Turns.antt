@@ -42,7 +42,8 @@ module _ (J : Job) (pal : List Float) (have : ℕ) (hints : List ℕ) (t : ℕ) 
         goes-asks J pal have t (b .index) best (fit-index J pal (J .S) have t b B) sub tile part S E C (λ i s X. Matched s X (i * J .C) (length total))
         (tile-matched J pal (J .S) have (K .paired .shown) t (K .paired .tile) best (winner-below J pal (J .S) have (K .paired .shown) t) (length total) (K .wide))
 
-    pub turn-done : (r : Bool) → r ≡ isEmpty J t → r ≡ false → (after : List Float) (left : List ℕ) → after ≡ tileNeeds sub (tileWith tile part) (J .weight) (b .index * J .C) total (length part) → left ≡ set hints t (b .index) → Stepped after left
+    pub turn-done : (r : Bool) → r ≡ isEmpty J t → r ≡ false → (after : List Float) (left : List ℕ) → after
+        ≡ tileNeeds sub (tileWith tile part) (J .weight) (b .index * J .C) total (length part) → left ≡ set hints t (b .index) → Stepped after left
     unfolding needStep
     turn-done r R p after left u v = (
       u ∙ goes-same J pal have t (b .index) best (fit-index J pal (J .S) have t b B) sub tile part S E C (λ i s X. tileNeeds s X (J .weight) (i * J .C) total (length (X .counts))),

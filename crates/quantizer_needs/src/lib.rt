@@ -22,7 +22,9 @@ fn tile_step(
     total: &mut [f32],
 )
     requires { ⌜ NeedTurn (jobOf z (now tiles) (now colours) (now counts)) (now pal) have (now hints) i (now total) ⌝ }
-    ensures { λ r. ⌜ (now (total .exit) ≡ needStep (jobOf z (now (tiles .entry)) (now (colours .entry)) (now (counts .entry))) (now (pal .entry)) have (winner (jobOf z (now (tiles .entry)) (now (colours .entry)) (now (counts .entry))) (now (pal .entry)) (z .s) have i) i (now (total .entry))) × (now (hints .exit) ≡ hintStep (jobOf z (now (tiles .entry)) (now (colours .entry)) (now (counts .entry))) (now (pal .entry)) (z .s) have i (now (hints .entry))) ⌝ }
+    ensures { λ r. ⌜ (now (total .exit) ≡ needStep (jobOf z (now (tiles .entry)) (now (colours .entry)) (now (counts .entry))) (now (pal .entry)) have
+        (winner (jobOf z (now (tiles .entry)) (now (colours .entry)) (now (counts .entry))) (now (pal .entry)) (z .s) have i) i (now (total .entry)))
+        × (now (hints .exit) ≡ hintStep (jobOf z (now (tiles .entry)) (now (colours .entry)) (now (counts .entry))) (now (pal .entry)) (z .s) have i (now (hints .entry))) ⌝ }
 {
     if job::is_empty(tiles, i) {
         return;
@@ -47,7 +49,8 @@ pub fn color_distances(
     total: &mut [f32],
 )
     requires { ⌜ Growing (jobOf z (now tiles) (now colours) (now counts)) (now pal) have (now hints) × (now total ≡ zeros places) ⌝ }
-    ensures { λ r. ⌜ (now (total .exit) ≡ splitSums (jobOf z (now (tiles .entry)) (now (colours .entry)) (now (counts .entry))) (now (pal .entry)) have) × (now (hints .exit) ≡ grownHints (jobOf z (now (tiles .entry)) (now (colours .entry)) (now (counts .entry))) (now (pal .entry)) have (now (hints .entry))) ⌝ }
+    ensures { λ r. ⌜ (now (total .exit) ≡ splitSums (jobOf z (now (tiles .entry)) (now (colours .entry)) (now (counts .entry))) (now (pal .entry)) have)
+        × (now (hints .exit) ≡ grownHints (jobOf z (now (tiles .entry)) (now (colours .entry)) (now (counts .entry))) (now (pal .entry)) have (now (hints .entry))) ⌝ }
 {
     if have == 1 {
         return;

@@ -33,7 +33,8 @@ pub fn palette_sums(
     removed: &mut [f32],
 )
     requires { ⌜ Shown (jobOf z (now tiles) (now colours) (now counts)) (now pal) (z .s) (z .c) × ((length (now hints) ≡ (z .t)) × ((now total ≡ zeros mostSubpalettes) × (now removed ≡ zeros mostSubpalettes))) ⌝ }
-    ensures { λ r. ⌜ (shares (now (total .exit)) (now (removed .exit)) ≡ sharesOf (jobOf z (now (tiles .entry)) (now (colours .entry)) (now (counts .entry))) (now (pal .entry)) (z .t)) × (now (hints .exit) ≡ pairHints (jobOf z (now (tiles .entry)) (now (colours .entry)) (now (counts .entry))) (now (pal .entry)) (now (hints .entry)) (z .t)) ⌝ }
+    ensures { λ r. ⌜ (shares (now (total .exit)) (now (removed .exit)) ≡ sharesOf (jobOf z (now (tiles .entry)) (now (colours .entry)) (now (counts .entry))) (now (pal .entry)) (z .t))
+        × (now (hints .exit) ≡ pairHints (jobOf z (now (tiles .entry)) (now (colours .entry)) (now (counts .entry))) (now (pal .entry)) (now (hints .entry)) (z .t)) ⌝ }
 {
     let mut i = 0;
     while i < z.t {

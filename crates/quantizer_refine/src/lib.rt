@@ -30,7 +30,8 @@ pub fn refine(
     hints: &mut [u32],
 )
     requires { ⌜ Shown (jobOf z (now tiles) (now colours) (now counts)) (now pal) (z .s) (z .c) × (length (now hints) ≡ (z .t)) ⌝ }
-    ensures { λ r. ⌜ (now (pal .exit) ≡ refined (jobOf z (now (tiles .entry)) (now (colours .entry)) (now (counts .entry))) (now (pal .entry))) × (now (hints .exit) ≡ hintsOf (jobOf z (now (tiles .entry)) (now (colours .entry)) (now (counts .entry))) (now (pal .entry)) (z .s) (z .c) (now (hints .entry)) (z .t)) ⌝ }
+    ensures { λ r. ⌜ (now (pal .exit) ≡ refined (jobOf z (now (tiles .entry)) (now (colours .entry)) (now (counts .entry))) (now (pal .entry)))
+        × (now (hints .exit) ≡ hintsOf (jobOf z (now (tiles .entry)) (now (colours .entry)) (now (counts .entry))) (now (pal .entry)) (z .s) (z .c) (now (hints .entry)) (z .t)) ⌝ }
 {
     let mut sums = [0.0f32; 768];
     let mut cnts = [0u32; 256];

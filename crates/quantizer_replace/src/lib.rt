@@ -19,7 +19,8 @@ fn weakest_palette(
     hints: &mut [u32],
 ) -> Swap
     requires { ⌜ Shown (jobOf z (now tiles) (now colours) (now counts)) (now pal) (z .s) (z .c) × (length (now hints) ≡ (z .t)) ⌝ }
-    ensures { λ r. ⌜ (r ≡ weakestOf (jobOf z (now (tiles .entry)) (now (colours .entry)) (now (counts .entry))) (now (pal .entry))) × (now (hints .exit) ≡ replacedHints (jobOf z (now (tiles .entry)) (now (colours .entry)) (now (counts .entry))) (now (pal .entry)) (now (hints .entry))) ⌝ }
+    ensures { λ r. ⌜ (r ≡ weakestOf (jobOf z (now (tiles .entry)) (now (colours .entry)) (now (counts .entry))) (now (pal .entry)))
+        × (now (hints .exit) ≡ replacedHints (jobOf z (now (tiles .entry)) (now (colours .entry)) (now (counts .entry))) (now (pal .entry)) (now (hints .entry))) ⌝ }
 {
     let subs = z.s;
     if subs == 1 {
@@ -54,7 +55,8 @@ pub fn replace_weakest(
     hints: &mut [u32],
 )
     requires { ⌜ Shown (jobOf z (now tiles) (now colours) (now counts)) (now pal) (z .s) (z .c) × (length (now hints) ≡ (z .t)) ⌝ }
-    ensures { λ r. ⌜ (now (pal .exit) ≡ replaced (jobOf z (now (tiles .entry)) (now (colours .entry)) (now (counts .entry))) (now (pal .entry))) × (now (hints .exit) ≡ replacedHints (jobOf z (now (tiles .entry)) (now (colours .entry)) (now (counts .entry))) (now (pal .entry)) (now (hints .entry))) ⌝ }
+    ensures { λ r. ⌜ (now (pal .exit) ≡ replaced (jobOf z (now (tiles .entry)) (now (colours .entry)) (now (counts .entry))) (now (pal .entry)))
+        × (now (hints .exit) ≡ replacedHints (jobOf z (now (tiles .entry)) (now (colours .entry)) (now (counts .entry))) (now (pal .entry)) (now (hints .entry))) ⌝ }
 {
     // From the palette as it stands: the replaced colours do not count.
     let weakest = weakest_palette(z, tiles, colours, counts, pal, hints);

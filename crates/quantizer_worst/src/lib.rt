@@ -21,7 +21,8 @@ fn distance_step(
     distances: &mut [f32],
 )
     requires { ⌜ Turned (jobOf z (now tiles) (now colours) (now counts)) (now pal) subs (now hints) i (now distances) ⌝ }
-    ensures { λ r. ⌜ (now (distances .exit) ≡ distanceStep (jobOf z (now (tiles .entry)) (now (colours .entry)) (now (counts .entry))) (now (pal .entry)) subs i (now (distances .entry))) × (now (hints .exit) ≡ hintStep (jobOf z (now (tiles .entry)) (now (colours .entry)) (now (counts .entry))) (now (pal .entry)) subs 1 i (now (hints .entry))) ⌝ }
+    ensures { λ r. ⌜ (now (distances .exit) ≡ distanceStep (jobOf z (now (tiles .entry)) (now (colours .entry)) (now (counts .entry))) (now (pal .entry)) subs i (now (distances .entry)))
+        × (now (hints .exit) ≡ hintStep (jobOf z (now (tiles .entry)) (now (colours .entry)) (now (counts .entry))) (now (pal .entry)) subs 1 i (now (hints .entry))) ⌝ }
 {
     if job::is_empty(tiles, i) {
         return;
@@ -42,7 +43,8 @@ pub fn worst(
     hints: &mut [u32],
 ) -> usize
     requires { ⌜ Shown (jobOf z (now tiles) (now colours) (now counts)) (now pal) subs 1 × (length (now hints) ≡ (z .t)) ⌝ }
-    ensures { λ r. ⌜ (r ≡ worstOf (jobOf z (now (tiles .entry)) (now (colours .entry)) (now (counts .entry))) (now (pal .entry)) subs) × (now (hints .exit) ≡ hintsOf (jobOf z (now (tiles .entry)) (now (colours .entry)) (now (counts .entry))) (now (pal .entry)) subs 1 (now (hints .entry)) (z .t)) ⌝ }
+    ensures { λ r. ⌜ (r ≡ worstOf (jobOf z (now (tiles .entry)) (now (colours .entry)) (now (counts .entry))) (now (pal .entry)) subs)
+        × (now (hints .exit) ≡ hintsOf (jobOf z (now (tiles .entry)) (now (colours .entry)) (now (counts .entry))) (now (pal .entry)) subs 1 (now (hints .entry)) (z .t)) ⌝ }
 {
     let mut distances = [0.0f32; 16];
     let mut i = 0;

@@ -19,7 +19,10 @@ loop-holds : tie.Need-loop-holds Inv-loop μ-loop
 loop-holds c = (walked-start refl, walked-start refl)
 
 assign-tile-requires : tie.Need-assign-tile-requires Inv-loop μ-loop
-assign-tile-requires c κs = record { ready = filled-ready _ _ _ _ _ (c .before .before .before .before .loop .inv) (c .before .before .before .before .before .before .before .before .before .before .before .pre); tile = c .before .before .if1 .taken }
+assign-tile-requires c κs =
+    let after-if1 = c .before .before in let after-loop = after-if1 .before .before in
+    let start = after-loop .before .before .before .before .before .before .before in
+    record { ready = filled-ready _ _ _ _ _ (after-loop .loop .inv) (start .pre); tile = after-if1 .if1 .taken }
 
 add-i : tie.Need-add-i Inv-loop μ-loop
 add-i c = search needs
@@ -28,7 +31,10 @@ loop-less : tie.Need-loop-less Inv-loop μ-loop
 loop-less c = search needs
 
 loop-again : tie.Need-loop-again Inv-loop μ-loop
-loop-again c = filled-more _ _ _ _ _ (c .before .before .before .before .before .before .before .before .before .loop .inv) (c .before .before .before .before .before .before .before .if1 .taken) _ (c .before .before .before .before .assign-tile .ensures)
+loop-again c =
+    let after-assign-tile = c .before .before .before .before in let after-if1 = after-assign-tile .before .before .before in
+    let after-loop = after-if1 .before .before in
+    filled-more _ _ _ _ _ (after-loop .loop .inv) (after-if1 .if1 .taken) _ (after-assign-tile .assign-tile .ensures)
 
 same-length : tie.Need-same-length Inv-loop μ-loop
 same-length c = filled-lengths _ _ _ _ _ (c .before .before .loop .inv) .0

@@ -23,7 +23,8 @@ loop-holds : tie.Need-loop-holds Inv-loop μ-loop
 loop-holds c = (walked-start refl, walked-start refl)
 
 tile-step-requires : tie.Need-tile-step-requires Inv-loop μ-loop
-tile-step-requires c κs = let z = c .before .before .before .before .before .before .before .before .before in sum-turn _ _ _ _ (z .pre .0) (c .before .before .before .loop .inv .0) (z .pre .1) (c .before .before .before .loop .inv .1) (c .before .if1 .taken)
+tile-step-requires c κs = let z = c .before .before .before .before .before .before .before .before .before in sum-turn _ _ _ _ (z .pre .0)
+    (c .before .before .before .loop .inv .0) (z .pre .1) (c .before .before .before .loop .inv .1) (c .before .if1 .taken)
 
 add-i : tie.Need-add-i Inv-loop μ-loop
 add-i c = omega arith
@@ -32,16 +33,26 @@ loop-less : tie.Need-loop-less Inv-loop μ-loop
 loop-less c = omega arith
 
 loop-again : tie.Need-loop-again Inv-loop μ-loop
-loop-again c = (walked-more (c .before .before .before .before .before .before .loop .inv .0) (c .before .before .before .before .if1 .taken) (c .before .before .tile-step .ensures .0), walked-more (c .before .before .before .before .before .before .loop .inv .1) (c .before .before .before .before .if1 .taken) (c .before .before .tile-step .ensures .1))
+loop-again c = (
+  walked-more (c .before .before .before .before .before .before .loop .inv .0) (c .before .before .before .before .if1 .taken)
+      (c .before .before .tile-step .ensures .0),
+  walked-more (c .before .before .before .before .before .before .loop .inv .1)
+      (c .before .before .before .before .if1 .taken) (c .before .before .tile-step .ensures .1),
+)
 
 mean-requires : tie.Need-mean-requires Inv-loop μ-loop
-mean-requires c κs = sum-meaned _ _ _ _ (c .before .before .before .before .before .before .before .before .pre .0) (c .before .before .loop .inv .0)
+mean-requires c κs =
+    let after-loop = c .before .before in let start = after-loop .before .before .before .before .before .before in
+    sum-meaned _ _ _ _ (start .pre .0) (after-loop .loop .inv .0)
 
 same-length : tie.Need-same-length Inv-loop μ-loop
 same-length c = walked-hints _ _ _ _ (c .before .before .before .loop .inv .1)
 
 returns : tie.Need-returns Inv-loop μ-loop
-returns c = (sum-end _ _ _ _ (c .before .before .before .before .before .before .before .before .before .pre .0) (c .before .before .before .loop .inv .0) (c .before .if1 .left) _ (c .mean .ensures), walked-end (c .before .before .before .loop .inv .1) (c .before .if1 .left))
+returns c =
+    let after-if1 = c .before in let after-loop = after-if1 .before .before in
+    let start = after-loop .before .before .before .before .before .before in
+    (sum-end _ _ _ _ (start .pre .0) (after-loop .loop .inv .0) (after-if1 .if1 .left) _ (c .mean .ensures), walked-end (after-loop .loop .inv .1) (after-if1 .if1 .left))
 
 pub mse-spec : {M : Type 1} → statement M
 mse-spec =

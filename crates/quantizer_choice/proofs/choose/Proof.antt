@@ -27,7 +27,8 @@ shared-slice-read-t11 : tie.Need-shared-slice-read-t11
 shared-slice-read-t11 c = places-in _ _ _ _ (c .before .before .before .before .argmax .ensures) (c .before .before .before .argmin .ensures) (c .before .before .before .before .before .before .before .pre) .0
 
 returns-2 : tie.Need-returns-2
-returns-2 c = let a = c .before .before .before .before .before .before .before .args in two-places (a .had .now) (a .lost .now) _ _ (c .before .before .before .before .argmax .ensures) (c .before .before .before .argmin .ensures) (c .before .before .if1 .left)
+returns-2 c = let a = c .before .before .before .before .before .before .before .args in two-places (a .had .now) (a .lost .now) _ _
+    (c .before .before .before .before .argmax .ensures) (c .before .before .before .argmin .ensures) (c .before .before .if1 .left)
 
 pub choose-spec : {M : Type 1} → statement M
 choose-spec =

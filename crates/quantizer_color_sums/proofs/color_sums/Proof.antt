@@ -24,7 +24,10 @@ loop-holds : tie.Need-loop-holds Inv-loop μ-loop
 loop-holds c = walked-start (no-shares _ _ places (c .before .before .before .before .before .before .before .pre .1 .0) (c .before .before .before .before .before .before .before .pre .1 .1))
 
 color-step-requires : tie.Need-color-step-requires Inv-loop μ-loop
-color-step-requires c κs = record { owned = c .before .before .before .before .before .before .before .before .before .before .before .before .pre .0; tile = c .before .before .if1 .taken; wide = walked-wide _ _ (c .before .before .before .before .loop .inv) }
+color-step-requires c κs =
+    let after-if1 = c .before .before in let after-loop = after-if1 .before .before in
+    let start = after-loop .before .before .before .before .before .before .before .before in
+    record { owned = start .pre .0; tile = after-if1 .if1 .taken; wide = walked-wide _ _ (after-loop .loop .inv) }
 
 add-i : tie.Need-add-i Inv-loop μ-loop
 add-i c = omega arith
@@ -33,13 +36,20 @@ loop-less : tie.Need-loop-less Inv-loop μ-loop
 loop-less c = omega arith
 
 loop-again : tie.Need-loop-again Inv-loop μ-loop
-loop-again c = walked-more (c .before .before .before .before .before .before .before .before .before .loop .inv) (c .before .before .before .before .before .before .before .if1 .taken) (c .before .before .before .before .color-step .ensures)
+loop-again c =
+    let after-color-step = c .before .before .before .before in let after-if1 = after-color-step .before .before .before in
+    let after-loop = after-if1 .before .before in
+    walked-more (after-loop .loop .inv) (after-if1 .if1 .taken) (after-color-step .color-step .ensures)
 
 same-length : tie.Need-same-length Inv-loop μ-loop
-same-length c = walked-wide _ _ (c .before .before .loop .inv) .had ∙ sym (ap length (c .before .before .before .before .before .before .before .before .before .before .pre .1 .0))
+same-length c =
+    let after-loop = c .before .before in let start = after-loop .before .before .before .before .before .before .before .before in
+    walked-wide _ _ (after-loop .loop .inv) .had ∙ sym (ap length (start .pre .1 .0))
 
 same-length-2 : tie.Need-same-length-2 Inv-loop μ-loop
-same-length-2 c = walked-wide _ _ (c .before .before .loop .inv) .lost ∙ sym (ap length (c .before .before .before .before .before .before .before .before .before .before .pre .1 .1))
+same-length-2 c =
+    let after-loop = c .before .before in let start = after-loop .before .before .before .before .before .before .before .before in
+    walked-wide _ _ (after-loop .loop .inv) .lost ∙ sym (ap length (start .pre .1 .1))
 
 returns : tie.Need-returns Inv-loop μ-loop
 returns c = walked-end (c .before .before .loop .inv) (c .if1 .left)

@@ -11,7 +11,10 @@ cast-nudge : tie.Need-cast-nudge
 cast-nudge c = search needs
 
 nudge-requires : tie.Need-nudge-requires
-nudge-requires c κs = nudge-asked _ _ _ _ _ _ (c .before .before .before .before .before .before .before .before .before .before .before .before .before .before .pre) _ _ (c .before .before .before .before .before .next .ensures)
+nudge-requires c κs =
+    let after-next = c .before .before .before .before .before in
+    let start = after-next .before .before .before .before .before .before .before .before .before in
+    nudge-asked _ _ _ _ _ _ (start .pre) _ _ (after-next .next .ensures)
 
 same-length : tie.Need-same-length
 same-length c = search needs
@@ -23,7 +26,10 @@ same-length-3 : tie.Need-same-length-3
 same-length-3 c = search needs
 
 returns : tie.Need-returns
-returns c = going-done _ _ _ _ _ _ (c .before .before .before .before .before .before .before .before .before .before .before .before .before .before .before .before .before .before .before .before .pre) _ _ (c .before .before .before .before .before .before .before .before .before .before .before .next .ensures) _ _ _ (c .before .before .before .before .before .nudge .ensures)
+returns c =
+    let after-nudge = c .before .before .before .before .before in let after-next = after-nudge .before .before .before .before .before .before in
+    let start = after-next .before .before .before .before .before .before .before .before .before in
+    going-done _ _ _ _ _ _ (start .pre) _ _ (after-next .next .ensures) _ _ _ (after-nudge .nudge .ensures)
 
 pub draw-spec : {M : Type 1} → statement M
 draw-spec =

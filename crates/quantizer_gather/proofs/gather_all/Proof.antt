@@ -24,7 +24,10 @@ loop-holds : tie.Need-loop-holds Inv-loop μ-loop
 loop-holds c = (walked-start (c .before .before .before .before .before .before .before .pre .1 .1), walked-start refl)
 
 gather-step-requires : tie.Need-gather-step-requires Inv-loop μ-loop
-gather-step-requires c κs = record { paired = walked-paired _ _ _ _ (c .before .before .before .before .before .loop .inv .1) (c .before .before .before .before .before .before .before .before .before .before .before .before .before .pre .0) (c .before .before .before .before .before .before .before .before .before .before .before .before .before .pre .1 .0) (c .before .before .before .if1 .taken); gathered = walked-gathered _ _ (c .before .before .before .before .before .before .before .before .before .before .before .before .before .pre .0) (c .before .before .before .before .before .loop .inv .0) }
+gather-step-requires c κs =
+    let after-if1 = c .before .before .before in let after-loop = after-if1 .before .before in
+    let start = after-loop .before .before .before .before .before .before .before .before in
+    record { paired = walked-paired _ _ _ _ (after-loop .loop .inv .1) (start .pre .0) (start .pre .1 .0) (after-if1 .if1 .taken); gathered = walked-gathered _ _ (start .pre .0) (after-loop .loop .inv .0) }
 
 add-i : tie.Need-add-i Inv-loop μ-loop
 add-i c = omega arith
@@ -33,16 +36,23 @@ loop-less : tie.Need-loop-less Inv-loop μ-loop
 loop-less c = omega arith
 
 loop-again : tie.Need-loop-again Inv-loop μ-loop
-loop-again c = (walked-more (c .before .before .before .before .before .before .before .before .before .before .before .before .loop .inv .0) (c .before .before .before .before .before .before .before .before .before .before .if1 .taken) (c .before .before .before .before .before .before .gather-step .ensures .0), walked-more (c .before .before .before .before .before .before .before .before .before .before .before .before .loop .inv .1) (c .before .before .before .before .before .before .before .before .before .before .if1 .taken) (c .before .before .before .before .before .before .gather-step .ensures .1))
+loop-again c =
+    let after-gather-step = c .before .before .before .before .before .before in let after-if1 = after-gather-step .before .before .before .before in
+    let after-loop = after-if1 .before .before in
+    (walked-more (after-loop .loop .inv .0) (after-if1 .if1 .taken) (after-gather-step .gather-step .ensures .0), walked-more (after-loop .loop .inv .1) (after-if1 .if1 .taken) (after-gather-step .gather-step .ensures .1))
 
 same-length : tie.Need-same-length Inv-loop μ-loop
 same-length c = walked-hints _ _ _ _ (c .before .before .loop .inv .1)
 
 same-length-2 : tie.Need-same-length-2 Inv-loop μ-loop
-same-length-2 c = walked-whole _ _ (c .before .before .before .before .before .before .before .before .before .before .pre .0) (c .before .before .loop .inv .0) _ (c .before .before .before .before .before .before .before .before .before .before .pre .1 .1) .0
+same-length-2 c =
+    let after-loop = c .before .before in let start = after-loop .before .before .before .before .before .before .before .before in
+    walked-whole _ _ (start .pre .0) (after-loop .loop .inv .0) _ (start .pre .1 .1) .0
 
 same-length-3 : tie.Need-same-length-3 Inv-loop μ-loop
-same-length-3 c = walked-whole _ _ (c .before .before .before .before .before .before .before .before .before .before .pre .0) (c .before .before .loop .inv .0) _ (c .before .before .before .before .before .before .before .before .before .before .pre .1 .1) .1
+same-length-3 c =
+    let after-loop = c .before .before in let start = after-loop .before .before .before .before .before .before .before .before in
+    walked-whole _ _ (start .pre .0) (after-loop .loop .inv .0) _ (start .pre .1 .1) .1
 
 returns : tie.Need-returns Inv-loop μ-loop
 returns c = (walked-end (c .before .before .loop .inv .0) (c .if1 .left), walked-end (c .before .before .loop .inv .1) (c .if1 .left))

@@ -32,7 +32,10 @@ same-length : tie.Need-same-length
 same-length c = search needs
 
 returns : tie.Need-returns
-returns c = split-done _ _ _ _ _ (c .before .before .before .before .before .before .before .before .pre) _ (c .before .before .before .before .argmax .ensures) _ (c .before .before .duplicate-color .ensures)
+returns c =
+    let after-duplicate-color = c .before .before in let after-argmax = after-duplicate-color .before .before in
+    let start = after-argmax .before .before .before .before in
+    split-done _ _ _ _ _ (start .pre) _ (after-argmax .argmax .ensures) _ (after-duplicate-color .duplicate-color .ensures)
 
 pub split-color-spec : {M : Type 1} → statement M
 split-color-spec =

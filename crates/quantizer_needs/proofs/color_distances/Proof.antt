@@ -28,7 +28,10 @@ loop-holds : tie.Need-loop-holds Inv-loop μ-loop
 loop-holds c = (walked-start (c .before .before .before .before .before .before .before .pre .1), walked-start refl)
 
 tile-step-requires : tie.Need-tile-step-requires Inv-loop μ-loop
-tile-step-requires c κs = record { paired = walked-paired _ _ _ _ (c .before .before .before .before .loop .inv .1) (c .before .before .before .before .before .before .before .before .before .before .before .before .pre .0 .shown) (c .before .before .before .before .before .before .before .before .before .before .before .before .pre .0 .each) (c .before .before .if2 .taken); wide = needs-wide _ _ _ (c .before .before .before .before .loop .inv .0) }
+tile-step-requires c κs =
+    let after-if2 = c .before .before in let after-loop = after-if2 .before .before in
+    let start = after-loop .before .before .before .before .before .before .before .before in
+    record { paired = walked-paired _ _ _ _ (after-loop .loop .inv .1) (start .pre .0 .shown) (start .pre .0 .each) (after-if2 .if2 .taken); wide = needs-wide _ _ _ (after-loop .loop .inv .0) }
 
 add-i : tie.Need-add-i Inv-loop μ-loop
 add-i c = omega arith
@@ -37,13 +40,18 @@ loop-less : tie.Need-loop-less Inv-loop μ-loop
 loop-less c = omega arith
 
 loop-again : tie.Need-loop-again Inv-loop μ-loop
-loop-again c = (walked-more (c .before .before .before .before .before .before .before .before .before .loop .inv .0) (c .before .before .before .before .before .before .before .if2 .taken) (c .before .before .before .before .tile-step .ensures .0), walked-more (c .before .before .before .before .before .before .before .before .before .loop .inv .1) (c .before .before .before .before .before .before .before .if2 .taken) (c .before .before .before .before .tile-step .ensures .1))
+loop-again c =
+    let after-tile-step = c .before .before .before .before in let after-if2 = after-tile-step .before .before .before in
+    let after-loop = after-if2 .before .before in
+    (walked-more (after-loop .loop .inv .0) (after-if2 .if2 .taken) (after-tile-step .tile-step .ensures .0), walked-more (after-loop .loop .inv .1) (after-if2 .if2 .taken) (after-tile-step .tile-step .ensures .1))
 
 same-length : tie.Need-same-length Inv-loop μ-loop
 same-length c = walked-hints _ _ _ _ (c .before .before .loop .inv .1)
 
 same-length-2 : tie.Need-same-length-2 Inv-loop μ-loop
-same-length-2 c = needs-wide _ _ _ (c .before .before .loop .inv .0) ∙ sym (ap length (c .before .before .before .before .before .before .before .before .before .before .pre .1))
+same-length-2 c =
+    let after-loop = c .before .before in let start = after-loop .before .before .before .before .before .before .before .before in
+    needs-wide _ _ _ (after-loop .loop .inv .0) ∙ sym (ap length (start .pre .1))
 
 returns-2 : tie.Need-returns-2 Inv-loop μ-loop
 returns-2 c = all-fitted _ _ _ (c .before .before .loop .inv .0) (c .before .before .loop .inv .1) (c .before .before .before .if1 .left) (c .if2 .left)

@@ -21,10 +21,16 @@ loop-holds : tie.Need-loop-holds Inv-loop μ-loop
 loop-holds c = (walked-start (no-shares _ _ mostSubpalettes (c .before .before .before .before .before .before .before .pre .1 .1 .0) (c .before .before .before .before .before .before .before .pre .1 .1 .1)), walked-start refl)
 
 tile-two-requires : tie.Need-tile-two-requires Inv-loop μ-loop
-tile-two-requires c κs = pairing-paired _ _ (c .before .before .before .before .before .before .before .before .before .before .before .pre .0) _ _ _ _ (c .before .before .before .loop .inv) (c .before .before .before .before .before .before .before .before .before .before .before .pre .1 .0) (c .before .if1 .taken)
+tile-two-requires c κs =
+    let after-if1 = c .before in let after-loop = after-if1 .before .before in
+    let start = after-loop .before .before .before .before .before .before .before .before in
+    pairing-paired _ _ (start .pre .0) _ _ _ _ (after-loop .loop .inv) (start .pre .1 .0) (after-if1 .if1 .taken)
 
 add-two-requires : tie.Need-add-two-requires Inv-loop μ-loop
-add-two-requires c κs = pairing-room _ _ (c .before .before .before .before .before .before .before .before .before .before .before .before .before .before .before .before .pre .0) _ _ _ _ (c .before .before .before .before .before .before .before .before .loop .inv) _ (c .before .before .before .before .tile-two .ensures .0)
+add-two-requires c κs =
+    let after-tile-two = c .before .before .before .before in let after-loop = after-tile-two .before .before .before .before in
+    let start = after-loop .before .before .before .before .before .before .before .before in
+    pairing-room _ _ (start .pre .0) _ _ _ _ (after-loop .loop .inv) _ (after-tile-two .tile-two .ensures .0)
 
 add-i : tie.Need-add-i Inv-loop μ-loop
 add-i c = omega arith
@@ -33,16 +39,26 @@ loop-less : tie.Need-loop-less Inv-loop μ-loop
 loop-less c = omega arith
 
 loop-again : tie.Need-loop-again Inv-loop μ-loop
-loop-again c = pairing-more _ _ (c .before .before .before .before .before .before .before .before .before .before .before .before .before .before .before .before .before .before .before .before .before .pre .0) _ _ _ _ (c .before .before .before .before .before .before .before .before .before .before .before .before .before .loop .inv) _ (c .before .before .before .before .before .before .before .before .before .tile-two .ensures .0) (c .before .before .before .before .before .before .before .before .before .before .before .if1 .taken) _ _ (c .before .before .before .before .add-two .ensures) (c .before .before .before .before .before .before .before .before .before .tile-two .ensures .1)
+loop-again c =
+    let after-add-two = c .before .before .before .before in let after-tile-two = after-add-two .before .before .before .before .before in
+    let after-if1 = after-tile-two .before .before in let after-loop = after-if1 .before .before in
+    let start = after-loop .before .before .before .before .before .before .before .before in
+    pairing-more _ _ (start .pre .0) _ _ _ _ (after-loop .loop .inv) _ (after-tile-two .tile-two .ensures .0) (after-if1 .if1 .taken) _ _ (after-add-two .add-two .ensures) (after-tile-two .tile-two .ensures .1)
 
 same-length : tie.Need-same-length Inv-loop μ-loop
-same-length c = pairing-length _ _ (c .before .before .before .before .before .before .before .before .before .before .pre .0) _ _ _ _ (c .before .before .loop .inv)
+same-length c =
+    let after-loop = c .before .before in let start = after-loop .before .before .before .before .before .before .before .before in
+    pairing-length _ _ (start .pre .0) _ _ _ _ (after-loop .loop .inv)
 
 same-length-2 : tie.Need-same-length-2 Inv-loop μ-loop
-same-length-2 c = pairing-wide _ _ (c .before .before .before .before .before .before .before .before .before .before .pre .0) _ _ _ _ (c .before .before .loop .inv) .had ∙ sym (ap length (c .before .before .before .before .before .before .before .before .before .before .pre .1 .1 .0))
+same-length-2 c =
+    let after-loop = c .before .before in let start = after-loop .before .before .before .before .before .before .before .before in
+    pairing-wide _ _ (start .pre .0) _ _ _ _ (after-loop .loop .inv) .had ∙ sym (ap length (start .pre .1 .1 .0))
 
 same-length-3 : tie.Need-same-length-3 Inv-loop μ-loop
-same-length-3 c = pairing-wide _ _ (c .before .before .before .before .before .before .before .before .before .before .pre .0) _ _ _ _ (c .before .before .loop .inv) .lost ∙ sym (ap length (c .before .before .before .before .before .before .before .before .before .before .pre .1 .1 .1))
+same-length-3 c =
+    let after-loop = c .before .before in let start = after-loop .before .before .before .before .before .before .before .before in
+    pairing-wide _ _ (start .pre .0) _ _ _ _ (after-loop .loop .inv) .lost ∙ sym (ap length (start .pre .1 .1 .1))
 
 returns : tie.Need-returns Inv-loop μ-loop
 returns c = (walked-end (c .before .before .loop .inv .0) (c .if1 .left), walked-end (c .before .before .loop .inv .1) (c .if1 .left))

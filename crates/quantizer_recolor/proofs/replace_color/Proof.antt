@@ -47,7 +47,10 @@ same-length : tie.Need-same-length
 same-length c = search needs
 
 returns : tie.Need-returns
-returns c = row-done _ _ _ _ (c .before .before .before .before .before .before .before .before .before .before .pre) _ (c .before .before .before .before .choose .ensures) _ (c .before .before .swap-color .ensures)
+returns c =
+    let after-swap-color = c .before .before in let after-choose = after-swap-color .before .before in
+    let start = after-choose .before .before .before .before .before .before in
+    row-done _ _ _ _ (start .pre) _ (after-choose .choose .ensures) _ (after-swap-color .swap-color .ensures)
 
 pub replace-color-spec : {M : Type 1} → statement M
 replace-color-spec =

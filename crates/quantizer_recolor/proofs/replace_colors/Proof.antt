@@ -27,7 +27,9 @@ color-sums-requires : tie.Need-color-sums-requires Inv-loop μ-loop
 color-sums-requires c κs = search needs
 
 loop-holds : tie.Need-loop-holds Inv-loop μ-loop
-loop-holds c = recolouring-start _ _ _ (c .before .before .before .before .before .before .before .before .before .before .before .before .before .pre) _
+loop-holds c =
+    let start = c .before .before .before .before .before .before .before .before .before .before .before .before .before in
+    recolouring-start _ _ _ (start .pre) _
 
 slice-aggregate-replace-color : tie.Need-slice-aggregate-replace-color Inv-loop μ-loop
 slice-aggregate-replace-color c = search needs
@@ -36,7 +38,11 @@ slice-aggregate-replace-color-2 : tie.Need-slice-aggregate-replace-color-2 Inv-l
 slice-aggregate-replace-color-2 c = search needs
 
 replace-color-requires : tie.Need-replace-color-requires Inv-loop μ-loop
-replace-color-requires c κs = recolouring-row _ _ _ (c .before .before .before .before .before .before .before .before .before .before .before .before .before .before .before .before .before .before .before .pre) _ (c .before .before .before .before .before .before .before .before .color-sums .ensures) _ _ (c .before .before .before .before .before .loop .inv) (c .before .before .before .if2 .taken)
+replace-color-requires c κs =
+    let after-if2 = c .before .before .before in let after-loop = after-if2 .before .before in
+    let after-color-sums = after-loop .before .before .before in
+    let start = after-color-sums .before .before .before .before .before .before .before .before .before .before .before in
+    recolouring-row _ _ _ (start .pre) _ (after-color-sums .color-sums .ensures) _ _ (after-loop .loop .inv) (after-if2 .if2 .taken)
 
 add-i : tie.Need-add-i Inv-loop μ-loop
 add-i c = omega arith
@@ -45,13 +51,24 @@ loop-less : tie.Need-loop-less Inv-loop μ-loop
 loop-less c = omega arith
 
 loop-again : tie.Need-loop-again Inv-loop μ-loop
-loop-again c = recolouring-more _ _ _ (c .before .before .before .before .before .before .before .before .before .before .before .before .before .before .before .before .before .before .before .before .before .before .pre) _ (c .before .before .before .before .before .before .before .before .before .before .before .color-sums .ensures) _ _ (c .before .before .before .before .before .before .before .before .loop .inv) (c .before .before .before .before .before .before .if2 .taken) _ (c .before .before .replace-color .ensures)
+loop-again c =
+    let after-replace-color = c .before .before in let after-if2 = after-replace-color .before .before .before .before in
+    let after-loop = after-if2 .before .before in let after-color-sums = after-loop .before .before .before in
+    let start = after-color-sums .before .before .before .before .before .before .before .before .before .before .before in
+    recolouring-more _ _ _ (start .pre) _ (after-color-sums .color-sums .ensures) _ _ (after-loop .loop .inv) (after-if2 .if2 .taken) _ (after-replace-color .replace-color .ensures)
 
 same-length : tie.Need-same-length Inv-loop μ-loop
-same-length c = recolouring-length _ _ _ (c .before .before .before .before .before .before .before .before .before .before .before .before .before .before .before .before .pre) _ (c .before .before .before .before .before .color-sums .ensures) _ _ (c .before .before .loop .inv)
+same-length c =
+    let after-loop = c .before .before in let after-color-sums = after-loop .before .before .before in
+    let start = after-color-sums .before .before .before .before .before .before .before .before .before .before .before in
+    recolouring-length _ _ _ (start .pre) _ (after-color-sums .color-sums .ensures) _ _ (after-loop .loop .inv)
 
 returns-2 : tie.Need-returns-2 Inv-loop μ-loop
-returns-2 c = recolouring-end _ _ _ (c .before .before .before .before .before .before .before .before .before .before .before .before .before .before .before .before .pre) _ (c .before .before .before .before .before .color-sums .ensures) _ _ (c .before .before .loop .inv) (c .before .before .before .before .before .before .before .before .before .if1 .left) (c .if2 .left)
+returns-2 c =
+    let after-loop = c .before .before in let after-color-sums = after-loop .before .before .before in
+    let after-if1 = after-color-sums .before .before .before .before in
+    let start = after-if1 .before .before .before .before .before .before .before in
+    recolouring-end _ _ _ (start .pre) _ (after-color-sums .color-sums .ensures) _ _ (after-loop .loop .inv) (after-if1 .if1 .left) (c .if2 .left)
 
 pub replace-colors-spec : {M : Type 1} → statement M
 replace-colors-spec =

@@ -8,10 +8,17 @@ weakest-palette-requires : tie.Need-weakest-palette-requires
 weakest-palette-requires c κs = search needs
 
 replace-colors-requires : tie.Need-replace-colors-requires
-replace-colors-requires c κs = left-owned _ _ (c .before .before .before .before .before .before .before .before .before .before .before .before .pre .0) _ (c .before .before .before .before .before .before .before .before .before .before .before .before .pre .1) _ (c .before .before .before .before .weakest-palette .ensures .1)
+replace-colors-requires c κs =
+    let after-weakest-palette = c .before .before .before .before in
+    let start = after-weakest-palette .before .before .before .before .before .before .before .before in
+    left-owned _ _ (start .pre .0) _ (start .pre .1) _ (after-weakest-palette .weakest-palette .ensures .1)
 
 swap-subpalette-requires : tie.Need-swap-subpalette-requires
-swap-subpalette-requires c κs = swap-room _ _ (c .before .before .before .before .before .before .before .before .before .before .before .before .before .before .before .before .pre .0) _ (c .before .before .before .before .before .before .before .before .weakest-palette .ensures .0) _ (c .before .before .before .replace-colors .ensures)
+swap-subpalette-requires c κs =
+    let after-replace-colors = c .before .before .before in
+    let after-weakest-palette = after-replace-colors .before .before .before .before .before in
+    let start = after-weakest-palette .before .before .before .before .before .before .before .before in
+    swap-room _ _ (start .pre .0) _ (after-weakest-palette .weakest-palette .ensures .0) _ (after-replace-colors .replace-colors .ensures)
 
 same-length : tie.Need-same-length
 same-length c = search needs
@@ -20,7 +27,14 @@ same-length-2 : tie.Need-same-length-2
 same-length-2 c = search needs
 
 returns : tie.Need-returns
-returns c = (all-replaced _ _ (c .before .before .before .before .before .before .before .before .before .before .before .before .before .before .before .before .before .before .before .pre .0) _ (c .before .before .before .before .before .before .before .before .before .before .before .weakest-palette .ensures .0) _ (c .before .before .before .before .before .before .replace-colors .ensures) _ (c .before .before .swap-subpalette .ensures), c .before .before .before .before .before .before .before .before .before .before .before .weakest-palette .ensures .1)
+returns c =
+    let after-swap-subpalette = c .before .before in let after-replace-colors = after-swap-subpalette .before .before .before .before in
+    let after-weakest-palette = after-replace-colors .before .before .before .before .before in
+    let start = after-weakest-palette .before .before .before .before .before .before .before .before in (
+      all-replaced _ _ (start .pre .0) _ (after-weakest-palette .weakest-palette .ensures .0) _ (after-replace-colors .replace-colors .ensures) _
+          (after-swap-subpalette .swap-subpalette .ensures),
+      after-weakest-palette .weakest-palette .ensures .1,
+    )
 
 pub replace-weakest-spec : {M : Type 1} → statement M
 replace-weakest-spec =

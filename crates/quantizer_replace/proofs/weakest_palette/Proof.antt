@@ -35,13 +35,19 @@ part-choose-end-2 : tie.Need-part-choose-end-2
 part-choose-end-2 c = search needs
 
 choose-requires : tie.Need-choose-requires
-choose-requires c κs = palettes-choosing _ _ (c .before .before .before .before .before .before .before .before .before .before .before .before .before .before .before .before .before .before .pre .0) _ (c .before .before .before .before .before .before .before .before .palette-sums .ensures .0)
+choose-requires c κs =
+    let after-palette-sums = c .before .before .before .before .before .before .before .before in
+    let start = after-palette-sums .before .before .before .before .before .before .before .before .before .before in
+    palettes-choosing _ _ (start .pre .0) _ (after-palette-sums .palette-sums .ensures .0)
 
 same-length : tie.Need-same-length
 same-length c = search needs
 
 returns-2 : tie.Need-returns-2
-returns-2 c = palettes-chosen _ _ (c .before .before .before .before .before .before .before .before .before .before .before .before .before .before .before .before .before .before .before .pre .0) _ (c .before .before .before .before .before .before .before .before .before .before .before .before .before .before .before .before .before .before .before .pre .1) _ (c .before .before .before .before .before .before .before .before .before .palette-sums .ensures .0) (c .before .before .before .before .before .before .before .before .before .before .before .before .before .if1 .left) _ (c .choose .ensures) _ (c .before .before .before .before .before .before .before .before .before .palette-sums .ensures .1)
+returns-2 c =
+    let after-palette-sums = c .before .before .before .before .before .before .before .before .before in
+    let after-if1 = after-palette-sums .before .before .before .before in let start = after-if1 .before .before .before .before .before .before in
+    palettes-chosen _ _ (start .pre .0) _ (start .pre .1) _ (after-palette-sums .palette-sums .ensures .0) (after-if1 .if1 .left) _ (c .choose .ensures) _ (after-palette-sums .palette-sums .ensures .1)
 
 pub weakest-palette-spec : {M : Type 1} → statement M
 weakest-palette-spec =

@@ -29,7 +29,10 @@ slice-aggregate-distance-step : tie.Need-slice-aggregate-distance-step Inv-loop 
 slice-aggregate-distance-step c = sym (walked-sums _ _ _ (c .before .before .before .before .loop .inv .0))
 
 distance-step-requires : tie.Need-distance-step-requires Inv-loop μ-loop
-distance-step-requires c κs = record { paired = walked-paired _ _ _ _ (c .before .before .before .before .loop .inv .1) (c .before .before .before .before .before .before .before .before .before .before .pre .0) (c .before .before .before .before .before .before .before .before .before .before .pre .1) (c .before .before .if1 .taken); whole = walked-sums _ _ _ (c .before .before .before .before .loop .inv .0) }
+distance-step-requires c κs =
+    let after-if1 = c .before .before in let after-loop = after-if1 .before .before in
+    let start = after-loop .before .before .before .before .before .before in
+    record { paired = walked-paired _ _ _ _ (after-loop .loop .inv .1) (start .pre .0) (start .pre .1) (after-if1 .if1 .taken); whole = walked-sums _ _ _ (after-loop .loop .inv .0) }
 
 add-i : tie.Need-add-i Inv-loop μ-loop
 add-i c = omega arith
@@ -38,7 +41,10 @@ loop-less : tie.Need-loop-less Inv-loop μ-loop
 loop-less c = omega arith
 
 loop-again : tie.Need-loop-again Inv-loop μ-loop
-loop-again c = (walked-more (c .before .before .before .before .before .before .before .before .loop .inv .0) (c .before .before .before .before .before .before .if1 .taken) (c .before .before .before .distance-step .ensures .0), walked-more (c .before .before .before .before .before .before .before .before .loop .inv .1) (c .before .before .before .before .before .before .if1 .taken) (c .before .before .before .distance-step .ensures .1))
+loop-again c =
+    let after-distance-step = c .before .before .before in let after-if1 = after-distance-step .before .before .before in
+    let after-loop = after-if1 .before .before in
+    (walked-more (after-loop .loop .inv .0) (after-if1 .if1 .taken) (after-distance-step .distance-step .ensures .0), walked-more (after-loop .loop .inv .1) (after-if1 .if1 .taken) (after-distance-step .distance-step .ensures .1))
 
 sub-argmax : tie.Need-sub-argmax Inv-loop μ-loop
 sub-argmax c = search needs
@@ -47,16 +53,25 @@ part-argmax-start : tie.Need-part-argmax-start Inv-loop μ-loop
 part-argmax-start c = search needs
 
 part-argmax-end : tie.Need-part-argmax-end Inv-loop μ-loop
-part-argmax-end c = sums-room _ _ _ (c .before .before .before .before .before .before .before .before .before .pre .0) _ (walked-end (c .before .before .before .loop .inv .0) (c .before .if1 .left))
+part-argmax-end c =
+    let after-if1 = c .before in let after-loop = after-if1 .before .before in
+    let start = after-loop .before .before .before .before .before .before in
+    sums-room _ _ _ (start .pre .0) _ (walked-end (after-loop .loop .inv .0) (after-if1 .if1 .left))
 
 argmax-requires : tie.Need-argmax-requires Inv-loop μ-loop
-argmax-requires c κs = sums-asked _ _ _ (c .before .before .before .before .before .before .before .before .before .before .pre .0) _ (walked-end (c .before .before .before .before .loop .inv .0) (c .before .before .if1 .left))
+argmax-requires c κs =
+    let after-if1 = c .before .before in let after-loop = after-if1 .before .before in
+    let start = after-loop .before .before .before .before .before .before in
+    sums-asked _ _ _ (start .pre .0) _ (walked-end (after-loop .loop .inv .0) (after-if1 .if1 .left))
 
 same-length : tie.Need-same-length Inv-loop μ-loop
 same-length c = walked-hints _ _ _ _ (c .before .before .before .before .before .loop .inv .1)
 
 returns : tie.Need-returns Inv-loop μ-loop
-returns c = (worst-done _ _ _ (c .before .before .before .before .before .before .before .before .before .before .before .pre .0) _ (walked-end (c .before .before .before .before .before .loop .inv .0) (c .before .before .before .if1 .left)) _ (c .argmax .ensures), walked-end (c .before .before .before .before .before .loop .inv .1) (c .before .before .before .if1 .left))
+returns c =
+    let after-if1 = c .before .before .before in let after-loop = after-if1 .before .before in
+    let start = after-loop .before .before .before .before .before .before in
+    (worst-done _ _ _ (start .pre .0) _ (walked-end (after-loop .loop .inv .0) (after-if1 .if1 .left)) _ (c .argmax .ensures), walked-end (after-loop .loop .inv .1) (after-if1 .if1 .left))
 
 pub worst-spec : {M : Type 1} → statement M
 worst-spec =
