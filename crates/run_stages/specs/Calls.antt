@@ -1,5 +1,4 @@
 -- The four calls of a run over the memory lent to them: number, draws reported, and the memory after. Definitions only. Assumes nothing.
--- The tile size is a parameter; the public calls name 64.
 use Prim.Native.Nat.{ℕ, _*_}
 use mathlib.Core.Bool.{Bool, cond, _&&_}
 use mathlib.Core.List.{List, [], _∷_, _++_}
