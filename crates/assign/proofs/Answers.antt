@@ -1,5 +1,5 @@
 -- The call around the loop over the tiles, refused or not. Assumes nothing.
-use Prim.Native.Nat.{ℕ, _≤_}
+use Prim.Native.Nat.{ℕ}
 use mathlib.Core.Path.{_≡_, sym, _∙_}
 use mathlib.Core.List.{List}
 use lib.Dec.{eqb}

@@ -65,7 +65,7 @@ module _ (J : Job) (palette : List Float) where
   best-two hints =
       ruled PairOutcome (λ x. numberOfPair (x .answer)) (λ k. pairOutcome (pair.Refused k) hints) (λ k. refl) _ refl (oneRules J palette (length hints)) refl
 
-  assign : (h : assigning.Held)
+  assign : (h : assigning.TileMemory)
       → Ruled assigning.Outcome (assigning.assignDef J palette h) (λ x. x .number)
       (plainRules J palette (assigning.roomFor (J .T) (length (h .hints)) (length (h .out)))) (λ k. assigning.outcome k h)
   unfolding assigning.assignDef assigning.assignAnswer plainAnswer numbered

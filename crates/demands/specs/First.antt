@@ -82,7 +82,7 @@ pub record First : Type 0 where
       (λ k. singleOutcome (single.Refused k) hints)
   pub best-two : (J : Job) (palette : List Float) (hints : List ℕ)
       → Ruled PairOutcome (pairDef J palette hints) (λ x. numberOfPair (x .answer)) (oneRules J palette (length hints)) (λ k. pairOutcome (pair.Refused k) hints)
-  pub assign : (J : Job) (palette : List Float) (h : assigning.Held)
+  pub assign : (J : Job) (palette : List Float) (h : assigning.TileMemory)
       → Ruled assigning.Outcome (assigning.assignDef J palette h) (λ x. x .number)
       (plainRules J palette (assigning.roomFor (J .T) (length (h .hints)) (length (h .out)))) (λ k. assigning.outcome k h)
   -- `refusal` is 2, 3, then pixel by pixel 7 before 14

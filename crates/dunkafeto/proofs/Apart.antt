@@ -56,7 +56,7 @@ module _ (K : Course) (m : Memory) where
       both (λ (x : Copied). x .number < 256) (eqb (resultAnswer K m out) 0) (omega arith)
       (answer-small (runRules K m (memoryRoom K m && coloursRoom K out) (eqb (stateOf m .rec .stage) 7)) refl))
 
-pub assign-apart : (J : Job) (palette : List Float) (h : assigning.Held) → let x = assigning.assignDef J palette h in Apart (toldTiles x .answer) (x .number) 0
+pub assign-apart : (J : Job) (palette : List Float) (h : assigning.TileMemory) → let x = assigning.assignDef J palette h in Apart (toldTiles x .answer) (x .number) 0
 unfolding toldTiles
 assign-apart J palette h = apart (assigning.assignDef J palette h .number) 0 (unfold assigning.assignDef assigning.assignAnswer plainAnswer in
     both (λ (x : assigning.Outcome). x .number < 256) (eqb (assigning.assignAnswer J palette h) 0) (omega arith)

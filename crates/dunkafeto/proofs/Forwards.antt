@@ -8,7 +8,7 @@ use lib.Ieee.{Float}
 use Rattle.job.specs.declared.Sizes.{Sizes}
 use Rattle.job.specs.Job.{jobOf}
 use Rattle.quantizer.specs.Course.{Course, courseOf}
-use Rattle.run_stages.specs.Calls.{Memory, Outcome, outcome, Copied, copiedTo, startCall, advanceCall, handInCall, resultCall}
+use Rattle.run_stages.specs.Calls.{Memory, Outcome, outcome, copiedTo, startCall, advanceCall, handInCall, resultCall}
 use Rattle.assign.specs.Assign as assigning
 use Rattle.dunkafeto_told.specs.Packed.{packed, told}
 use Rattle.dunkafeto.specs.Told.{toldRun, toldColours, toldTiles}
@@ -21,7 +21,7 @@ run-told number m x e = ap (λ (k : ℕ). told k m) (sym (zero-add number)) ∙ 
 
 -- z are the sizes that the numbers y make
 module _ (z y : Sizes) (same : z ≡ y) (tiles : List ℕ) (colours : List Float) (counts : List ℕ) where
-  pub assign-told : (palette : List Float) (h : assigning.Held) (number : ℕ) (after : assigning.Held)
+  pub assign-told : (palette : List Float) (h : assigning.TileMemory) (number : ℕ) (after : assigning.TileMemory)
       → assigning.outcome number after ≡ assigning.assignDef (jobOf z tiles colours counts) palette h
       → told number after ≡ toldTiles (assigning.assignDef (jobOf y tiles colours counts) palette h)
   unfolding toldTiles

@@ -14,5 +14,5 @@ unfoldable pub toldColours : Copied → Told (List Float)
 toldColours x = told (packed (x .number) 0) (x .out)
 
 -- assign
-unfoldable pub toldTiles : assigning.Outcome → Told assigning.Held
+unfoldable pub toldTiles : assigning.Outcome → Told assigning.TileMemory
 toldTiles x = told (packed (x .number) 0) (x .after)

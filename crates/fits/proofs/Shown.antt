@@ -1,5 +1,5 @@
 -- A job and a palette that passed the checks of a call without samples can be asked for fits; with one tile, of that tile. Assumes nothing.
-use Prim.Native.Nat.{ℕ, _≤_}
+use Prim.Native.Nat.{ℕ}
 use mathlib.Core.Path.{_≡_, sym, _∙_}
 use mathlib.Core.Bool.{Bool}
 use mathlib.Core.List.{List}

@@ -1,6 +1,5 @@
 // Patterns of f32: what a reader tests before a pattern becomes a float. Assumes nothing.
 ghost use mathlib.Core.Path.{_≡_};
-ghost use mathlib.Core.Bool.{true};
 ghost use lib.Dec.{T};
 ghost use lib.Ieee.{binary32, ofBits, toBits};
 ghost use Rattle.format_pattern.specs.Pattern.{small, weighs};

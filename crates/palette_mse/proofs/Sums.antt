@@ -18,7 +18,7 @@ use Rattle.color.specs.Color.{colourAt, Real}
 use Rattle.color.proofs.Sizes.{bounded-finite, sized-real}
 use Rattle.palette.specs.Palette.{Tile, nearestOf, Clear}
 use Rattle.palette_mse.specs.declared.Tally.{Tally}
-use Rattle.palette_mse.specs.Mse.{errorOf, stepTally, tileTally, meanError, Summed}
+use Rattle.palette_mse.specs.Mse.{stepTally, tileTally, meanError, Summed}
 use Rattle.palette_mse.proofs.Fine.{near-good, target-sized}
 
 -- an f64 holds every f32

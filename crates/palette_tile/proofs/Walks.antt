@@ -1,11 +1,9 @@
 -- Walks over tiles: what holds of each step holds after all of them; and a loop that walks, from its start to its end, whatever its step. Assumes nothing.
 use Prim.Native.Nat.{ℕ, zero, suc, _+_, _≤_, _<_}
 use mathlib.Core.Path.{_≡_, sym, ap, subst, subst⁻¹, _∙_}
-use mathlib.Core.List.{List}
 use native.Mathlib.Nat.{le-antisymm}
 use native.Mathlib.Numerals.{add-one}
 use native.Mathlib.Omega.{arith}
-use lib.ListN.{length}
 use Rattle.palette_tile.specs.Walk.{walk}
 
 -- what each step of T keeps, the walk keeps

@@ -2,7 +2,6 @@
 use Prim.Native.Nat.{ℕ, _*_, _≤_, _<_}
 use mathlib.Core.Path.{_≡_}
 use lib.ListN.{getD, length}
-use Rattle.lists.specs.Every.{sum}
 use Rattle.color.specs.Color.{colourAt, Sized}
 use Rattle.quantizer.specs.Refining.{Gather}
 

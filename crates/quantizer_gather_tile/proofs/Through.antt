@@ -1,6 +1,5 @@
 -- A walk over a tile's colours keeps the lists whole, and tiles of a job that is shown may be gathered. Assumes nothing.
 use Prim.Native.Nat.{ℕ, suc, _+_, _*_, _≤_, _<_}
-use mathlib.Core.Path.{_≡_}
 use mathlib.Core.List.{List}
 use native.Mathlib.Omega.{arith}
 use lib.ListN.{getD, length}

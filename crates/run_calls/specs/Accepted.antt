@@ -1,7 +1,7 @@
 -- Memory that the calls of a run accept. Assumes nothing.
 use mathlib.Core.Path.{_≡_}
 use mathlib.Core.Bool.{true}
-use Prim.Native.Nat.{ℕ, _*_}
+use Prim.Native.Nat.{_*_}
 use lib.ListN.{length}
 use Rattle.job.specs.Rules.{Passed}
 use Rattle.quantizer.specs.Course.{Course}

@@ -2,7 +2,6 @@
 use Prim.Native.Nat.{ℕ, _-_}
 use mathlib.Core.Bool.{cond}
 use lib.Dec.{ltb}
-use Rattle.run_stages.specs.State.{at}
 
 -- the hand-ins that are to come: at stages 3, 5 and 6
 unfoldable pub handIns : ℕ → ℕ

@@ -3,7 +3,7 @@ use mathlib.Core.Path.{_≡_}
 use mathlib.Core.Bool.{false}
 use Prim.Native.Nat.{ℕ, suc, _+_, _-_, _*_, _≤_, _<_}
 use Rattle.quantizer.specs.Course.{Course, b}
-use Rattle.run_stages.specs.State.{State, at, draws}
+use Rattle.run_stages.specs.State.{State}
 use Rattle.run_stages.specs.Stages.{due}
 
 -- ---- where a run may stand: stage k, r rounds finished, l draws left, m made. l = 0 is allowed, so that this holds inside a settling too.

@@ -3,7 +3,6 @@
 use run_stages::Record;
 ghost use mathlib.Core.Path.{_≡_};
 ghost use mathlib.Core.Bool.{true};
-ghost use mathlib.Core.List.{[]};
 ghost use Rattle.job.specs.Rules.{answer};
 ghost use Rattle.run_stages.specs.Record.{placeFits, madeBy, recordRules};
 ghost use Rattle.run_record.specs.Sized.{sized, Sized};

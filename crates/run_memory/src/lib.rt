@@ -1,7 +1,6 @@
 // Writing of lent memory as a whole: a palette copied, a palette zeroed, the record's words.
 use run_stages::Record;
 ghost use mathlib.Core.Path.{_≡_};
-ghost use Prim.Native.Nat.{ℕ};
 ghost use lib.ListN.{length};
 ghost use Rattle.quantizer.specs.Sums.{zeros};
 ghost use Rattle.run_stages.specs.Calls.{wordsOf};

@@ -2,7 +2,6 @@
 use run_stages::Record;
 ghost use mathlib.Core.Path.{_≡_};
 ghost use mathlib.Core.Bool.{_&&_};
-ghost use mathlib.Core.List.{[]};
 ghost use Prim.Native.Nat.{_/_};
 ghost use lib.Dec.{eqb};
 ghost use Rattle.run_stages.specs.State.{placed, draws};

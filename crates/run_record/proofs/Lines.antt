@@ -6,10 +6,10 @@ use native.Mathlib.Omega.{arith}
 use mir.Val.{Fits}
 use mir.Syntax.{w64}
 use mir.Facts.{fits-le, fits-lit}
-use borrow.Author.Tests.{eq-eqb, ne-eqb}
+use borrow.Author.Tests.{ne-eqb}
 use Rattle.run_stages.specs.State.{beside}
 use Rattle.run_stages.specs.Record.{stageWith, stageOf}
-use Rattle.run_record.specs.Sized.{sized, Sized}
+use Rattle.run_record.specs.Sized.{sized}
 
 -- b is a tenth of the samples
 module _ (s c n k b : ℕ) (e : b ≡ n / 10) where

@@ -1,6 +1,6 @@
 -- The sizes that the record's rules read, as a course of no tiles: the rules of any course are those of its sizes. Definitions only. Assumes nothing.
 use Prim.Native.Nat.{ℕ, _≤_}
-use mathlib.Core.List.{List, []}
+use mathlib.Core.List.{[]}
 use lib.Ieee.{nan}
 use Rattle.job.specs.Job.{job, mostSubpalettes, mostColours, mostSamples}
 use Rattle.quantizer.specs.Course.{Course, course}

@@ -10,7 +10,6 @@ use Rattle.lists.proofs.Runs.{lt-or-ge}
 use Rattle.job.specs.Job.{Job}
 use Rattle.quantizer.specs.Course.{Course}
 use Rattle.quantizer.specs.Growing.{grown, grownHints}
-use Rattle.quantizer_needs.specs.Asked.{Growing}
 use Rattle.run_stages.specs.declared.Record.{Record}
 use Rattle.run_stages.specs.State.{State, stateWith, placed}
 use Rattle.run_stages.specs.Stages.{openGrowing}

@@ -7,7 +7,7 @@ use mathlib.Core.List.{List, [], _∷_}
 use lib.Dec.{T, ltb, lt→ltb}
 use lib.Pow.{areBytes}
 use lib.ListN.{length, getD, take}
-use lib.Seq.{sets, length-sets}
+use lib.Seq.{length-sets}
 use lib.Ieee.{Float}
 use borrow.Author.Tests.{le-leb}
 use Rattle.format.specs.Format.{Answer, refused, accepted, encode}

@@ -21,7 +21,7 @@ use Rattle.sheet.specs.declared.Reading.the-variants as reading
 use Rattle.sheet.specs.Sheets.{Room, readOutcome, readDef}
 use Rattle.sheet_parts.specs.Front.{frontJob, frontPalette, Front}
 use Rattle.sheet_parts.specs.Texts.{sheetText, Printed, printed, printedIn}
-use Rattle.sheet_parts.proofs.Readings.{Lengths, Given, refused-says, sheet-says}
+use Rattle.sheet_parts.proofs.Readings.{Lengths, refused-says, sheet-says}
 
 -- ---- by what the reader says: the refusal's line, or what is printed for the job in the first places
 module _ (b : List ℕ) (h : Room) (L : Lengths h) (r : Reading) (after : Room) (e : readOutcome r after ≡ readDef b h) where

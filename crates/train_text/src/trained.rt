@@ -1,6 +1,5 @@
 // A job that a sheet holds, trained and written again: its samples, the run, the sheet with the trained palette. Assumes nothing.
 use job::Sizes;
-ghost use mathlib.Core.Path.{_≡_};
 ghost use Prim.Native.Nat.{_≤_};
 ghost use lib.ListN.{length};
 ghost use Rattle.job.specs.Job.{jobOf};

@@ -1,5 +1,4 @@
 -- `assign::assign` meets its contract: a refusal writes nothing, and the rest is the walk over the tiles. Assumes nothing.
-use native.Mathlib.Omega.{arith}
 use Rattle.assign.proofs.Answers.{stop, can-assign, done}
 use borrow.Author.Needs.{needs}
 use Rattle.assign.proofs.assign.Statement.{statement}

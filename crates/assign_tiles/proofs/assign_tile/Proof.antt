@@ -1,5 +1,4 @@
 -- `assign_tiles::assign_tile` meets its contract: an empty tile gets 0 and keeps its hint, another its winner in both places. Assumes nothing.
-use mathlib.Core.Path.{refl}
 use native.Mathlib.Omega.{arith}
 use borrow.Author.Needs.{needs}
 use Rattle.palette_tile.proofs.Asks.{colours-asked}
@@ -62,16 +61,5 @@ returns-2 c =
 pub assign-tile-spec : {M : Type 1} → statement M
 assign-tile-spec =
     tie.close
-    (tie.spec
-    is-empty-requires
-    mul-out
-    slice-write-out
-    same-length
-    returns
-    tile-fit-requires
-    cast-sub
-    mul-out-2
-    slice-write-out-2
-    same-length-2
-    same-length-3
-    returns-2)
+    (tie.spec is-empty-requires mul-out slice-write-out same-length returns tile-fit-requires cast-sub mul-out-2 slice-write-out-2 same-length-2
+    same-length-3 returns-2)

@@ -48,14 +48,4 @@ returns c = filled-end _ _ _ _ _ (c .before .before .loop .inv) (c .if1 .left)
 pub assign-tiles-spec : {M : Type 1} → statement M
 assign-tiles-spec =
     tie.close
-    (tie.spec
-    Inv-loop
-    μ-loop
-    loop-holds
-    assign-tile-requires
-    add-i
-    loop-less
-    loop-again
-    same-length
-    same-length-2
-    returns)
+    (tie.spec Inv-loop μ-loop loop-holds assign-tile-requires add-i loop-less loop-again same-length same-length-2 returns)

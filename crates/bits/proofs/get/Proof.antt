@@ -50,15 +50,4 @@ returns c =
 pub get-spec : {M : Type 1} → statement M
 get-spec =
     tie.close
-    (tie.spec
-    add-end
-    add-end-2
-    gather-requires
-    mul-spare
-    add-spare
-    sub-spare
-    shr-result
-    shl-result
-    rem-result
-    cast-result
-    returns)
+    (tie.spec add-end add-end-2 gather-requires mul-spare add-spare sub-spare shr-result shl-result rem-result cast-result returns)

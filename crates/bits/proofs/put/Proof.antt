@@ -73,19 +73,5 @@ returns c =
 pub put-spec : {M : Type 1} → statement M
 put-spec =
     tie.close
-    (tie.spec
-    add-end
-    add-end-2
-    mul-spare
-    add-spare
-    sub-spare
-    mul-get
-    get-requires
-    add-get
-    get-requires-2
-    cast-joined
-    cast-joined-2
-    joined-requires
-    spell-requires
-    same-length
-    returns)
+    (tie.spec add-end add-end-2 mul-spare add-spare sub-spare mul-get get-requires add-get get-requires-2 cast-joined cast-joined-2 joined-requires
+    spell-requires same-length returns)

@@ -63,18 +63,4 @@ returns c =
 pub spell-spec : {M : Type 1} → statement M
 spell-spec =
     tie.close
-    (tie.spec
-    Inv-loop
-    μ-loop
-    loop-holds
-    sub-behind
-    sub-behind-2
-    mul-behind
-    shr-s
-    cast-s
-    slice-write-s
-    add-j
-    loop-less
-    loop-again
-    same-length
-    returns)
+    (tie.spec Inv-loop μ-loop loop-holds sub-behind sub-behind-2 mul-behind shr-s cast-s slice-write-s add-j loop-less loop-again same-length returns)

@@ -44,15 +44,4 @@ returns c = refl
 pub put-spec : {M : Type 1} → statement M
 put-spec =
     tie.close
-    (tie.spec
-    mul-j
-    mul-s
-    slice-write-s
-    add-s
-    mul-s-2
-    slice-write-s-2
-    add-s-2
-    mul-s-3
-    slice-write-s-3
-    same-length
-    returns)
+    (tie.spec mul-j mul-s slice-write-s add-s mul-s-2 slice-write-s-2 add-s-2 mul-s-3 slice-write-s-3 same-length returns)

@@ -48,13 +48,4 @@ returns c =
 pub dunkafeto-advance-spec : {M : Type 1} → statement M
 dunkafeto-advance-spec =
     tie.close
-    (tie.spec
-    sizes-of-requires
-    advance-requires
-    pack-requires
-    same-length
-    same-length-2
-    same-length-3
-    same-length-4
-    same-length-5
-    returns)
+    (tie.spec sizes-of-requires advance-requires pack-requires same-length same-length-2 same-length-3 same-length-4 same-length-5 returns)

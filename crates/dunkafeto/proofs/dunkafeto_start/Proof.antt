@@ -43,13 +43,4 @@ returns c =
 pub dunkafeto-start-spec : {M : Type 1} → statement M
 dunkafeto-start-spec =
     tie.close
-    (tie.spec
-    sizes-of-requires
-    start-requires
-    cast-result
-    same-length
-    same-length-2
-    same-length-3
-    same-length-4
-    same-length-5
-    returns)
+    (tie.spec sizes-of-requires start-requires cast-result same-length same-length-2 same-length-3 same-length-4 same-length-5 returns)

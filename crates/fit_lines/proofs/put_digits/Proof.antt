@@ -68,18 +68,5 @@ returns c =
 pub put-digits-spec : {M : Type 1} → statement M
 put-digits-spec =
     tie.close
-    (tie.spec
-    Inv-loop
-    μ-loop
-    loop-holds
-    sub-i
-    add-j
-    rem-glyph
-    glyph-requires
-    slice-write-out
-    div-rest
-    loop-less
-    loop-again
-    add-result
-    same-length
+    (tie.spec Inv-loop μ-loop loop-holds sub-i add-j rem-glyph glyph-requires slice-write-out div-rest loop-less loop-again add-result same-length
     returns)

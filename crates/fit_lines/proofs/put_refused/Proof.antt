@@ -31,10 +31,4 @@ returns c = both-stored (c .before .before .before .before .before .before .befo
 pub put-refused-spec : {M : Type 1} → statement M
 put-refused-spec =
     tie.close
-    (tie.spec
-    slice-aggregate-put-field
-    put-field-requires
-    slice-aggregate-put-word
-    put-word-requires
-    same-length
-    returns)
+    (tie.spec slice-aggregate-put-field put-field-requires slice-aggregate-put-word put-word-requires same-length returns)

@@ -80,15 +80,5 @@ returns c =
 pub put-tile-spec : {M : Type 1} → statement M
 put-tile-spec =
     tie.close
-    (tie.spec
-    slice-aggregate-put-field
-    put-field-requires
-    slice-aggregate-put-field-2
-    put-field-requires-2
-    slice-aggregate-put-word
-    put-word-requires
-    put-digits-requires
-    slice-aggregate-put-word-2
-    put-word-requires-2
-    same-length
-    returns)
+    (tie.spec slice-aggregate-put-field put-field-requires slice-aggregate-put-field-2 put-field-requires-2 slice-aggregate-put-word put-word-requires
+    put-digits-requires slice-aggregate-put-word-2 put-word-requires-2 same-length returns)

@@ -1,7 +1,5 @@
 -- `put_job` meets its contract: the parts that it lends are the job's lists. Assumes nothing.
-use Prim.Native.Nat.{_*_}
 use mathlib.Core.Path.{sym}
-use mathlib.Core.List.{List}
 use native.Mathlib.Omega.{arith}
 use Rattle.job.specs.Job.{Job}
 use Rattle.palette_tile.specs.Tiles.{Shown}
@@ -102,19 +100,6 @@ returns c =
 pub put-job-spec : {M : Type 1} → statement M
 put-job-spec =
     tie.close
-    (tie.spec
-    no-hints-requires
-    colours-to-requires
-    mul-put-fit
-    slice-aggregate-put-fit
-    mul-put-fit-2
-    slice-aggregate-put-fit-2
-    slice-aggregate-put-fit-3
-    mul-put-fit-3
-    mul-put-fit-4
-    slice-aggregate-put-fit-4
-    array-borrow-prefix-hints
-    slice-aggregate-put-fit-5
-    put-fit-requires
-    same-length
-    returns)
+    (tie.spec no-hints-requires colours-to-requires mul-put-fit slice-aggregate-put-fit mul-put-fit-2 slice-aggregate-put-fit-2
+    slice-aggregate-put-fit-3 mul-put-fit-3 mul-put-fit-4 slice-aggregate-put-fit-4 array-borrow-prefix-hints slice-aggregate-put-fit-5
+    put-fit-requires same-length returns)

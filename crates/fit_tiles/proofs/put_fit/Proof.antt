@@ -74,14 +74,5 @@ returns c =
 pub put-fit-spec : {M : Type 1} → statement M
 put-fit-spec =
     tie.close
-    (tie.spec
-    cast-put-head
-    cast-put-head-2
-    put-head-requires
-    slice-aggregate-put-tiles
-    put-tiles-requires
-    slice-aggregate-put-loads
-    put-loads-requires
-    same-length
-    same-length-2
-    returns)
+    (tie.spec cast-put-head cast-put-head-2 put-head-requires slice-aggregate-put-tiles put-tiles-requires slice-aggregate-put-loads
+    put-loads-requires same-length same-length-2 returns)

@@ -62,16 +62,5 @@ returns c =
 pub put-loads-spec : {M : Type 1} → statement M
 put-loads-spec =
     tie.close
-    (tie.spec
-    Inv-loop
-    μ-loop
-    loop-holds
-    cast-put-load
-    mul-put-load
-    shared-slice-read-put-load
-    put-load-requires
-    add-k
-    loop-less
-    loop-again
-    same-length
-    returns)
+    (tie.spec Inv-loop μ-loop loop-holds cast-put-load mul-put-load shared-slice-read-put-load put-load-requires add-k loop-less loop-again
+    same-length returns)

@@ -105,18 +105,5 @@ returns c =
 pub put-tiles-spec : {M : Type 1} → statement M
 put-tiles-spec =
     tie.close
-    (tie.spec
-    Inv-loop
-    μ-loop
-    loop-holds
-    tile-found-requires
-    cast-put-tile
-    put-tile-requires
-    count-tile-requires
-    add-i
-    loop-less
-    loop-again
-    same-length
-    same-length-2
-    same-length-3
-    returns)
+    (tie.spec Inv-loop μ-loop loop-holds tile-found-requires cast-put-tile put-tile-requires count-tile-requires add-i loop-less loop-again
+    same-length same-length-2 same-length-3 returns)

@@ -63,11 +63,4 @@ returns-2 c =
 pub tile-found-spec : {M : Type 1} → statement M
 tile-found-spec =
     tie.close
-    (tie.spec
-    is-empty-requires
-    returns
-    tile-fit-requires
-    cast-sub
-    float-to-bits-bits
-    same-length
-    returns-2)
+    (tie.spec is-empty-requires returns tile-fit-requires cast-sub float-to-bits-bits same-length returns-2)

@@ -1,6 +1,5 @@
 -- `fits::single_fit` meets its contract: a refusal writes nothing, and the rest is the fit of tile 0. Assumes nothing.
 use mathlib.Core.Path.{refl}
-use native.Mathlib.Omega.{arith}
 use Rattle.fits_outcome.proofs.Singles.{single-refused, single-done}
 use Rattle.fits.proofs.Asked.{single-asked}
 use borrow.Author.Needs.{needs}

@@ -1,6 +1,5 @@
 -- `fits_two::best_two` meets its contract: a refusal writes nothing, and the rest is the fit of tile 0. Assumes nothing.
 use mathlib.Core.Path.{refl}
-use native.Mathlib.Omega.{arith}
 use Rattle.fits.proofs.Shown.{one-paired}
 use Rattle.fits_outcome.proofs.Pairs.{pair-refused, pair-done}
 use borrow.Author.Needs.{needs}

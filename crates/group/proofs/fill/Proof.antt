@@ -73,16 +73,4 @@ returns c = ended _ _ _ _ _ (c .before .loop .inv .5) (c .before .loop .inv .0) 
 pub fill-spec : {M : Type 1} → statement M
 fill-spec =
     tie.close
-    (tie.spec
-    Inv-loop
-    μ-loop
-    loop-holds
-    settle-requires
-    add-k
-    loop-less
-    loop-again
-    same-length
-    same-length-2
-    same-length-3
-    same-length-4
-    returns)
+    (tie.spec Inv-loop μ-loop loop-holds settle-requires add-k loop-less loop-again same-length same-length-2 same-length-3 same-length-4 returns)

@@ -46,14 +46,4 @@ returns-2 c = seek-none _ _ _ _ (c .before .loop .inv .1) (c .before .loop .inv 
 pub position-spec : {M : Type 1} → statement M
 position-spec =
     tie.close
-    (tie.spec
-    Inv-loop
-    μ-loop
-    loop-holds
-    rgba-at-requires
-    same-bytes-requires
-    returns
-    add-e
-    loop-less
-    loop-again
-    returns-2)
+    (tie.spec Inv-loop μ-loop loop-holds rgba-at-requires same-bytes-requires returns add-e loop-less loop-again returns-2)

@@ -96,30 +96,7 @@ returns-3 c =
 pub settle-spec : {M : Type 1} → statement M
 settle-spec =
     tie.close
-    (tie.spec
-    rgba-at-requires
-    is-kept-requires
-    returns
-    position-requires
-    cast-index
-    mul-index
-    slice-write-index
-    mul-entry-counts
-    slice-read-entry-counts
-    add-entry-counts
-    slice-write-entry-counts
-    same-length
-    same-length-2
-    same-length-3
-    returns-2
-    put-rgba-requires
-    colour-requires
-    put-requires
-    mul-entry-counts-2
-    slice-write-entry-counts-2
-    add-result
-    same-length-4
-    same-length-5
-    same-length-6
-    same-length-7
+    (tie.spec rgba-at-requires is-kept-requires returns position-requires cast-index mul-index slice-write-index mul-entry-counts
+    slice-read-entry-counts add-entry-counts slice-write-entry-counts same-length same-length-2 same-length-3 returns-2 put-rgba-requires
+    colour-requires put-requires mul-entry-counts-2 slice-write-entry-counts-2 add-result same-length-4 same-length-5 same-length-6 same-length-7
     returns-3)

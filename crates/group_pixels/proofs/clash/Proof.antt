@@ -47,12 +47,4 @@ returns-2 c =
 pub clash-spec : {M : Type 1} → statement M
 clash-spec =
     tie.close
-    (tie.spec
-    rgba-at-requires
-    rgba-at-requires-2
-    same-bytes-requires
-    returns
-    colour-requires
-    colour-requires-2
-    same-bits-requires
-    returns-2)
+    (tie.spec rgba-at-requires rgba-at-requires-2 same-bytes-requires returns colour-requires colour-requires-2 same-bits-requires returns-2)

@@ -34,10 +34,4 @@ returns-3 c = sym
 pub in-gamut-spec : {M : Type 1} → statement M
 in-gamut-spec =
     tie.close
-    (tie.spec
-    is-within-requires
-    returns
-    is-within-requires-2
-    returns-2
-    is-within-requires-3
-    returns-3)
+    (tie.spec is-within-requires returns is-within-requires-2 returns-2 is-within-requires-3 returns-3)

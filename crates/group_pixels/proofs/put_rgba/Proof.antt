@@ -41,14 +41,4 @@ returns c = refl
 pub put-rgba-spec : {M : Type 1} → statement M
 put-rgba-spec =
     tie.close
-    (tie.spec
-    mul-j
-    slice-write-s
-    add-s
-    slice-write-s-2
-    add-s-2
-    slice-write-s-3
-    add-s-3
-    slice-write-s-4
-    same-length
-    returns)
+    (tie.spec mul-j slice-write-s add-s slice-write-s-2 add-s-2 slice-write-s-3 add-s-3 slice-write-s-4 same-length returns)

@@ -43,13 +43,5 @@ returns-3 c = sym (on (eq-eqb _ _ (c .before .before .before .before .before .if
 pub same-bits-spec : {M : Type 1} → statement M
 same-bits-spec =
     tie.close
-    (tie.spec
-    float-to-bits-if1
-    float-to-bits-if1-2
-    returns
-    float-to-bits-if2
-    float-to-bits-if2-2
-    returns-2
-    float-to-bits-result
-    float-to-bits-result-2
-    returns-3)
+    (tie.spec float-to-bits-if1 float-to-bits-if1-2 returns float-to-bits-if2 float-to-bits-if2-2 returns-2 float-to-bits-result
+    float-to-bits-result-2 returns-3)

@@ -40,13 +40,4 @@ returns-2 c = some-none _ _ _ _ (c .before .loop .inv .1) (c .loop-test .left)
 pub clashes-spec : {M : Type 1} → statement M
 clashes-spec =
     tie.close
-    (tie.spec
-    Inv-loop
-    μ-loop
-    loop-holds
-    clash-requires
-    returns
-    add-i
-    loop-less
-    loop-again
-    returns-2)
+    (tie.spec Inv-loop μ-loop loop-holds clash-requires returns add-i loop-less loop-again returns-2)

@@ -66,13 +66,4 @@ returns-4 c = then _ _ _ _
 pub fault-spec : {M : Type 1} → statement M
 fault-spec =
     tie.close
-    (tie.spec
-    rgba-at-requires
-    is-kept-requires
-    returns
-    colour-requires
-    in-gamut-requires
-    returns-2
-    clashes-requires
-    returns-3
-    returns-4)
+    (tie.spec rgba-at-requires is-kept-requires returns colour-requires in-gamut-requires returns-2 clashes-requires returns-3 returns-4)

@@ -43,13 +43,4 @@ returns-2 c = first-none _ _ _ _ (c .before .loop .inv .1) (c .loop-test .left)
 pub first-fault-spec : {M : Type 1} → statement M
 first-fault-spec =
     tie.close
-    (tie.spec
-    Inv-loop
-    μ-loop
-    loop-holds
-    fault-requires
-    returns
-    add-k
-    loop-less
-    loop-again
-    returns-2)
+    (tie.spec Inv-loop μ-loop loop-holds fault-requires returns add-k loop-less loop-again returns-2)

@@ -53,14 +53,4 @@ returns-6 c = sym
 pub is-sized-spec : {M : Type 1} → statement M
 is-sized-spec =
     tie.close
-    (tie.spec
-    mul-if1
-    returns
-    mul-if2
-    returns-2
-    mul-if3
-    returns-3
-    mul-if4
-    returns-4
-    returns-5
-    returns-6)
+    (tie.spec mul-if1 returns mul-if2 returns-2 mul-if3 returns-3 mul-if4 returns-4 returns-5 returns-6)

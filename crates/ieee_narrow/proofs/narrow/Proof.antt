@@ -32,11 +32,4 @@ returns-2 c = set-sign (c .before .before .args .x) (of-true (c .before .before 
 pub narrow-spec : {M : Type 1} → statement M
 narrow-spec =
     tie.close
-    (tie.spec
-    float-to-bits-bits
-    narrow-bits-requires
-    float-from-bits-result
-    returns
-    add-result
-    float-from-bits-result-2
-    returns-2)
+    (tie.spec float-to-bits-bits narrow-bits-requires float-from-bits-result returns add-result float-from-bits-result-2 returns-2)

@@ -25,10 +25,4 @@ returns-2 c = normal _ _ (c .before .before .pre) (c .before .if1 .left) (c .rou
 pub narrow-bits-spec : {M : Type 1} → statement M
 narrow-bits-spec =
     tie.close
-    (tie.spec
-    rounded-bits-requires
-    returns
-    add-rounded-bits
-    sub-rounded-bits
-    rounded-bits-requires-2
-    returns-2)
+    (tie.spec rounded-bits-requires returns add-rounded-bits sub-rounded-bits rounded-bits-requires-2 returns-2)

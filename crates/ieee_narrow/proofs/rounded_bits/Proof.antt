@@ -71,17 +71,5 @@ returns-4 c =
 pub rounded-bits-spec : {M : Type 1} → statement M
 rounded-bits-spec =
     tie.close
-    (tie.spec
-    returns
-    sub-power-of-two
-    power-of-two-requires
-    half-even-requires
-    cast-result
-    returns-2
-    mul-n
-    half-even-requires-2
-    add-n
-    cast-if3
-    cast-result-2
-    returns-3
-    returns-4)
+    (tie.spec returns sub-power-of-two power-of-two-requires half-even-requires cast-result returns-2 mul-n half-even-requires-2 add-n cast-if3
+    cast-result-2 returns-3 returns-4)

@@ -31,12 +31,4 @@ returns c = part-is _ _ _ _ _ (c .before .before .first-of .ensures) (c .before 
 pub counts-part-spec : {M : Type 1} → statement M
 counts-part-spec =
     tie.close
-    (tie.spec
-    first-of-requires
-    size-of-requires
-    add-result
-    mul-result
-    sub-result
-    part-result-start
-    part-result-end
-    returns)
+    (tie.spec first-of-requires size-of-requires add-result mul-result sub-result part-result-start part-result-end returns)

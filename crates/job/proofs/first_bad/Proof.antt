@@ -51,15 +51,4 @@ returns-2 c = searched-all _ _ _ (c .before .loop .inv .1) (c .before .loop .inv
 pub first-bad-spec : {M : Type 1} → statement M
 first-bad-spec =
     tie.close
-    (tie.spec
-    Inv-loop
-    μ-loop
-    loop-holds
-    mul-is-within
-    shared-slice-read-is-within
-    is-within-requires
-    returns
-    add-i
-    loop-less
-    loop-again
-    returns-2)
+    (tie.spec Inv-loop μ-loop loop-holds mul-is-within shared-slice-read-is-within is-within-requires returns add-i loop-less loop-again returns-2)

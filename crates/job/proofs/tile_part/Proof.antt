@@ -39,14 +39,4 @@ returns c = part-is _ _ _ _ _ (ap (λ (n : ℕ). 3 * n) (c .before .before .firs
 pub tile-part-spec : {M : Type 1} → statement M
 tile-part-spec =
     tie.close
-    (tie.spec
-    first-of-requires
-    mul-at
-    size-of-requires
-    mul-size
-    add-result
-    mul-result
-    sub-result
-    part-result-start
-    part-result-end
-    returns)
+    (tie.spec first-of-requires mul-at size-of-requires mul-size add-result mul-result sub-result part-result-start part-result-end returns)

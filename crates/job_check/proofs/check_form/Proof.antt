@@ -69,13 +69,4 @@ returns-5 c =
 pub check-form-spec : {M : Type 1} → statement M
 check-form-spec =
     tie.close
-    (tie.spec
-    check-sizes-requires
-    returns
-    check-shapes-requires
-    returns-2
-    mul-if3
-    mul-if3-2
-    returns-3
-    returns-4
-    returns-5)
+    (tie.spec check-sizes-requires returns check-shapes-requires returns-2 mul-if3 mul-if3-2 returns-3 returns-4 returns-5)

@@ -34,10 +34,4 @@ returns-3 c =
 pub check-job-spec : {M : Type 1} → statement M
 check-job-spec =
     tie.close
-    (tie.spec
-    check-form-requires
-    returns
-    check-tables-requires
-    returns-2
-    check-bounds-requires
-    returns-3)
+    (tie.spec check-form-requires returns check-tables-requires returns-2 check-bounds-requires returns-3)

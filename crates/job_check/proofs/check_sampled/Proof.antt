@@ -43,10 +43,4 @@ returns-3 c =
 pub check-sampled-spec : {M : Type 1} → statement M
 check-sampled-spec =
     tie.close
-    (tie.spec
-    check-sampled-form-requires
-    returns
-    check-tables-requires
-    returns-2
-    check-places-requires
-    returns-3)
+    (tie.spec check-sampled-form-requires returns check-tables-requires returns-2 check-places-requires returns-3)

@@ -71,14 +71,4 @@ returns-7 c =
 pub check-sampled-form-spec : {M : Type 1} → statement M
 check-sampled-form-spec =
     tie.close
-    (tie.spec
-    check-sizes-requires
-    returns
-    returns-2
-    check-shapes-requires
-    returns-3
-    mul-if4
-    returns-4
-    returns-5
-    returns-6
-    returns-7)
+    (tie.spec check-sizes-requires returns returns-2 check-shapes-requires returns-3 mul-if4 returns-4 returns-5 returns-6 returns-7)

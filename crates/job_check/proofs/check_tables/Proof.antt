@@ -39,12 +39,4 @@ returns-5 c = passes _ _ _ _ _ (c .before .before .before .before .before .befor
 pub check-tables-spec : {M : Type 1} → statement M
 check-tables-spec =
     tie.close
-    (tie.spec
-    weight-fits-requires
-    returns
-    returns-2
-    tiles-fit-requires
-    returns-3
-    counts-fit-requires
-    returns-4
-    returns-5)
+    (tie.spec weight-fits-requires returns returns-2 tiles-fit-requires returns-3 counts-fit-requires returns-4 returns-5)

@@ -42,13 +42,4 @@ returns-5 c = passes _ _ _ _ _ (c .before .before .before .before .before .befor
 pub check-sizes-spec : {M : Type 1} → statement M
 check-sizes-spec =
     tie.close
-    (tie.spec
-    is-tile-size-requires
-    returns
-    is-among-requires
-    returns-2
-    is-among-requires-2
-    returns-3
-    is-among-requires-3
-    returns-4
-    returns-5)
+    (tie.spec is-tile-size-requires returns is-among-requires returns-2 is-among-requires-2 returns-3 is-among-requires-3 returns-4 returns-5)

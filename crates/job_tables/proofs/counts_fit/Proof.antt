@@ -47,14 +47,4 @@ returns-2 c = every-end _ _ _ (c .before .loop .inv .1) (c .before .loop .inv .0
 pub counts-fit-spec : {M : Type 1} → statement M
 counts-fit-spec =
     tie.close
-    (tie.spec
-    Inv-loop
-    μ-loop
-    loop-holds
-    counts-part-requires
-    part-fits-requires
-    returns
-    add-i
-    loop-less
-    loop-again
-    returns-2)
+    (tie.spec Inv-loop μ-loop loop-holds counts-part-requires part-fits-requires returns add-i loop-less loop-again returns-2)

@@ -49,17 +49,5 @@ returns-2 c = counted-end _ _ _ _ (c .before .loop .inv .1) (c .before .loop .in
 pub part-fits-spec : {M : Type 1} → statement M
 part-fits-spec =
     tie.close
-    (tie.spec
-    Inv-loop
-    μ-loop
-    loop-holds
-    mul-wide
-    shared-slice-read-wide
-    wide-requires
-    count-fits-requires
-    returns
-    add-done
-    add-i
-    loop-less
-    loop-again
+    (tie.spec Inv-loop μ-loop loop-holds mul-wide shared-slice-read-wide wide-requires count-fits-requires returns add-done add-i loop-less loop-again
     returns-2)

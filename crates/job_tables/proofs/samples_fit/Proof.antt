@@ -74,22 +74,5 @@ returns-2 c = every-end _ _ _ (c .before .loop .inv .1) (c .before .loop .inv .0
 pub samples-fit-spec : {M : Type 1} → statement M
 samples-fit-spec =
     tie.close
-    (tie.spec
-    Inv-loop
-    μ-loop
-    loop-holds
-    mul-wide
-    mul-wide-2
-    shared-slice-read-wide
-    wide-requires
-    mul-wide-3
-    add-wide
-    mul-wide-4
-    shared-slice-read-wide-2
-    wide-requires-2
-    sample-fits-requires
-    returns
-    add-i
-    loop-less
-    loop-again
-    returns-2)
+    (tie.spec Inv-loop μ-loop loop-holds mul-wide mul-wide-2 shared-slice-read-wide wide-requires mul-wide-3 add-wide mul-wide-4
+    shared-slice-read-wide-2 wide-requires-2 sample-fits-requires returns add-i loop-less loop-again returns-2)

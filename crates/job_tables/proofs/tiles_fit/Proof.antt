@@ -54,16 +54,4 @@ returns-2 c = tiled-end _ _ _ _ _ _ (c .before .loop .inv .1) (c .before .loop .
 pub tiles-fit-spec : {M : Type 1} → statement M
 tiles-fit-spec =
     tie.close
-    (tie.spec
-    Inv-loop
-    μ-loop
-    loop-holds
-    size-of-requires
-    first-of-requires
-    tile-fits-requires
-    returns
-    add-at
-    add-i
-    loop-less
-    loop-again
-    returns-2)
+    (tie.spec Inv-loop μ-loop loop-holds size-of-requires first-of-requires tile-fits-requires returns add-at add-i loop-less loop-again returns-2)

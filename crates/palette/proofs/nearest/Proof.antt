@@ -45,14 +45,4 @@ returns c = c .before .loop .inv .1 ∙ ap (leastOf (gap _ _ _)) (omega arith)
 pub nearest-spec : {M : Type 1} → statement M
 nearest-spec =
     tie.close
-    (tie.spec
-    Inv-loop
-    μ-loop
-    loop-holds
-    colour-requires
-    oklab-sqdist-requires
-    step-near-requires
-    add-i
-    loop-less
-    loop-again
-    returns)
+    (tie.spec Inv-loop μ-loop loop-holds colour-requires oklab-sqdist-requires step-near-requires add-i loop-less loop-again returns)

@@ -40,13 +40,4 @@ returns c = let a = c .before .args in ap (λ (m : ℕ). take m (drop (a .i * (3
 pub part-spec : {M : Type 1} → statement M
 part-spec =
     tie.close
-    (tie.spec
-    mul-at
-    mul-at-2
-    mul-size
-    add-result
-    mul-result
-    sub-result
-    part-result-start
-    part-result-end
-    returns)
+    (tie.spec mul-at mul-at-2 mul-size add-result mul-result sub-result part-result-start part-result-end returns)

@@ -48,13 +48,5 @@ returns c =
 pub quartet-at-spec : {M : Type 1} → statement M
 quartet-at-spec =
     tie.close
-    (tie.spec
-    four-colours-requires
-    pixels-requires
-    add-pixels
-    pixels-requires-2
-    add-pixels-2
-    pixels-requires-3
-    add-pixels-3
-    pixels-requires-4
+    (tie.spec four-colours-requires pixels-requires add-pixels pixels-requires-2 add-pixels-2 pixels-requires-3 add-pixels-3 pixels-requires-4
     returns)

@@ -75,23 +75,5 @@ returns c =
 pub copy-subpalette-spec : {M : Type 1} → statement M
 copy-subpalette-spec =
     tie.close
-    (tie.spec
-    Inv-loop
-    μ-loop
-    mul-size
-    mul-f
-    mul-f-2
-    mul-t
-    mul-t-2
-    loop-holds
-    add-pal
-    mul-pal
-    slice-read-pal
-    add-pal-2
-    mul-pal-2
-    slice-write-pal
-    add-j
-    loop-less
-    loop-again
-    same-length
-    returns)
+    (tie.spec Inv-loop μ-loop mul-size mul-f mul-f-2 mul-t mul-t-2 loop-holds add-pal mul-pal slice-read-pal add-pal-2 mul-pal-2 slice-write-pal add-j
+    loop-less loop-again same-length returns)

@@ -41,15 +41,5 @@ returns c = search needs
 pub best-fit-spec : {M : Type 1} → statement M
 best-fit-spec =
     tie.close
-    (tie.spec
-    mul-least
-    slice-read-least
-    cast-least
-    sub-least
-    least-requires
-    best-from-requires
-    cast-hints
-    mul-hints
-    slice-write-hints
-    same-length
+    (tie.spec mul-least slice-read-least cast-least sub-least least-requires best-from-requires cast-hints mul-hints slice-write-hints same-length
     returns)

@@ -41,15 +41,5 @@ returns c = search needs
 pub best-two-spec : {M : Type 1} → statement M
 best-two-spec =
     tie.close
-    (tie.spec
-    mul-least
-    slice-read-least
-    cast-least
-    sub-least
-    least-requires
-    best-two-from-requires
-    cast-hints
-    mul-hints
-    slice-write-hints
-    same-length
+    (tie.spec mul-least slice-read-least cast-least sub-least least-requires best-two-from-requires cast-hints mul-hints slice-write-hints same-length
     returns)

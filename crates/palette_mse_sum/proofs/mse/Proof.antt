@@ -57,14 +57,4 @@ returns c =
 pub mse-spec : {M : Type 1} → statement M
 mse-spec =
     tie.close
-    (tie.spec
-    Inv-loop
-    μ-loop
-    loop-holds
-    tile-step-requires
-    add-i
-    loop-less
-    loop-again
-    mean-requires
-    same-length
-    returns)
+    (tie.spec Inv-loop μ-loop loop-holds tile-step-requires add-i loop-less loop-again mean-requires same-length returns)

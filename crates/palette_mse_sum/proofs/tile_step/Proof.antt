@@ -54,13 +54,5 @@ returns-2 c =
 pub tile-step-spec : {M : Type 1} → statement M
 tile-step-spec =
     tie.close
-    (tie.spec
-    is-empty-requires
-    returns
-    tile-fit-requires
-    part-requires
-    tile-part-requires
-    counts-part-requires
-    tile-tally-requires
-    same-length
+    (tie.spec is-empty-requires returns tile-fit-requires part-requires tile-part-requires counts-part-requires tile-tally-requires same-length
     returns-2)

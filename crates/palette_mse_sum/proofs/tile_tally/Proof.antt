@@ -68,20 +68,5 @@ returns c = c .before .loop .inv .1 .1 ∙ ap (tileTally _ _ _ _) (omega arith)
 pub tile-tally-spec : {M : Type 1} → statement M
 tile-tally-spec =
     tie.close
-    (tie.spec
-    Inv-loop
-    μ-loop
-    loop-holds
-    nearest-distance-requires
-    float-to-float-total
-    mul-total
-    shared-slice-read-total
-    int-to-float-total
-    mul-count
-    shared-slice-read-count
-    cast-count
-    add-count
-    add-k
-    loop-less
-    loop-again
-    returns)
+    (tie.spec Inv-loop μ-loop loop-holds nearest-distance-requires float-to-float-total mul-total shared-slice-read-total int-to-float-total mul-count
+    shared-slice-read-count cast-count add-count add-k loop-less loop-again returns)

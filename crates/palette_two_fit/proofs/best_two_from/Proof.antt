@@ -92,24 +92,5 @@ returns c = let z = c .before .before .before .before .before .before .before in
 pub best-two-from-spec : {M : Type 1} → statement M
 best-two-from-spec =
     tie.close
-    (tie.spec
-    Inv-loop
-    μ-loop
-    part-requires
-    tile-distance-requires
-    loop-holds
-    add-i
-    loop-less
-    loop-again
-    part-requires-2
-    distance-within-requires
-    enum-known-d
-    enum-told
-    add-i-2
-    loop-less-2
-    loop-again-2
-    weigh-requires
-    add-i-3
-    loop-less-3
-    loop-again-3
-    returns)
+    (tie.spec Inv-loop μ-loop part-requires tile-distance-requires loop-holds add-i loop-less loop-again part-requires-2 distance-within-requires
+    enum-known-d enum-told add-i-2 loop-less-2 loop-again-2 weigh-requires add-i-3 loop-less-3 loop-again-3 returns)

@@ -39,14 +39,4 @@ returns c = refl
 pub swap-spec : {M : Type 1} → statement M
 swap-spec =
     tie.close
-    (tie.spec
-    mul-x
-    slice-read-x
-    mul-y
-    slice-read-y
-    mul-items
-    slice-write-items
-    mul-items-2
-    slice-write-items-2
-    same-length
-    returns)
+    (tie.spec mul-x slice-read-x mul-y slice-read-y mul-items slice-write-items mul-items-2 slice-write-items-2 same-length returns)

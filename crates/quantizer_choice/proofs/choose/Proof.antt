@@ -33,12 +33,4 @@ returns-2 c = let a = c .before .before .before .before .before .before .before 
 pub choose-spec : {M : Type 1} → statement M
 choose-spec =
     tie.close
-    (tie.spec
-    argmax-requires
-    argmin-requires
-    returns
-    mul-t6
-    shared-slice-read-t8
-    mul-t9
-    shared-slice-read-t11
-    returns-2)
+    (tie.spec argmax-requires argmin-requires returns mul-t6 shared-slice-read-t8 mul-t9 shared-slice-read-t11 returns-2)

@@ -55,13 +55,5 @@ returns c =
 pub color-step-spec : {M : Type 1} → statement M
 color-step-spec =
     tie.close
-    (tie.spec
-    nearest-palette-of-requires
-    part-requires
-    tile-part-requires
-    counts-part-requires
-    mul-for-each-match-two
-    for-each-match-two-requires
-    same-length
-    same-length-2
-    returns)
+    (tie.spec nearest-palette-of-requires part-requires tile-part-requires counts-part-requires mul-for-each-match-two for-each-match-two-requires
+    same-length same-length-2 returns)

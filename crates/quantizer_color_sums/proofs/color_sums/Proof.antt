@@ -57,14 +57,4 @@ returns c = walked-end (c .before .before .loop .inv) (c .if1 .left)
 pub color-sums-spec : {M : Type 1} → statement M
 color-sums-spec =
     tie.close
-    (tie.spec
-    Inv-loop
-    μ-loop
-    loop-holds
-    color-step-requires
-    add-i
-    loop-less
-    loop-again
-    same-length
-    same-length-2
-    returns)
+    (tie.spec Inv-loop μ-loop loop-holds color-step-requires add-i loop-less loop-again same-length same-length-2 returns)

@@ -34,11 +34,4 @@ returns c =
 pub draw-spec : {M : Type 1} → statement M
 draw-spec =
     tie.close
-    (tie.spec
-    next-requires
-    cast-nudge
-    nudge-requires
-    same-length
-    same-length-2
-    same-length-3
-    returns)
+    (tie.spec next-requires cast-nudge nudge-requires same-length same-length-2 same-length-3 returns)

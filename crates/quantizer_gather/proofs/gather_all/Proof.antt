@@ -60,15 +60,4 @@ returns c = (walked-end (c .before .before .loop .inv .0) (c .if1 .left), walked
 pub gather-all-spec : {M : Type 1} → statement M
 gather-all-spec =
     tie.close
-    (tie.spec
-    Inv-loop
-    μ-loop
-    loop-holds
-    gather-step-requires
-    add-i
-    loop-less
-    loop-again
-    same-length
-    same-length-2
-    same-length-3
-    returns)
+    (tie.spec Inv-loop μ-loop loop-holds gather-step-requires add-i loop-less loop-again same-length same-length-2 same-length-3 returns)

@@ -73,16 +73,5 @@ returns-2 c =
 pub gather-step-spec : {M : Type 1} → statement M
 gather-step-spec =
     tie.close
-    (tie.spec
-    is-empty-requires
-    returns
-    tile-fit-requires
-    part-requires
-    tile-part-requires
-    counts-part-requires
-    mul-gather-tile
-    gather-tile-requires
-    same-length
-    same-length-2
-    same-length-3
-    returns-2)
+    (tie.spec is-empty-requires returns tile-fit-requires part-requires tile-part-requires counts-part-requires mul-gather-tile gather-tile-requires
+    same-length same-length-2 same-length-3 returns-2)

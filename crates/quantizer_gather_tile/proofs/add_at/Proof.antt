@@ -44,15 +44,5 @@ returns c =
 pub add-at-spec : {M : Type 1} → statement M
 add-at-spec =
     tie.close
-    (tie.spec
-    colour-requires
-    plus-times-requires
-    put-requires
-    mul-cnts
-    slice-read-cnts
-    add-cnts
-    mul-cnts-2
-    slice-write-cnts
-    same-length
-    same-length-2
+    (tie.spec colour-requires plus-times-requires put-requires mul-cnts slice-read-cnts add-cnts mul-cnts-2 slice-write-cnts same-length same-length-2
     returns)

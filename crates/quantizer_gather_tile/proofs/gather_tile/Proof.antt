@@ -85,19 +85,5 @@ returns c = c .before .loop .inv .1 ∙ ap (tileGather _ _ _ _ _) (omega arith)
 pub gather-tile-spec : {M : Type 1} → statement M
 gather-tile-spec =
     tie.close
-    (tie.spec
-    Inv-loop
-    μ-loop
-    loop-holds
-    colour-requires
-    nearest-requires
-    add-add-at
-    mul-add-at
-    shared-slice-read-add-at
-    add-at-requires
-    add-k
-    loop-less
-    loop-again
-    same-length
-    same-length-2
-    returns)
+    (tie.spec Inv-loop μ-loop loop-holds colour-requires nearest-requires add-add-at mul-add-at shared-slice-read-add-at add-at-requires add-k
+    loop-less loop-again same-length same-length-2 returns)

@@ -65,17 +65,5 @@ returns c =
 pub grow-palette-spec : {M : Type 1} → statement M
 grow-palette-spec =
     tie.close
-    (tie.spec
-    Inv-loop
-    μ-loop
-    slice-aggregate-color-distances
-    color-distances-requires
-    loop-holds
-    slice-aggregate-split-color
-    split-color-requires
-    add-i
-    loop-less
-    loop-again
-    same-length
-    same-length-2
-    returns)
+    (tie.spec Inv-loop μ-loop slice-aggregate-color-distances color-distances-requires loop-holds slice-aggregate-split-color split-color-requires
+    add-i loop-less loop-again same-length same-length-2 returns)

@@ -40,14 +40,4 @@ returns c =
 pub split-color-spec : {M : Type 1} → statement M
 split-color-spec =
     tie.close
-    (tie.spec
-    mul-at
-    add-argmax
-    mul-argmax
-    sub-argmax
-    part-argmax-start
-    part-argmax-end
-    argmax-requires
-    duplicate-color-requires
-    same-length
-    returns)
+    (tie.spec mul-at add-argmax mul-argmax sub-argmax part-argmax-start part-argmax-end argmax-requires duplicate-color-requires same-length returns)

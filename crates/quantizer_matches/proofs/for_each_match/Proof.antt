@@ -68,22 +68,5 @@ returns c = c .before .loop .inv .1 ∙ ap (tileNeeds _ _ _ _ _) (omega arith)
 pub for-each-match-spec : {M : Type 1} → statement M
 for-each-match-spec =
     tie.close
-    (tie.spec
-    Inv-loop
-    μ-loop
-    loop-holds
-    colour-requires
-    nearest-requires
-    add-p
-    mul-m
-    shared-slice-read-m
-    int-to-float-m
-    mul-total
-    slice-read-total
-    mul-total-2
-    slice-write-total
-    add-k
-    loop-less
-    loop-again
-    same-length
-    returns)
+    (tie.spec Inv-loop μ-loop loop-holds colour-requires nearest-requires add-p mul-m shared-slice-read-m int-to-float-m mul-total slice-read-total
+    mul-total-2 slice-write-total add-k loop-less loop-again same-length returns)

@@ -43,13 +43,4 @@ returns-2 c =
 pub mean-at-spec : {M : Type 1} → statement M
 mean-at-spec =
     tie.close
-    (tie.spec
-    mul-m
-    shared-slice-read-m
-    returns
-    colour-requires
-    wide-requires
-    over-requires
-    put-requires
-    same-length
-    returns-2)
+    (tie.spec mul-m shared-slice-read-m returns colour-requires wide-requires over-requires put-requires same-length returns-2)

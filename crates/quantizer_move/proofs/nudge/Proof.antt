@@ -78,15 +78,5 @@ returns c =
 pub nudge-spec : {M : Type 1} → statement M
 nudge-spec =
     tie.close
-    (tie.spec
-    sample-tile-requires
-    sample-colour-requires
-    tile-fit-requires
-    part-requires
-    nearest-requires
-    mul-nudge
-    add-nudge
-    nudge-requires
-    same-length
-    same-length-2
-    returns)
+    (tie.spec sample-tile-requires sample-colour-requires tile-fit-requires part-requires nearest-requires mul-nudge add-nudge nudge-requires
+    same-length same-length-2 returns)

@@ -59,15 +59,4 @@ returns-2 c = all-fitted _ _ _ (c .before .before .loop .inv .0) (c .before .bef
 pub color-distances-spec : {M : Type 1} → statement M
 color-distances-spec =
     tie.close
-    (tie.spec
-    Inv-loop
-    μ-loop
-    returns
-    loop-holds
-    tile-step-requires
-    add-i
-    loop-less
-    loop-again
-    same-length
-    same-length-2
-    returns-2)
+    (tie.spec Inv-loop μ-loop returns loop-holds tile-step-requires add-i loop-less loop-again same-length same-length-2 returns-2)

@@ -70,15 +70,5 @@ returns-2 c =
 pub tile-step-spec : {M : Type 1} → statement M
 tile-step-spec =
     tie.close
-    (tie.spec
-    is-empty-requires
-    returns
-    tile-fit-requires
-    part-requires
-    tile-part-requires
-    counts-part-requires
-    mul-for-each-match
-    for-each-match-requires
-    same-length
-    same-length-2
-    returns-2)
+    (tie.spec is-empty-requires returns tile-fit-requires part-requires tile-part-requires counts-part-requires mul-for-each-match
+    for-each-match-requires same-length same-length-2 returns-2)

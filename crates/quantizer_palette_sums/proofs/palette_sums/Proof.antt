@@ -66,16 +66,5 @@ returns c = (walked-end (c .before .before .loop .inv .0) (c .if1 .left), walked
 pub palette-sums-spec : {M : Type 1} → statement M
 palette-sums-spec =
     tie.close
-    (tie.spec
-    Inv-loop
-    μ-loop
-    loop-holds
-    tile-two-requires
-    add-two-requires
-    add-i
-    loop-less
-    loop-again
-    same-length
-    same-length-2
-    same-length-3
+    (tie.spec Inv-loop μ-loop loop-holds tile-two-requires add-two-requires add-i loop-less loop-again same-length same-length-2 same-length-3
     returns)

@@ -55,19 +55,5 @@ returns c =
 pub replace-color-spec : {M : Type 1} → statement M
 replace-color-spec =
     tie.close
-    (tie.spec
-    mul-at
-    add-choose
-    mul-choose
-    sub-choose
-    part-choose-start
-    part-choose-end
-    add-choose-2
-    mul-choose-2
-    sub-choose-2
-    part-choose-start-2
-    part-choose-end-2
-    choose-requires
-    swap-color-requires
-    same-length
-    returns)
+    (tie.spec mul-at add-choose mul-choose sub-choose part-choose-start part-choose-end add-choose-2 mul-choose-2 sub-choose-2 part-choose-start-2
+    part-choose-end-2 choose-requires swap-color-requires same-length returns)

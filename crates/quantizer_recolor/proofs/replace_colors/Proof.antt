@@ -73,19 +73,5 @@ returns-2 c =
 pub replace-colors-spec : {M : Type 1} → statement M
 replace-colors-spec =
     tie.close
-    (tie.spec
-    Inv-loop
-    μ-loop
-    returns
-    slice-aggregate-color-sums
-    slice-aggregate-color-sums-2
-    color-sums-requires
-    loop-holds
-    slice-aggregate-replace-color
-    slice-aggregate-replace-color-2
-    replace-color-requires
-    add-i
-    loop-less
-    loop-again
-    same-length
-    returns-2)
+    (tie.spec Inv-loop μ-loop returns slice-aggregate-color-sums slice-aggregate-color-sums-2 color-sums-requires loop-holds
+    slice-aggregate-replace-color slice-aggregate-replace-color-2 replace-color-requires add-i loop-less loop-again same-length returns-2)

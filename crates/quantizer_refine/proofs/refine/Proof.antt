@@ -44,14 +44,5 @@ returns c =
 pub refine-spec : {M : Type 1} → statement M
 refine-spec =
     tie.close
-    (tie.spec
-    slice-aggregate-gather-all
-    slice-aggregate-gather-all-2
-    gather-all-requires
-    mul-write-means
-    slice-aggregate-write-means
-    slice-aggregate-write-means-2
-    write-means-requires
-    same-length
-    same-length-2
-    returns)
+    (tie.spec slice-aggregate-gather-all slice-aggregate-gather-all-2 gather-all-requires mul-write-means slice-aggregate-write-means
+    slice-aggregate-write-means-2 write-means-requires same-length same-length-2 returns)

@@ -44,13 +44,4 @@ returns c = let v = c .before in means-end _ _ _ _ _ (v .loop .inv .0) (c .loop-
 pub write-means-spec : {M : Type 1} → statement M
 write-means-spec =
     tie.close
-    (tie.spec
-    Inv-loop
-    μ-loop
-    loop-holds
-    mean-at-requires
-    add-p
-    loop-less
-    loop-again
-    same-length
-    returns)
+    (tie.spec Inv-loop μ-loop loop-holds mean-at-requires add-p loop-less loop-again same-length returns)

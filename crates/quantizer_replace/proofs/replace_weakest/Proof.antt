@@ -39,10 +39,4 @@ returns c =
 pub replace-weakest-spec : {M : Type 1} → statement M
 replace-weakest-spec =
     tie.close
-    (tie.spec
-    weakest-palette-requires
-    replace-colors-requires
-    swap-subpalette-requires
-    same-length
-    same-length-2
-    returns)
+    (tie.spec weakest-palette-requires replace-colors-requires swap-subpalette-requires same-length same-length-2 returns)

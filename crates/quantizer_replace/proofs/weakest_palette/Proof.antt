@@ -52,17 +52,5 @@ returns-2 c =
 pub weakest-palette-spec : {M : Type 1} → statement M
 weakest-palette-spec =
     tie.close
-    (tie.spec
-    returns
-    slice-aggregate-palette-sums
-    slice-aggregate-palette-sums-2
-    palette-sums-requires
-    sub-choose
-    part-choose-start
-    part-choose-end
-    sub-choose-2
-    part-choose-start-2
-    part-choose-end-2
-    choose-requires
-    same-length
-    returns-2)
+    (tie.spec returns slice-aggregate-palette-sums slice-aggregate-palette-sums-2 palette-sums-requires sub-choose part-choose-start part-choose-end
+    sub-choose-2 part-choose-start-2 part-choose-end-2 choose-requires same-length returns-2)

@@ -26,9 +26,4 @@ returns c =
 pub sample-colour-spec : {M : Type 1} → statement M
 sample-colour-spec =
     tie.close
-    (tie.spec
-    sample-tile-requires
-    tile-part-requires
-    sample-place-requires
-    colour-requires
-    returns)
+    (tie.spec sample-tile-requires tile-part-requires sample-place-requires colour-requires returns)

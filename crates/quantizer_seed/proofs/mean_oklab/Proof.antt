@@ -52,14 +52,4 @@ returns c =
 pub mean-oklab-spec : {M : Type 1} → statement M
 mean-oklab-spec =
     tie.close
-    (tie.spec
-    Inv-loop
-    μ-loop
-    loop-holds
-    sample-colour-requires
-    plus-requires
-    add-i
-    loop-less
-    loop-again
-    over-requires
-    returns)
+    (tie.spec Inv-loop μ-loop loop-holds sample-colour-requires plus-requires add-i loop-less loop-again over-requires returns)

@@ -44,16 +44,5 @@ returns c = search needs
 pub add-match-spec : {M : Type 1} → statement M
 add-match-spec =
     tie.close
-    (tie.spec
-    int-to-float-f
-    mul-total
-    slice-read-total
-    mul-total-2
-    slice-write-total
-    mul-second
-    slice-read-second
-    mul-second-2
-    slice-write-second
-    same-length
-    same-length-2
-    returns)
+    (tie.spec int-to-float-f mul-total slice-read-total mul-total-2 slice-write-total mul-second slice-read-second mul-second-2 slice-write-second
+    same-length same-length-2 returns)

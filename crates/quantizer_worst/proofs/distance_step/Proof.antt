@@ -59,14 +59,5 @@ returns-2 c =
 pub distance-step-spec : {M : Type 1} → statement M
 distance-step-spec =
     tie.close
-    (tie.spec
-    is-empty-requires
-    returns
-    tile-fit-requires
-    mul-distances
-    slice-read-distances
-    mul-distances-2
-    slice-write-distances
-    same-length
-    same-length-2
-    returns-2)
+    (tie.spec is-empty-requires returns tile-fit-requires mul-distances slice-read-distances mul-distances-2 slice-write-distances same-length
+    same-length-2 returns-2)

@@ -76,18 +76,5 @@ returns c =
 pub worst-spec : {M : Type 1} → statement M
 worst-spec =
     tie.close
-    (tie.spec
-    Inv-loop
-    μ-loop
-    loop-holds
-    slice-aggregate-distance-step
-    distance-step-requires
-    add-i
-    loop-less
-    loop-again
-    sub-argmax
-    part-argmax-start
-    part-argmax-end
-    argmax-requires
-    same-length
-    returns)
+    (tie.spec Inv-loop μ-loop loop-holds slice-aggregate-distance-step distance-step-requires add-i loop-less loop-again sub-argmax part-argmax-start
+    part-argmax-end argmax-requires same-length returns)

@@ -58,18 +58,5 @@ returns-2 c =
 pub advance-spec : {M : Type 1} → statement M
 advance-spec =
     tie.close
-    (tie.spec
-    refuses-advance-requires
-    same-length
-    same-length-2
-    same-length-3
-    same-length-4
-    same-length-5
-    returns
-    advance-work-requires
-    same-length-6
-    same-length-7
-    same-length-8
-    same-length-9
-    same-length-10
-    returns-2)
+    (tie.spec refuses-advance-requires same-length same-length-2 same-length-3 same-length-4 same-length-5 returns advance-work-requires same-length-6
+    same-length-7 same-length-8 same-length-9 same-length-10 returns-2)

@@ -32,11 +32,4 @@ returns-5 c =
 pub memory-room-spec : {M : Type 1} → statement M
 memory-room-spec =
     tie.close
-    (tie.spec
-    returns
-    returns-2
-    colours-room-requires
-    returns-3
-    colours-room-requires-2
-    returns-4
-    returns-5)
+    (tie.spec returns returns-2 colours-room-requires returns-3 colours-room-requires-2 returns-4 returns-5)

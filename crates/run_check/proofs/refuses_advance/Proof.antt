@@ -38,11 +38,4 @@ returns-3 c =
 pub refuses-advance-spec : {M : Type 1} → statement M
 refuses-advance-spec =
     tie.close
-    (tie.spec
-    memory-room-requires
-    check-run-requires
-    returns
-    shared-slice-read-makes-draws
-    makes-draws-requires
-    returns-2
-    returns-3)
+    (tie.spec memory-room-requires check-run-requires returns shared-slice-read-makes-draws makes-draws-requires returns-2 returns-3)

@@ -54,13 +54,5 @@ returns-4 c =
 pub refuses-hand-in-spec : {M : Type 1} → statement M
 refuses-hand-in-spec =
     tie.close
-    (tie.spec
-    wider-room-requires
-    check-run-requires
-    returns
-    shared-slice-read-is-stop
-    is-stop-requires
-    returns-2
-    first-bad-requires
-    returns-3
+    (tie.spec wider-room-requires check-run-requires returns shared-slice-read-is-stop is-stop-requires returns-2 first-bad-requires returns-3
     returns-4)

@@ -38,11 +38,4 @@ returns-3 c =
 pub refuses-result-spec : {M : Type 1} → statement M
 refuses-result-spec =
     tie.close
-    (tie.spec
-    wider-room-requires
-    check-run-requires
-    returns
-    shared-slice-read-is-finished
-    is-finished-requires
-    returns-2
-    returns-3)
+    (tie.spec wider-room-requires check-run-requires returns shared-slice-read-is-finished is-finished-requires returns-2 returns-3)

@@ -55,14 +55,5 @@ returns c =
 pub draw-spec : {M : Type 1} → statement M
 draw-spec =
     tie.close
-    (tie.spec
-    subs-of-requires
-    have-of-requires
-    alpha-of-requires
-    cycle-of-requires
-    draw-requires
-    count-draw-requires
-    same-length
-    same-length-2
-    same-length-3
-    returns)
+    (tie.spec subs-of-requires have-of-requires alpha-of-requires cycle-of-requires draw-requires count-draw-requires same-length same-length-2
+    same-length-3 returns)

@@ -43,13 +43,4 @@ returns-3 c =
 pub after-stop-spec : {M : Type 1} → statement M
 after-stop-spec =
     tie.close
-    (tie.spec
-    final-draws-requires
-    returns
-    refine-four-requires
-    placed-requires
-    same-length
-    same-length-2
-    returns-2
-    placed-requires-2
-    returns-3)
+    (tie.spec final-draws-requires returns refine-four-requires placed-requires same-length same-length-2 returns-2 placed-requires-2 returns-3)

@@ -57,17 +57,5 @@ returns-2 c =
 pub hand-in-spec : {M : Type 1} → statement M
 hand-in-spec =
     tie.close
-    (tie.spec
-    refuses-hand-in-requires
-    same-length
-    same-length-2
-    same-length-3
-    returns
-    copy-requires
-    record-of-requires
-    after-stop-requires
-    write-record-requires
-    same-length-4
-    same-length-5
-    same-length-6
-    returns-2)
+    (tie.spec refuses-hand-in-requires same-length same-length-2 same-length-3 returns copy-requires record-of-requires after-stop-requires
+    write-record-requires same-length-4 same-length-5 same-length-6 returns-2)

@@ -52,15 +52,5 @@ returns-2 c =
 pub look-spec : {M : Type 1} → statement M
 look-spec =
     tie.close
-    (tie.spec
-    mse-requires
-    is-kept-requires
-    copy-requires
-    float-to-bits-noted
-    cast-noted
-    noted-requires
-    same-length
-    same-length-2
-    returns
-    same-length-3
-    returns-2)
+    (tie.spec mse-requires is-kept-requires copy-requires float-to-bits-noted cast-noted noted-requires same-length same-length-2 returns
+    same-length-3 returns-2)

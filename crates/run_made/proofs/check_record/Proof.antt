@@ -37,11 +37,4 @@ returns-4 c =
 pub check-record-spec : {M : Type 1} → statement M
 check-record-spec =
     tie.close
-    (tie.spec
-    place-fits-requires
-    returns
-    made-by-requires
-    returns-2
-    error-fits-requires
-    returns-3
-    returns-4)
+    (tie.spec place-fits-requires returns made-by-requires returns-2 error-fits-requires returns-3 returns-4)

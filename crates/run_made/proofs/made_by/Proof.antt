@@ -71,13 +71,4 @@ returns-2 c =
 pub made-by-spec : {M : Type 1} → statement M
 made-by-spec =
     tie.close
-    (tie.spec
-    stage-of-requires
-    makes-draws-requires
-    returns
-    base-iterations-requires
-    mul-result
-    add-result
-    sub-result
-    add-result-2
-    returns-2)
+    (tie.spec stage-of-requires makes-draws-requires returns base-iterations-requires mul-result add-result sub-result add-result-2 returns-2)

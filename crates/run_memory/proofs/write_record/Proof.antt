@@ -33,12 +33,5 @@ returns c = six-set (c .args .words .now) _ _ _ _ _ _ (c .pre)
 pub write-record-spec : {M : Type 1} → statement M
 write-record-spec =
     tie.close
-    (tie.spec
-    slice-write-words
-    slice-write-words-2
-    slice-write-words-3
-    slice-write-words-4
-    slice-write-words-5
-    slice-write-words-6
-    same-length
+    (tie.spec slice-write-words slice-write-words-2 slice-write-words-3 slice-write-words-4 slice-write-words-5 slice-write-words-6 same-length
     returns)

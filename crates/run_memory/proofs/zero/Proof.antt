@@ -43,14 +43,4 @@ returns c = filled nan _ _ _ _ (c .before .loop .inv .1 .0) (c .before .loop .in
 pub zero-spec : {M : Type 1} → statement M
 zero-spec =
     tie.close
-    (tie.spec
-    Inv-loop
-    μ-loop
-    loop-holds
-    mul-numbers
-    slice-write-numbers
-    add-i
-    loop-less
-    loop-again
-    same-length
-    returns)
+    (tie.spec Inv-loop μ-loop loop-holds mul-numbers slice-write-numbers add-i loop-less loop-again same-length returns)

@@ -46,12 +46,4 @@ returns-6 c = left-stray _ _ _ _ (c .before .before .before .if1 .left) _ (c .be
 pub place-fits-spec : {M : Type 1} → statement M
 place-fits-spec =
     tie.close
-    (tie.spec
-    returns
-    makes-draws-requires
-    stage-of-requires
-    returns-2
-    returns-3
-    returns-4
-    returns-5
-    returns-6)
+    (tie.spec returns makes-draws-requires stage-of-requires returns-2 returns-3 returns-4 returns-5 returns-6)

@@ -67,22 +67,5 @@ returns-6 c =
 pub stage-of-spec : {M : Type 1} → statement M
 stage-of-spec =
     tie.close
-    (tie.spec
-    base-iterations-requires
-    sub-seeding
-    sub-growing
-    add-both
-    mul-seeded
-    add-grown
-    mul-grown
-    add-replaced
-    mul-replaced
-    add-ended
-    mul-ended
-    returns
-    returns-2
-    returns-3
-    returns-4
-    mul-t16
-    returns-5
-    returns-6)
+    (tie.spec base-iterations-requires sub-seeding sub-growing add-both mul-seeded add-grown mul-grown add-replaced mul-replaced add-ended mul-ended
+    returns returns-2 returns-3 returns-4 mul-t16 returns-5 returns-6)

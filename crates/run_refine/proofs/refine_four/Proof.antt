@@ -43,14 +43,4 @@ returns c = ended _ _ _ _ _ _ (c .before .loop .inv) (c .loop-test .left)
 pub refine-four-spec : {M : Type 1} → statement M
 refine-four-spec =
     tie.close
-    (tie.spec
-    Inv-loop
-    μ-loop
-    loop-holds
-    refine-requires
-    add-i
-    loop-less
-    loop-again
-    same-length
-    same-length-2
-    returns)
+    (tie.spec Inv-loop μ-loop loop-holds refine-requires add-i loop-less loop-again same-length same-length-2 returns)

@@ -50,15 +50,5 @@ returns-2 c =
 pub finish-round-spec : {M : Type 1} → statement M
 finish-round-spec =
     tie.close
-    (tie.spec
-    seek-requires
-    end-final-requires
-    same-length
-    same-length-2
-    returns
-    turn-after-requires
-    open-turn-requires
-    same-length-3
-    same-length-4
-    same-length-5
-    returns-2)
+    (tie.spec seek-requires end-final-requires same-length same-length-2 returns turn-after-requires open-turn-requires same-length-3 same-length-4
+    same-length-5 returns-2)

@@ -59,15 +59,4 @@ returns c = ended _ _ _ (c .before .before .loop .inv) (sym (c .before .is-due .
 pub settle-spec : {M : Type 1} → statement M
 settle-spec =
     tie.close
-    (tie.spec
-    Inv-loop
-    μ-loop
-    loop-holds
-    is-due-requires
-    finish-round-requires
-    loop-less
-    loop-again
-    same-length
-    same-length-2
-    same-length-3
-    returns)
+    (tie.spec Inv-loop μ-loop loop-holds is-due-requires finish-round-requires loop-less loop-again same-length same-length-2 same-length-3 returns)

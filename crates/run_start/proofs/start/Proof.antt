@@ -73,21 +73,5 @@ returns-2 c =
 pub start-spec : {M : Type 1} → statement M
 start-spec =
     tie.close
-    (tie.spec
-    refuses-start-requires
-    same-length
-    same-length-2
-    same-length-3
-    same-length-4
-    same-length-5
-    returns
-    blank-requires
-    deal-requires
-    set-out-requires
-    write-record-requires
-    same-length-6
-    same-length-7
-    same-length-8
-    same-length-9
-    same-length-10
-    returns-2)
+    (tie.spec refuses-start-requires same-length same-length-2 same-length-3 same-length-4 same-length-5 returns blank-requires deal-requires
+    set-out-requires write-record-requires same-length-6 same-length-7 same-length-8 same-length-9 same-length-10 returns-2)

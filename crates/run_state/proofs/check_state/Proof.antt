@@ -54,13 +54,4 @@ returns-5 c =
 pub check-state-spec : {M : Type 1} → statement M
 check-state-spec =
     tie.close
-    (tie.spec
-    check-record-requires
-    returns
-    palette-fits-requires
-    returns-2
-    least-fits-requires
-    returns-3
-    order-fits-requires
-    returns-4
-    returns-5)
+    (tie.spec check-record-requires returns palette-fits-requires returns-2 least-fits-requires returns-3 order-fits-requires returns-4 returns-5)

@@ -81,20 +81,5 @@ returns c =
 pub advance-work-spec : {M : Type 1} → statement M
 advance-work-spec =
     tie.close
-    (tie.spec
-    Inv-loop
-    μ-loop
-    record-of-requires
-    loop-holds
-    goes-on-requires
-    step-requires
-    add-drawn
-    loop-less
-    loop-again
-    write-record-requires
-    same-length
-    same-length-2
-    same-length-3
-    same-length-4
-    same-length-5
-    returns)
+    (tie.spec Inv-loop μ-loop record-of-requires loop-holds goes-on-requires step-requires add-drawn loop-less loop-again write-record-requires
+    same-length same-length-2 same-length-3 same-length-4 same-length-5 returns)

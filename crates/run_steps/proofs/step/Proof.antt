@@ -37,11 +37,4 @@ returns c =
 pub step-spec : {M : Type 1} → statement M
 step-spec =
     tie.close
-    (tie.spec
-    draw-requires
-    settle-requires
-    same-length
-    same-length-2
-    same-length-3
-    same-length-4
-    returns)
+    (tie.spec draw-requires settle-requires same-length same-length-2 same-length-3 same-length-4 returns)

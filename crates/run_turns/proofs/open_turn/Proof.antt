@@ -65,18 +65,5 @@ returns-3 c =
 pub open-turn-spec : {M : Type 1} → statement M
 open-turn-spec =
     tie.close
-    (tie.spec
-    sub-seeded
-    open-seeding-requires
-    same-length
-    returns
-    sub-grown
-    open-growing-requires
-    same-length-2
-    same-length-3
-    returns-2
-    replace-on-requires
-    same-length-4
-    same-length-5
-    same-length-6
-    returns-3)
+    (tie.spec sub-seeded open-seeding-requires same-length returns sub-grown open-growing-requires same-length-2 same-length-3 returns-2
+    replace-on-requires same-length-4 same-length-5 same-length-6 returns-3)

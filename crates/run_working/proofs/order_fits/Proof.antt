@@ -49,15 +49,4 @@ returns-2 c = every-end _ _ _ (c .before .loop .inv .1) (c .before .loop .inv .0
 pub order-fits-spec : {M : Type 1} → statement M
 order-fits-spec =
     tie.close
-    (tie.spec
-    Inv-loop
-    μ-loop
-    loop-holds
-    mul-wide
-    shared-slice-read-wide
-    wide-requires
-    returns
-    add-i
-    loop-less
-    loop-again
-    returns-2)
+    (tie.spec Inv-loop μ-loop loop-holds mul-wide shared-slice-read-wide wide-requires returns add-i loop-less loop-again returns-2)

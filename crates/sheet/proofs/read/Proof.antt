@@ -3,7 +3,6 @@ use mathlib.Core.Path.{sym, ap, _∙_}
 use native.Mathlib.Omega.{arith}
 use lib.ListN.{length}
 use Rattle.job.specs.Job.{sizesOf}
-use Rattle.sheet.specs.Sheets.{room}
 use Rattle.sheet.proofs.Accepted.{Accepted, accepted-says}
 use Rattle.sheet.proofs.Outcomes.{SheetRoom, roomy-says, no-room, refused-out, accepted-out}
 use borrow.Author.Needs.{needs}
@@ -125,28 +124,6 @@ returns-3 c =
 pub read-spec : {M : Type 1} → statement M
 read-spec =
     tie.close
-    (tie.spec
-    has-room-requires
-    returns
-    check-requires
-    enum-known-n
-    enum-known-subs
-    mul-n
-    mul-n-2
-    cast-n
-    fill-components-requires
-    mul-fill-tiles
-    add-fill-tiles
-    cast-fill-tiles
-    fill-tiles-requires
-    weight-requires
-    cast-sizes-of
-    cast-sizes-of-2
-    cast-sizes-of-3
-    sizes-of-requires
-    returns-2
-    same-length
-    same-length-2
-    same-length-3
-    same-length-4
-    returns-3)
+    (tie.spec has-room-requires returns check-requires enum-known-n enum-known-subs mul-n mul-n-2 cast-n fill-components-requires mul-fill-tiles
+    add-fill-tiles cast-fill-tiles fill-tiles-requires weight-requires cast-sizes-of cast-sizes-of-2 cast-sizes-of-3 sizes-of-requires returns-2
+    same-length same-length-2 same-length-3 same-length-4 returns-3)

@@ -64,13 +64,4 @@ returns-3 c =
 pub write-spec : {M : Type 1} → statement M
 write-spec =
     tie.close
-    (tie.spec
-    check-job-requires
-    returns
-    size-of-requires
-    bytes-for-requires
-    place-for-requires
-    returns-2
-    pack-sheet-requires
-    same-length
-    returns-3)
+    (tie.spec check-job-requires returns size-of-requires bytes-for-requires place-for-requires returns-2 pack-sheet-requires same-length returns-3)

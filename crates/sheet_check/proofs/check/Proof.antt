@@ -101,20 +101,5 @@ returns-5 c =
 pub check-spec : {M : Type 1} → statement M
 check-spec =
     tie.close
-    (tie.spec
-    returns
-    head-requires
-    enum-known-f
-    enum-known-subs
-    mul-n
-    mul-n-2
-    cast-palette-then-tiles
-    cast-palette-then-tiles-2
-    palette-then-tiles-requires
-    enum-known-f-2
-    enum-known-z
-    only-spare-requires
-    returns-2
-    returns-3
-    returns-4
-    returns-5)
+    (tie.spec returns head-requires enum-known-f enum-known-subs mul-n mul-n-2 cast-palette-then-tiles cast-palette-then-tiles-2
+    palette-then-tiles-requires enum-known-f-2 enum-known-z only-spare-requires returns-2 returns-3 returns-4 returns-5)

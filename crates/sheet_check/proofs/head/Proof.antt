@@ -103,22 +103,5 @@ returns-7 c =
 pub head-spec : {M : Type 1} → statement M
 head-spec =
     tie.close
-    (tie.spec
-    mul-end
-    returns
-    get-requires
-    returns-2
-    returns-3
-    get-requires-2
-    returns-4
-    returns-5
-    get-requires-3
-    is-weight-requires
-    returns-6
-    get-requires-4
-    add-t8
-    get-requires-5
-    add-t10
-    get-requires-6
-    add-t12
-    returns-7)
+    (tie.spec mul-end returns get-requires returns-2 returns-3 get-requires-2 returns-4 returns-5 get-requires-3 is-weight-requires returns-6
+    get-requires-4 add-t8 get-requires-5 add-t10 get-requires-6 add-t12 returns-7)

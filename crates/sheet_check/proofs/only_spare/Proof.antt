@@ -1,12 +1,6 @@
 -- `only_spare` meets its contract: bits are clear where they spell 0. Assumes nothing.
-use Prim.Native.Nat.{ℕ, _≤_, _-_, _*_, _+_}
-use mathlib.Core.Path.{_≡_, refl, sym, ap, _∙_}
-use mathlib.Core.Bool.{true, false}
+use Prim.Native.Nat.{_-_}
 use native.Mathlib.Omega.{arith}
-use lib.ListN.{length}
-use Rattle.bits.specs.Bits.{bits}
-use Rattle.bits.proofs.Fields.{field-lt}
-use Rattle.bits.proofs.Bytes.{length-bits}
 use Rattle.sheet_check.proofs.Spare.{spare-some, spare-bytes}
 use borrow.Author.Needs.{needs}
 use Rattle.sheet_check.proofs.only_spare.Statement.{statement}

@@ -76,18 +76,4 @@ returns-3 c =
 pub components-spec : {M : Type 1} → statement M
 components-spec =
     tie.close
-    (tie.spec
-    Inv-loop
-    μ-loop
-    mul-end
-    loop-holds
-    sub-if1
-    returns
-    get-requires
-    is-small-requires
-    add-q
-    add-i
-    loop-less
-    loop-again
-    returns-2
-    returns-3)
+    (tie.spec Inv-loop μ-loop mul-end loop-holds sub-if1 returns get-requires is-small-requires add-q add-i loop-less loop-again returns-2 returns-3)

@@ -116,24 +116,5 @@ returns-4 c =
 pub tile-colours-spec : {M : Type 1} → statement M
 tile-colours-spec =
     tie.close
-    (tie.spec
-    Inv-loop
-    μ-loop
-    mul-end
-    loop-holds
-    sub-if1
-    returns
-    get-requires
-    add-c
-    add-if2
-    returns-2
-    add-components
-    components-requires
-    enum-known-f
-    returns-3
-    enum-known-z
-    add-sum
-    add-i
-    loop-less
-    loop-again
-    returns-4)
+    (tie.spec Inv-loop μ-loop mul-end loop-holds sub-if1 returns get-requires add-c add-if2 returns-2 add-components components-requires enum-known-f
+    returns-3 enum-known-z add-sum add-i loop-less loop-again returns-4)

@@ -108,22 +108,5 @@ returns c =
 pub fill-colours-spec : {M : Type 1} → statement M
 fill-colours-spec =
     tie.close
-    (tie.spec
-    Inv-loop
-    μ-loop
-    loop-holds
-    add-j
-    get-requires
-    add-counts
-    mul-counts
-    slice-write-counts
-    add-fill-components
-    mul-fill-components
-    fill-components-requires
-    add-q
-    add-i
-    loop-less
-    loop-again
-    same-length
-    same-length-2
-    returns)
+    (tie.spec Inv-loop μ-loop loop-holds add-j get-requires add-counts mul-counts slice-write-counts add-fill-components mul-fill-components
+    fill-components-requires add-q add-i loop-less loop-again same-length same-length-2 returns)

@@ -86,18 +86,5 @@ returns c =
 pub fill-components-spec : {M : Type 1} → statement M
 fill-components-spec =
     tie.close
-    (tie.spec
-    Inv-loop
-    μ-loop
-    loop-holds
-    add-k
-    get-requires
-    component-requires
-    mul-dst
-    slice-write-dst
-    add-q
-    add-i
-    loop-less
-    loop-again
-    same-length
+    (tie.spec Inv-loop μ-loop loop-holds add-k get-requires component-requires mul-dst slice-write-dst add-q add-i loop-less loop-again same-length
     returns)

@@ -148,30 +148,6 @@ returns c =
 pub fill-tiles-spec : {M : Type 1} → statement M
 fill-tiles-spec =
     tie.close
-    (tie.spec
-    Inv-loop
-    μ-loop
-    loop-holds
-    get-requires
-    cast-n
-    mul-j
-    cast-table
-    mul-table
-    slice-write-table
-    cast-table-2
-    add-table
-    mul-table-2
-    slice-write-table-2
-    add-fill-colours
-    fill-colours-requires
-    mul-q
-    add-q
-    add-q-2
-    add-k
-    add-i
-    loop-less
-    loop-again
-    same-length
-    same-length-2
-    same-length-3
-    returns)
+    (tie.spec Inv-loop μ-loop loop-holds get-requires cast-n mul-j cast-table mul-table slice-write-table cast-table-2 add-table mul-table-2
+    slice-write-table-2 add-fill-colours fill-colours-requires mul-q add-q add-q-2 add-k add-i loop-less loop-again same-length same-length-2
+    same-length-3 returns)

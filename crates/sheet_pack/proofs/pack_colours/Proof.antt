@@ -104,25 +104,6 @@ returns c =
 pub pack-colours-spec : {M : Type 1} → statement M
 pack-colours-spec =
     tie.close
-    (tie.spec
-    Inv-loop
-    μ-loop
-    loop-holds
-    mul-at
-    mul-put
-    shared-slice-read-put
-    sub-put
-    put-requires
-    add-pack-components
-    add-pack-components-2
-    mul-pack-components
-    sub-pack-components
-    part-pack-components-start
-    part-pack-components-end
-    pack-components-requires
-    add-q
-    add-i
-    loop-less
-    loop-again
-    same-length
-    returns)
+    (tie.spec Inv-loop μ-loop loop-holds mul-at mul-put shared-slice-read-put sub-put put-requires add-pack-components add-pack-components-2
+    mul-pack-components sub-pack-components part-pack-components-start part-pack-components-end pack-components-requires add-q add-i loop-less
+    loop-again same-length returns)

@@ -68,17 +68,4 @@ returns c =
 pub pack-components-spec : {M : Type 1} → statement M
 pack-components-spec =
     tie.close
-    (tie.spec
-    Inv-loop
-    μ-loop
-    loop-holds
-    mul-v
-    shared-slice-read-v
-    float-to-bits-v
-    put-requires
-    add-q
-    add-i
-    loop-less
-    loop-again
-    same-length
-    returns)
+    (tie.spec Inv-loop μ-loop loop-holds mul-v shared-slice-read-v float-to-bits-v put-requires add-q add-i loop-less loop-again same-length returns)

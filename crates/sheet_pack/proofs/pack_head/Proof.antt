@@ -57,18 +57,5 @@ returns c =
 pub pack-head-spec : {M : Type 1} → statement M
 pack-head-spec =
     tie.close
-    (tie.spec
-    put-requires
-    put-requires-2
-    sub-put
-    cast-put
-    put-requires-3
-    sub-put-2
-    cast-put-2
-    put-requires-4
-    sub-put-3
-    cast-put-3
-    put-requires-5
-    put-requires-6
-    same-length
-    returns)
+    (tie.spec put-requires put-requires-2 sub-put cast-put put-requires-3 sub-put-2 cast-put-2 put-requires-4 sub-put-3 cast-put-3 put-requires-5
+    put-requires-6 same-length returns)

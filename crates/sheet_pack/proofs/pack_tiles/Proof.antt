@@ -98,18 +98,5 @@ returns c =
 pub pack-tiles-spec : {M : Type 1} → statement M
 pack-tiles-spec =
     tie.close
-    (tie.spec
-    Inv-loop
-    μ-loop
-    loop-holds
-    counts-part-requires
-    tile-part-requires
-    pack-tile-requires
-    mul-q
-    add-q
-    add-q-2
-    add-i
-    loop-less
-    loop-again
-    same-length
-    returns)
+    (tie.spec Inv-loop μ-loop loop-holds counts-part-requires tile-part-requires pack-tile-requires mul-q add-q add-q-2 add-i loop-less loop-again
+    same-length returns)

@@ -37,11 +37,4 @@ returns-2 c =
 pub put-sheet-spec : {M : Type 1} → statement M
 put-sheet-spec =
     tie.close
-    (tie.spec
-    write-requires
-    enum-known-n
-    enum-known-n-2
-    same-length
-    returns
-    same-length-2
-    returns-2)
+    (tie.spec write-requires enum-known-n enum-known-n-2 same-length returns same-length-2 returns-2)

@@ -69,15 +69,4 @@ returns-2 c =
 pub all-tiles-spec : {M : Type 1} → statement M
 all-tiles-spec =
     tie.close
-    (tie.spec
-    Inv-loop
-    μ-loop
-    loop-holds
-    one-tile-requires
-    enum-known-f
-    returns
-    enum-known-z
-    add-i
-    loop-less
-    loop-again
-    returns-2)
+    (tie.spec Inv-loop μ-loop loop-holds one-tile-requires enum-known-f returns enum-known-z add-i loop-less loop-again returns-2)

@@ -1,12 +1,7 @@
 -- `one_tile` meets its contract, by each answer to the number of colours. Assumes nothing.
-use Prim.Native.Nat.{ℕ, _≤_, _-_, _*_, _+_}
-use mathlib.Core.Path.{_≡_, refl, sym, ap, _∙_}
-use mathlib.Core.Bool.{true, false}
+use Prim.Native.Nat.{_-_}
+use mathlib.Core.Path.{sym, _∙_}
 use native.Mathlib.Omega.{arith}
-use lib.ListN.{length}
-use native.Mathlib.Nat.{sub-zero}
-use Rattle.format.specs.Format.{times, next, got}
-use Rattle.bits.specs.Bits.{bits}
 use Rattle.sheet_tiles.proofs.Tiles.{tile-short, tile-many, tile-read}
 use borrow.Author.Needs.{needs}
 use Rattle.sheet_tiles.proofs.one_tile.Statement.{statement}
@@ -47,13 +42,4 @@ returns-3 c =
 pub one-tile-spec : {M : Type 1} → statement M
 one-tile-spec =
     tie.close
-    (tie.spec
-    mul-end
-    sub-if1
-    returns
-    get-requires
-    returns-2
-    add-tile-colours
-    cast-tile-colours
-    tile-colours-requires
-    returns-3)
+    (tie.spec mul-end sub-if1 returns get-requires returns-2 add-tile-colours cast-tile-colours tile-colours-requires returns-3)

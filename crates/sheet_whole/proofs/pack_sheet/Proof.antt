@@ -59,16 +59,5 @@ returns c =
 pub pack-sheet-spec : {M : Type 1} → statement M
 pack-sheet-spec =
     tie.close
-    (tie.spec
-    mul-p
-    add-p
-    bytes-for-requires
-    mul-spare
-    sub-spare
-    float-to-bits-pack-head
-    pack-head-requires
-    pack-components-requires
-    pack-tiles-requires
-    put-requires
-    same-length
-    returns)
+    (tie.spec mul-p add-p bytes-for-requires mul-spare sub-spare float-to-bits-pack-head pack-head-requires pack-components-requires
+    pack-tiles-requires put-requires same-length returns)

@@ -64,17 +64,5 @@ returns c =
 pub extreme-spec : {M : Type 1} → statement M
 extreme-spec =
     tie.close
-    (tie.spec
-    Inv-loop
-    μ-loop
-    loop-holds
-    mul-total-key
-    shared-slice-read-total-key
-    total-key-requires
-    mul-total-key-2
-    shared-slice-read-total-key-2
-    total-key-requires-2
-    add-i
-    loop-less
-    loop-again
-    returns)
+    (tie.spec Inv-loop μ-loop loop-holds mul-total-key shared-slice-read-total-key total-key-requires mul-total-key-2 shared-slice-read-total-key-2
+    total-key-requires-2 add-i loop-less loop-again returns)

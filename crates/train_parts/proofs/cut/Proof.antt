@@ -64,17 +64,5 @@ returns c =
 pub cut-spec : {M : Type 1} → statement M
 cut-spec =
     tie.close
-    (tie.spec
-    Inv-loop
-    μ-loop
-    palette-room-requires
-    loop-holds
-    mul-cut-one
-    shared-slice-read-cut-one
-    cut-one-requires
-    mul-to
-    array-write-to
-    add-i
-    loop-less
-    loop-again
-    returns)
+    (tie.spec Inv-loop μ-loop palette-room-requires loop-holds mul-cut-one shared-slice-read-cut-one cut-one-requires mul-to array-write-to add-i
+    loop-less loop-again returns)

@@ -56,18 +56,5 @@ returns c = let e : c .before .loop .done ≡ c .before .before .args .m = omega
 pub put-alike-spec : {M : Type 1} → statement M
 put-alike-spec =
     tie.close
-    (tie.spec
-    Inv-loop
-    μ-loop
-    loop-holds
-    mul-samples
-    slice-write-samples
-    add-samples
-    mul-samples-2
-    slice-write-samples-2
-    add-q
-    add-done
-    loop-less
-    loop-again
-    same-length
-    returns)
+    (tie.spec Inv-loop μ-loop loop-holds mul-samples slice-write-samples add-samples mul-samples-2 slice-write-samples-2 add-q add-done loop-less
+    loop-again same-length returns)

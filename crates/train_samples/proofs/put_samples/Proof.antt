@@ -57,15 +57,4 @@ returns c = let e : c .before .loop .i ≡ c .before .before .before .before .be
 pub put-samples-spec : {M : Type 1} → statement M
 put-samples-spec =
     tie.close
-    (tie.spec
-    Inv-loop
-    μ-loop
-    loop-holds
-    counts-part-requires
-    cast-put-tile
-    put-tile-requires
-    add-i
-    loop-less
-    loop-again
-    same-length
-    returns)
+    (tie.spec Inv-loop μ-loop loop-holds counts-part-requires cast-put-tile put-tile-requires add-i loop-less loop-again same-length returns)

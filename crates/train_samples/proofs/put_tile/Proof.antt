@@ -56,16 +56,5 @@ returns c =
 pub put-tile-spec : {M : Type 1} → statement M
 put-tile-spec =
     tie.close
-    (tie.spec
-    Inv-loop
-    μ-loop
-    loop-holds
-    cast-put-alike
-    mul-put-alike
-    shared-slice-read-put-alike
-    put-alike-requires
-    add-k
-    loop-less
-    loop-again
-    same-length
-    returns)
+    (tie.spec Inv-loop μ-loop loop-holds cast-put-alike mul-put-alike shared-slice-read-put-alike put-alike-requires add-k loop-less loop-again
+    same-length returns)

@@ -1,7 +1,5 @@
 -- `put_job` meets its contract: the parts that it lends are the job's lists. Assumes nothing.
-use Prim.Native.Nat.{_*_}
 use native.Mathlib.Omega.{arith}
-use mathlib.Core.List.{List}
 use Rattle.job.specs.Job.{Job}
 use Rattle.fit_lines.specs.Lines.{Stored}
 use Rattle.sheet_parts.specs.Front.{frontPalette, Writable}
@@ -82,18 +80,6 @@ returns c =
 pub put-job-spec : {M : Type 1} → statement M
 put-job-spec =
     tie.close
-    (tie.spec
-    colours-to-requires
-    mul-put-trained
-    slice-aggregate-put-trained
-    mul-put-trained-2
-    slice-aggregate-put-trained-2
-    slice-aggregate-put-trained-3
-    mul-put-trained-3
-    mul-put-trained-4
-    slice-relend-prefix-put-trained
-    slice-aggregate-put-trained-4
-    put-trained-requires
-    same-length
-    same-length-2
-    returns)
+    (tie.spec colours-to-requires mul-put-trained slice-aggregate-put-trained mul-put-trained-2 slice-aggregate-put-trained-2
+    slice-aggregate-put-trained-3 mul-put-trained-3 mul-put-trained-4 slice-relend-prefix-put-trained slice-aggregate-put-trained-4
+    put-trained-requires same-length same-length-2 returns)

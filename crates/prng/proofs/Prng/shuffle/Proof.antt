@@ -72,16 +72,4 @@ returns c =
 pub shuffle-spec : {M : Type 1} → statement M
 shuffle-spec =
     tie.close
-    (tie.spec
-    Inv-loop
-    μ-loop
-    loop-holds
-    sub-i
-    next-requires
-    add-j
-    rem-j
-    swap-requires
-    loop-less
-    loop-again
-    same-length
-    returns)
+    (tie.spec Inv-loop μ-loop loop-holds sub-i next-requires add-j rem-j swap-requires loop-less loop-again same-length returns)

@@ -60,18 +60,5 @@ returns-2 c = tt
 pub probe-group-spec : {M : Type 1} → statement M
 probe-group-spec =
     tie.close
-    (tie.spec
-    zero-of-requires
-    group-requires
-    enum-known-n
-    enum-known-number
-    same-length
-    same-length-2
-    same-length-3
-    same-length-4
-    returns
-    same-length-5
-    same-length-6
-    same-length-7
-    same-length-8
-    returns-2)
+    (tie.spec zero-of-requires group-requires enum-known-n enum-known-number same-length same-length-2 same-length-3 same-length-4 returns
+    same-length-5 same-length-6 same-length-7 same-length-8 returns-2)

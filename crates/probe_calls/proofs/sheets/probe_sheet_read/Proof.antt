@@ -45,17 +45,5 @@ returns-2 c = tt
 pub probe-sheet-read-spec : {M : Type 1} → statement M
 probe-sheet-read-spec =
     tie.close
-    (tie.spec
-    read-requires
-    enum-known-number
-    enum-known-z
-    same-length
-    same-length-2
-    same-length-3
-    same-length-4
-    returns
-    same-length-5
-    same-length-6
-    same-length-7
-    same-length-8
-    returns-2)
+    (tie.spec read-requires enum-known-number enum-known-z same-length same-length-2 same-length-3 same-length-4 returns same-length-5 same-length-6
+    same-length-7 same-length-8 returns-2)

@@ -48,15 +48,5 @@ returns-2 c =
 pub replace-on-spec : {M : Type 1} → statement M
 replace-on-spec =
     tie.close
-    (tie.spec
-    look-requires
-    open-replacing-requires
-    same-length
-    same-length-2
-    same-length-3
-    returns
-    enter-reducing-requires
-    same-length-4
-    same-length-5
-    same-length-6
-    returns-2)
+    (tie.spec look-requires open-replacing-requires same-length same-length-2 same-length-3 returns enter-reducing-requires same-length-4
+    same-length-5 same-length-6 returns-2)

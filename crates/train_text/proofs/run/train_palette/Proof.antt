@@ -86,20 +86,6 @@ returns c =
 pub train-palette-spec : {M : Type 1} → statement M
 train-palette-spec =
     tie.close
-    (tie.spec
-    order-room-requires
-    no-hints-requires
-    palette-room-requires
-    mul-size
-    mul-size-2
-    array-borrow-prefix-orders
-    slice-aggregate-order
-    array-borrow-prefix-firsts
-    slice-aggregate-hints
-    array-borrow-prefix-errors
-    slice-aggregate-least
-    slice-aggregate-words
-    start-requires
-    turns-requires
-    same-length
-    returns)
+    (tie.spec order-room-requires no-hints-requires palette-room-requires mul-size mul-size-2 array-borrow-prefix-orders slice-aggregate-order
+    array-borrow-prefix-firsts slice-aggregate-hints array-borrow-prefix-errors slice-aggregate-least slice-aggregate-words start-requires
+    turns-requires same-length returns)

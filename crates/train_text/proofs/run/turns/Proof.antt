@@ -109,21 +109,5 @@ returns c = all-turned _ _ _ _ (c .loop-test .left) (c .before .loop .inv)
 pub turns-spec : {M : Type 1} → statement M
 turns-spec =
     tie.close
-    (tie.spec
-    Inv-loop
-    μ-loop
-    loop-holds
-    advance-requires
-    cut-requires
-    array-share-prefix-reduced
-    slice-aggregate-hand-in
-    hand-in-requires
-    add-passed
-    loop-less
-    loop-again
-    same-length
-    same-length-2
-    same-length-3
-    same-length-4
-    same-length-5
-    returns)
+    (tie.spec Inv-loop μ-loop loop-holds advance-requires cut-requires array-share-prefix-reduced slice-aggregate-hand-in hand-in-requires add-passed
+    loop-less loop-again same-length same-length-2 same-length-3 same-length-4 same-length-5 returns)

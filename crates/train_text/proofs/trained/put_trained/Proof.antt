@@ -98,18 +98,5 @@ returns-2 c =
 pub put-trained-spec : {M : Type 1} → statement M
 put-trained-spec =
     tie.close
-    (tie.spec
-    samples-room-requires
-    slice-aggregate-put-samples
-    put-samples-requires
-    refusal-requires
-    put-refused-requires
-    same-length
-    returns
-    array-share-prefix-samples
-    slice-aggregate-train-palette
-    train-palette-requires
-    put-sheet-requires
-    same-length-2
-    same-length-3
-    returns-2)
+    (tie.spec samples-room-requires slice-aggregate-put-samples put-samples-requires refusal-requires put-refused-requires same-length returns
+    array-share-prefix-samples slice-aggregate-train-palette train-palette-requires put-sheet-requires same-length-2 same-length-3 returns-2)
