@@ -27,7 +27,11 @@ nearest-requires : tie.Need-nearest-requires Inv-loop μ-loop
 nearest-requires c κs = search needs
 
 add-p : tie.Need-add-p Inv-loop μ-loop
-add-p c = omega (arith, near-place _ _ _ _ _ (c .before .before .before .before .before .before .before .before .before .pre) _ _ (c .before .before .before .before .loop .inv .1) _ (c .before .before .colour .ensures) _ (c .before .nearest .ensures))
+add-p c = omega (
+  arith,
+  near-place _ _ _ _ _ (c .before .before .before .before .before .before .before .before .before .pre) _ _ (c .before .before .before .before .loop .inv .1) _
+      (c .before .before .colour .ensures) _ (c .before .nearest .ensures),
+)
 
 mul-m : tie.Need-mul-m Inv-loop μ-loop
 mul-m c = omega arith
@@ -36,19 +40,37 @@ shared-slice-read-m : tie.Need-shared-slice-read-m Inv-loop μ-loop
 shared-slice-read-m c = omega arith
 
 int-to-float-m : tie.Need-int-to-float-m Inv-loop μ-loop
-int-to-float-m c = count-exact binary32 _ (c .before .before .before .before .before .before .before .before .before .before .before .pre .high (c .before .before .before .before .before .before .loop .k) (omega arith))
+int-to-float-m c =
+    let after-loop = c .before .before .before .before .before .before in let start = after-loop .before .before .before .before .before in
+    count-exact binary32 _ (start .pre .high (after-loop .loop .k) (omega arith))
 
 mul-total : tie.Need-mul-total Inv-loop μ-loop
-mul-total c = omega (arith, near-place _ _ _ _ _ (c .before .before .before .before .before .before .before .before .before .before .before .pre) _ _ (c .before .before .before .before .before .before .loop .inv .1) _ (c .before .before .before .before .colour .ensures) _ (c .before .before .before .nearest .ensures))
+mul-total c = omega (
+  arith,
+  near-place _ _ _ _ _ (c .before .before .before .before .before .before .before .before .before .before .before .pre) _ _
+      (c .before .before .before .before .before .before .loop .inv .1) _ (c .before .before .before .before .colour .ensures) _
+      (c .before .before .before .nearest .ensures),
+)
 
 slice-read-total : tie.Need-slice-read-total Inv-loop μ-loop
-slice-read-total c = omega (arith, near-place _ _ _ _ _ (c .before .before .before .before .before .before .before .before .before .before .before .before .pre) _ _ (c .before .before .before .before .before .before .before .loop .inv .1) _ (c .before .before .before .before .before .colour .ensures) _ (c .before .before .before .before .nearest .ensures), needs-length _ _ _ _ _ (c .before .before .before .before .before .before .before .before .before .before .before .before .pre) _ _ (c .before .before .before .before .before .before .before .loop .inv .1))
+slice-read-total c =
+    let after-nearest = c .before .before .before .before in let after-colour = after-nearest .before in
+    let after-loop = after-colour .before .before in let start = after-loop .before .before .before .before .before in
+    omega (arith, near-place _ _ _ _ _ (start .pre) _ _ (after-loop .loop .inv .1) _ (after-colour .colour .ensures) _ (after-nearest .nearest .ensures), needs-length _ _ _ _ _ (start .pre) _ _ (after-loop .loop .inv .1))
 
 mul-total-2 : tie.Need-mul-total-2 Inv-loop μ-loop
-mul-total-2 c = omega (arith, near-place _ _ _ _ _ (c .before .before .before .before .before .before .before .before .before .before .before .before .before .pre) _ _ (c .before .before .before .before .before .before .before .before .loop .inv .1) _ (c .before .before .before .before .before .before .colour .ensures) _ (c .before .before .before .before .before .nearest .ensures))
+mul-total-2 c = omega (
+  arith,
+  near-place _ _ _ _ _ (c .before .before .before .before .before .before .before .before .before .before .before .before .before .pre) _ _
+      (c .before .before .before .before .before .before .before .before .loop .inv .1) _ (c .before .before .before .before .before .before .colour .ensures) _
+      (c .before .before .before .before .before .nearest .ensures),
+)
 
 slice-write-total : tie.Need-slice-write-total Inv-loop μ-loop
-slice-write-total c = omega (arith, near-place _ _ _ _ _ (c .before .before .before .before .before .before .before .before .before .before .before .before .before .pre) _ _ (c .before .before .before .before .before .before .before .before .loop .inv .1) _ (c .before .before .before .before .before .before .colour .ensures) _ (c .before .before .before .before .before .nearest .ensures), needs-length _ _ _ _ _ (c .before .before .before .before .before .before .before .before .before .before .before .before .before .pre) _ _ (c .before .before .before .before .before .before .before .before .loop .inv .1))
+slice-write-total c =
+    let after-nearest = c .before .before .before .before .before in let after-colour = after-nearest .before in
+    let after-loop = after-colour .before .before in let start = after-loop .before .before .before .before .before in
+    omega (arith, near-place _ _ _ _ _ (start .pre) _ _ (after-loop .loop .inv .1) _ (after-colour .colour .ensures) _ (after-nearest .nearest .ensures), needs-length _ _ _ _ _ (start .pre) _ _ (after-loop .loop .inv .1))
 
 add-k : tie.Need-add-k Inv-loop μ-loop
 add-k c = omega arith
@@ -57,7 +79,10 @@ loop-less : tie.Need-loop-less Inv-loop μ-loop
 loop-less c = omega arith
 
 loop-again : tie.Need-loop-again Inv-loop μ-loop
-loop-again c = (omega arith, needs-more _ _ _ _ _ (c .before .before .before .before .before .before .before .before .before .before .before .before .before .pre) _ _ (c .before .before .before .before .before .before .before .before .loop .inv .1) _ (c .before .before .before .before .before .before .colour .ensures) _ (c .before .before .before .before .before .nearest .ensures))
+loop-again c =
+    let after-nearest = c .before .before .before .before .before in let after-colour = after-nearest .before in
+    let after-loop = after-colour .before .before in let start = after-loop .before .before .before .before .before in
+    (omega arith, needs-more _ _ _ _ _ (start .pre) _ _ (after-loop .loop .inv .1) _ (after-colour .colour .ensures) _ (after-nearest .nearest .ensures))
 
 same-length : tie.Need-same-length Inv-loop μ-loop
 same-length c = needs-length _ _ _ _ _ (c .before .before .before .before .before .before .pre) _ _ (c .before .loop .inv .1)
