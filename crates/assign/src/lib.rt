@@ -16,7 +16,9 @@ pub fn assign(
     hints: &mut [u32],
     out: &mut [u32],
 ) -> u32
-    ensures { λ r. ⌜ outcome r (tileMemory (now (hints .exit)) (now (out .exit))) ≡ assignDef (jobOf z (now (tiles .entry)) (now (colours .entry)) (now (counts .entry))) (now (palette .entry)) (tileMemory (now (hints .entry)) (now (out .entry))) ⌝ }
+    ensures { λ r. ⌜ outcome r (tileMemory (now (hints .exit)) (now (out .exit)))
+        ≡ assignDef (jobOf z (now (tiles .entry)) (now (colours .entry)) (now (counts .entry))) (now (palette .entry))
+        (tileMemory (now (hints .entry)) (now (out .entry))) ⌝ }
 {
     let number = assign_check::check_assign(
         z,

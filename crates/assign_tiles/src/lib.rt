@@ -38,7 +38,9 @@ pub fn assign_tiles(
     out: &mut [u32],
 )
     requires { ⌜ CanAssign (jobOf z (now tiles) (now colours) (now counts)) (now palette) (tileMemory (now hints) (now out)) ⌝ }
-    ensures { λ r. ⌜ tileMemory (now (hints .exit)) (now (out .exit)) ≡ assigned (jobOf z (now (tiles .entry)) (now (colours .entry)) (now (counts .entry))) (now (palette .entry)) (tileMemory (now (hints .entry)) (now (out .entry))) (z .t) ⌝ }
+    ensures { λ r. ⌜ tileMemory (now (hints .exit)) (now (out .exit))
+        ≡ assigned (jobOf z (now (tiles .entry)) (now (colours .entry)) (now (counts .entry))) (now (palette .entry))
+        (tileMemory (now (hints .entry)) (now (out .entry))) (z .t) ⌝ }
 {
     let mut i = 0usize;
     while i < z.t {

@@ -47,7 +47,15 @@ module _ (K : Course) where
   pub room-of : (m : Memory) → Roomy K m → memoryRoom K m ≡ true
   unfolding memoryRoom coloursRoom
   room-of m r =
-      rw (eq-eqb (length (m .order)) (K .n) (r .order), eq-eqb (length (m .hints)) (K .job .T) (r .hints), eq-eqb (length (m .palette)) (3 * (K .job .S * K .job .C)) (r .palette), eq-eqb (length (m .least)) (3 * (K .job .S * K .job .C)) (r .least), eq-eqb (length (m .words)) 6 (r .words))
+      rw (
+        eq-eqb (length (m .order)) (K .n) (r .order),
+        eq-eqb (length (m .hints)) (K .job .T) (r .hints),
+        eq-eqb (length (m .palette))
+            (3 * (K .job .S * K .job .C)) (r .palette),
+        eq-eqb (length (m .least)) (3 * (K .job .S * K .job .C)) (r .least),
+        eq-eqb (length (m .words))
+            6 (r .words),
+      )
 
 -- ---- the state's own rules, as tests and as what the laws speak of
 module _ (K : Course) (S1 : 1 ≤ K .job .S) (C1 : 1 ≤ K .job .C) where

@@ -8,7 +8,8 @@ use lib.Ieee.{Float, binary32, lt, ofBits}
 use Rattle.quantizer.specs.Course.{Course, b}
 use Rattle.run_stages.specs.Whilst.{whilst, times}
 use Rattle.run_stages.specs.State.{State, at, painted, beside}
-use Rattle.run_stages.specs.Stages.{noticed, openSeeding, openGrowing, openReplacing, errorOf, keep, judged, enterReplacing, enterGrowing, enterReducing, closeSeeding, closeGrowing, closeReplacing, finishRound, due, settle, subsOf, haveOf, alphaOf, draw, drawWith, going, step, advance, drawsOf, fresh, start, refinedOnce, handIn}
+use Rattle.run_stages.specs.Stages.{noticed, openSeeding, openGrowing, openReplacing, errorOf, keep, judged, enterReplacing, enterGrowing, enterReducing, closeSeeding, closeGrowing, closeReplacing, finishRound, due}
+use Rattle.run_stages.specs.Stages.{settle, subsOf, haveOf, alphaOf, draw, drawWith, going, step, advance, drawsOf, fresh, start, refinedOnce, handIn}
 use Rattle.run_stages.specs.History.{sampleAt, sampled}
 
 -- a state without its hints

@@ -12,7 +12,8 @@ use borrow.Author.Tests.{eqb-true}
 use Rattle.run_calls.proofs.Cases.{by-test, both, decide, all-stages}
 use Rattle.quantizer.specs.Course.{Course, b}
 use Rattle.run_stages.specs.State.{State, at, painted, draws, beside}
-use Rattle.run_stages.specs.Stages.{openSeeding, openGrowing, openReplacing, noticed, errorOf, keep, enterGrowing, enterReplacing, enterReducing, closeSeeding, closeGrowing, judged, closeReplacing, finishRound, due, settle, draw, drawWith, going, step, advance, drawsOf, fresh, start, refinedOnce, handIn}
+use Rattle.run_stages.specs.Stages.{openSeeding, openGrowing, openReplacing, noticed, errorOf, keep, enterGrowing, enterReplacing, enterReducing, closeSeeding, closeGrowing, judged, closeReplacing}
+use Rattle.run_stages.specs.Stages.{finishRound, due, settle, draw, drawWith, going, step, advance, drawsOf, fresh, start, refinedOnce, handIn}
 use Rattle.run_calls.proofs.Whilsts.{whilst-keeps, times-grows, times-all}
 use Rattle.run_calls.specs.Place.{seeding, growing, replacing, reducing, finishing, over, Placed, Rests}
 use Rattle.run_calls.proofs.Place.{some-left, advance-rests, start-rests}

@@ -15,7 +15,8 @@ use Rattle.run_stages.specs.Whilst.{whilst}
 use Rattle.run_calls.proofs.Whilsts.{whilst-keeps}
 use Rattle.quantizer.specs.Course.{Course, b}
 use Rattle.run_stages.specs.State.{State, at, painted, draws, beside}
-use Rattle.run_stages.specs.Stages.{openSeeding, openGrowing, openReplacing, noticed, keep, enterGrowing, enterReplacing, enterReducing, closeSeeding, closeGrowing, judged, closeReplacing, errorOf, finishRound, due, settle, draw, drawWith, going, step, advance, fresh, start, refinedOnce, handIn}
+use Rattle.run_stages.specs.Stages.{openSeeding, openGrowing, openReplacing, noticed, keep, enterGrowing, enterReplacing, enterReducing, closeSeeding, closeGrowing, judged, closeReplacing, errorOf}
+use Rattle.run_stages.specs.Stages.{finishRound, due, settle, draw, drawWith, going, step, advance, fresh, start, refinedOnce, handIn}
 use Rattle.run_calls.specs.Place.{Placed, Rests, finishing, growing, over, reducing, replacing, seeding}
 
 -- ---- the draws of whole rounds

@@ -32,7 +32,8 @@ use Rattle.quantizer.proofs.Indexes.{worst-below}
 use Rattle.quantizer.proofs.Bounds.{sample-sized, seeded-bounded, duplicated-bounded, length-duplicated, grown-bounded, replaced-kept, moved-bounded}
 use Rattle.quantizer.proofs.Refines.{refined-bounded}
 use Rattle.run_stages.specs.State.{State, painted, beside}
-use Rattle.run_stages.specs.Stages.{noticed, openSeeding, openGrowing, openReplacing, errorOf, keep, judged, enterReplacing, enterGrowing, enterReducing, closeSeeding, closeGrowing, closeReplacing, finishRound, due, settle, cycleOf, subsOf, haveOf, alphaOf, draw, drawWith, fresh, start, refinedOnce, handIn}
+use Rattle.run_stages.specs.Stages.{noticed, openSeeding, openGrowing, openReplacing, errorOf, keep, judged, enterReplacing, enterGrowing, enterReducing, closeSeeding, closeGrowing, closeReplacing}
+use Rattle.run_stages.specs.Stages.{finishRound, due, settle, cycleOf, subsOf, haveOf, alphaOf, draw, drawWith, fresh, start, refinedOnce, handIn}
 use Rattle.run_calls.proofs.Cases.{by-test, both}
 use Rattle.run_calls.proofs.Whilsts.{whilst-keeps}
 use Rattle.run_calls.specs.Place.{Placed}
@@ -247,7 +248,8 @@ module _ (K : Course) (given : Bool) (D : Sampled (K .job) (K .n) (K .samples) g
       record {
         held = record {
           size = length-moved (K .job) (s .palette) (subsOf (K .job .S) (s .rec)) (haveOf (K .job .C) (s .rec)) t (samplePlace K i) (alphaOf (s .rec)) ∙ A .held .size;
-          bound = moved-bounded (K .job) (s .palette) (subsOf (K .job .S) (s .rec)) (haveOf (K .job .C) (s .rec)) H t (samplePlace K i) (alphaOf (s .rec)) (gentle s) (unfold sampleColour in sample-sized K given D i (sample-in s (A .dealt)));
+          bound = moved-bounded (K .job) (s .palette) (subsOf (K .job .S) (s .rec)) (haveOf (K .job .C) (s .rec)) H t (samplePlace K i)
+              (alphaOf (s .rec)) (gentle s) (unfold sampleColour in sample-sized K given D i (sample-in s (A .dealt)));
         };
         room = A .room;
         second = A .second;

@@ -106,7 +106,11 @@ module _ (K : Course) (S1 : 1 ≤ K .job .S) (C1 : 1 ≤ K .job .C) where
   between (suc (suc (suc (suc zero)))) r l m w =
       let x = opened 4 r l m refl w in
       let z : r ≡ 0 = omega (arith, x .0) in
-      record { place = finishing refl z (x .2) (x .3 ∙ ap (λ (y : ℕ). (K .job .S + K .job .C + 8) * b K + y * b K + 10 * b K) z ∙ omega arith ∙ sym (add-mul (K .job .S + K .job .C + 8) 10 (b K)) ∙ ap (λ (y : ℕ). y * b K) (omega arith)); some = λ _. x .1 }
+      record {
+        place = finishing refl z (x .2) (x .3 ∙ ap (λ (y : ℕ). (K .job .S + K .job .C + 8) * b K + y * b K + 10 * b K) z ∙ omega arith
+            ∙ sym (add-mul (K .job .S + K .job .C + 8) 10 (b K)) ∙ ap (λ (y : ℕ). y * b K) (omega arith));
+        some = λ _. x .1;
+      }
   between (suc (suc (suc (suc (suc k))))) r l m w = past _ r l m (omega arith) w
 
   -- ---- for a state
