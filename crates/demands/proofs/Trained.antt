@@ -23,7 +23,7 @@ use Rattle.sheet_parts.proofs.Repaints.{read-repainted, same-weight, same-conte
 use Rattle.fit_lines.specs.Lines.{refusedLine}
 use Rattle.train_run.proofs.Singles.{trained-singles}
 use Rattle.train_samples.proofs.Accepted as refusals
-use Rattle.train_text.specs.Trained.{courseOf, trainedPalette, trainedFile}
+use Rattle.train_text.specs.Trained.{unitCourse, trainedPalette, trainedFile}
 use Rattle.train_text.specs.Train.{textOf, TrainOutcome, trainOutcome, trainDef}
 use Rattle.train_text.proofs.Sheets.{no-place, printed}
 use Rattle.train_text.proofs.Trains.{text-refused, text-sheet, trained-passes}
@@ -46,10 +46,10 @@ module _ (bytes room : List ℕ) (enough : 65536 ≤ length room) where
     -- ---- the sheet trained
     module _ (b : T (areBytes bytes)) (some : 1 ≤ samples x) (few : samples x ≤ 16384) where
       palette : List Float
-      palette = trainedPalette (courseOf (jobIn x))
+      palette = trainedPalette (unitCourse (jobIn x))
 
       singles : Singles palette
-      singles = unfold palette trainedPalette in trained-singles (courseOf (jobIn x)) _
+      singles = unfold palette trainedPalette in trained-singles (unitCourse (jobIn x)) _
 
       passes : plainAnswer (jobIn x) palette true ≡ 0
       passes = unfold palette in trained-passes (jobIn x) (floats (x .palette)) (accepted-job bytes x b e) some few

@@ -14,7 +14,7 @@ use Rattle.sheet_format.specs.Lists.{floats}
 use Rattle.sheet.specs.Sheets.{jobIn}
 use Rattle.fit_lines.specs.Lines.{refusedLine}
 use Rattle.train_samples.specs.Samples.{unitsTo}
-use Rattle.train_text.specs.Trained.{courseOf, trainedPalette}
+use Rattle.train_text.specs.Trained.{unitCourse, trainedPalette}
 use Rattle.train_text.specs.Train.{trainOutcome, trainDef}
 
 -- the samples of a sheet's job: all its counts, added up
@@ -32,7 +32,7 @@ pub record Trained-as (x y : Sheet) : Type 0 where
   -- so it holds the same job
   pub job : jobIn y ≡ jobIn x
   -- and with it the palette that training its samples gives, every component of which is at most 2 in size
-  pub palette : floats (y .palette) ≡ trainedPalette (courseOf (jobIn x))
+  pub palette : floats (y .palette) ≡ trainedPalette (unitCourse (jobIn x))
   pub small : Bounded (floats (y .palette)) 2
 
 module _ (bytes room : List ℕ) where

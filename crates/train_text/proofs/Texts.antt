@@ -21,7 +21,7 @@ use Rattle.train_samples.specs.Refusal.{refusalOf}
 use Rattle.train_samples.proofs.Accepted.{not-refused}
 use Rattle.train_samples.specs.Samples.{samplesTo, unitsTo}
 use Rattle.train_samples.proofs.Numbers.{length-samples}
-use Rattle.train_text.specs.Trained.{courseOf, trainedPalette, trainedFile, jobText, Drawable}
+use Rattle.train_text.specs.Trained.{unitCourse, trainedPalette, trainedFile, jobText, Drawable}
 use Rattle.train_text.proofs.Rules.{palette-long}
 use Rattle.train_text.proofs.Trains.{text-refused, text-sheet, run-taken, trained-passes}
 use Rattle.sheet_parts.proofs.Files.{still-writable}
@@ -62,8 +62,8 @@ module _ (J : Job) (p : List Float) (W : Writable J p) (samples after : List ℕ
       abbrev K : Course
       K = course J (m / 2) (take m after)
 
-      is : K ≡ courseOf J
-      is = unfold courseOf in ap₂ {C = Course} (λ n x. course J n x) half front
+      is : K ≡ unitCourse J
+      is = unfold unitCourse in ap₂ {C = Course} (λ n x. course J n x) half front
         where
           same : m ≡ length (samplesTo (J .tiles) (J .counts) (J .T))
           same = omega (arith, s .place)
@@ -79,11 +79,11 @@ module _ (J : Job) (p : List Float) (W : Writable J p) (samples after : List ℕ
 
       -- the palette that they train can be written, and its sheet is what is written for the job
       module _ (x : List Float) (t : x ≡ trainedPalette (course J (m / 2) (take m after))) where
-        same : x ≡ trainedPalette (courseOf J)
+        same : x ≡ trainedPalette (unitCourse J)
         same = t ∙ ap trainedPalette is
 
         pub trained-writable : Writable J x
-        trained-writable = subst⁻¹ (Writable J) same (still-writable J p (trainedPalette (courseOf J)) W (trained-passes J p (W .passed) some few))
+        trained-writable = subst⁻¹ (Writable J) same (still-writable J p (trainedPalette (unitCourse J)) W (trained-passes J p (W .passed) some few))
 
         pub trained-text : (out written : List ℕ) (r : ℕ) → Stored out written 0 r (encode (sheet edition1) (sheetOf J x)) → Stored out written 0 r (jobText J)
         trained-text out written r f =

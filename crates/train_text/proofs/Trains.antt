@@ -20,7 +20,7 @@ use Rattle.train_run.proofs.ByCalls.{trained-fits}
 use Rattle.train_samples.specs.Refusal.{refusalOf}
 use Rattle.train_samples.proofs.Accepted as refusals
 use Rattle.train_samples.specs.Samples.{unitsTo}
-use Rattle.train_text.specs.Trained.{courseOf, trainedPalette, trainedFile, jobText}
+use Rattle.train_text.specs.Trained.{unitCourse, trainedPalette, trainedFile, jobText}
 use Rattle.train_text.proofs.Rules.{palette-long, repainted, run-passed}
 
 -- ---- by the number of samples: the sheet, or the line of a refusal
@@ -29,7 +29,7 @@ module _ (J : Job) where
   n = unitsTo (J .tiles) (J .counts) (J .T)
 
   by-refusal : (k : ℕ) → k ≡ refusalOf n → jobText J ≡ cond (eqb k 0) (trainedFile J) (refusedLine k)
-  unfolding jobText courseOf
+  unfolding jobText unitCourse
   by-refusal k e = ap (λ (i : ℕ). cond (eqb i 0) (trainedFile J) (refusedLine i)) (sym e)
 
   pub text-refused : (k : ℕ) → k ≡ refusalOf n → k ≢ 0 → jobText J ≡ refusedLine k
@@ -40,20 +40,20 @@ module _ (J : Job) where
 
 -- ---- the palette
 module _ (J : Job) (p : List Float) (h : plainAnswer J p true ≡ 0) (some : 1 ≤ unitsTo (J .tiles) (J .counts) (J .T)) (few : unitsTo (J .tiles) (J .counts) (J .T) ≤ mostSamples) where
-  pub run-taken : Passed (jobRules (courseOf J) true)
-  unfolding courseOf
+  pub run-taken : Passed (jobRules (unitCourse J) true)
+  unfolding unitCourse
   run-taken = run-passed J p h some few
 
   -- memory that its run is accepted with
   any-memory : Memory
-  any-memory = memory (replicate (courseOf J .n) 0) (replicate (J .T) 0) p p (replicate 6 0)
+  any-memory = memory (replicate (unitCourse J .n) 0) (replicate (J .T) 0) p p (replicate 6 0)
 
-  its-room : Roomy (courseOf J) any-memory
-  unfolding any-memory courseOf
-  its-room = record { order = length-replicate (courseOf J .n) 0; hints = length-replicate (J .T) 0; palette = palette-long J p h; least = palette-long J p h; words = refl }
+  its-room : Roomy (unitCourse J) any-memory
+  unfolding any-memory unitCourse
+  its-room = record { order = length-replicate (unitCourse J .n) 0; hints = length-replicate (J .T) 0; palette = palette-long J p h; least = palette-long J p h; words = refl }
 
-  pub trained-passes : plainAnswer J (trainedPalette (courseOf J)) true ≡ 0
-  unfolding trainedPalette any-memory courseOf
+  pub trained-passes : plainAnswer J (trainedPalette (unitCourse J)) true ≡ 0
+  unfolding trainedPalette any-memory unitCourse
   trained-passes =
-      let f = trained-fits (courseOf J) run-taken any-memory its-room in
-      repainted J p h (trainedPalette (courseOf J)) (f .0) (f .1)
+      let f = trained-fits (unitCourse J) run-taken any-memory its-room in
+      repainted J p h (trainedPalette (unitCourse J)) (f .0) (f .1)

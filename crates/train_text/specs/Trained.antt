@@ -19,8 +19,8 @@ use Rattle.train_samples.specs.Refusal.{refusalOf}
 use Rattle.train_samples.specs.Samples.{samplesTo, unitsTo}
 
 -- the job with one sample for each unit of count
-unfoldable pub courseOf : Job → Course
-courseOf J = course J (unitsTo (J .tiles) (J .counts) (J .T)) (samplesTo (J .tiles) (J .counts) (J .T))
+unfoldable pub unitCourse : Job → Course
+unitCourse J = course J (unitsTo (J .tiles) (J .counts) (J .T)) (samplesTo (J .tiles) (J .counts) (J .T))
 
 -- the palette that training gives, from hints of 0
 unfoldable pub trainedPalette : Course → List Float
@@ -28,11 +28,11 @@ trainedPalette K = trained K (replicate (K .job .T) 0) .palette
 
 -- the sheet with that palette in place of its own
 unfoldable pub trainedFile : Job → List ℕ
-trainedFile J = encode (sheet edition1) (sheetOf J (trainedPalette (courseOf J)))
+trainedFile J = encode (sheet edition1) (sheetOf J (trainedPalette (unitCourse J)))
 
 -- that sheet, or the line of a refusal
 unfoldable pub jobText : Job → List ℕ
-jobText J = cond (eqb (refusalOf (courseOf J .n)) 0) (trainedFile J) (refusedLine (refusalOf (courseOf J .n)))
+jobText J = cond (eqb (refusalOf (unitCourse J .n)) 0) (trainedFile J) (refusedLine (refusalOf (unitCourse J .n)))
 
 -- ---- what is asked
 -- a job with samples that every call of a run accepts, and a palette of its size

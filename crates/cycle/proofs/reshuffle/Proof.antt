@@ -31,9 +31,7 @@ same-length c = search needs
 
 returns-3 : tie.Need-returns-3
 returns-3 c =
-    let at-shuffle = c .before .before in
-    let at-if2 = at-shuffle .before .before in
-    let at-if1 = at-if2 .before in
+    let at-shuffle = c .before .before in let at-if2 = at-shuffle .before .before in let at-if1 = at-if2 .before in
     let at-start = at-if1 .before .before in
     at-shuffle .shuffle .ensures
     ∙ sym (ready-again (deck (at-start .args .order .now) (at-start .args .prng .state)) (at-start .args .made) (omega (arith, at-if1 .if1 .left)) (omega (arith, at-if2 .if2 .left)))

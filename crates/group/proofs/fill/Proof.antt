@@ -50,8 +50,7 @@ loop-less c = search needs
 loop-again : tie.Need-loop-again Inv-loop μ-loop
 loop-again c =
     let start = c .before .before .before .before .before .before .before .before .before .before .before .before .before .before .before .before .before .before .before .before .before in
-    let s = c .before .before .before .before .before .before .before .before in
-    let l = s .before .before .before .before .before .before in
+    let s = c .before .before .before .before .before .before .before .before in let l = s .before .before .before .before .before .before in
     let z = sizes _ _ _ _ _ _ _ (start .pre .1) in
     (search needs, search needs, search needs, search needs, search needs, turn-on _ _ _ _ _ _ _ (l .loop .inv .5) (s .settle .ensures) (omega arith) (omega arith) (omega arith))
 

@@ -38,10 +38,7 @@ pixels-requires-4 c κs = let began = c .before .before .before .before .before 
 
 returns : tie.Need-returns
 returns c =
-    let third = c .before in
-    let second = third .before in
-    let first = second .before in
-    let read = first .before in
+    let third = c .before in let second = third .before in let first = second .before in let read = first .before in
     let a = read .before .before .before .args in
     quartet-is (tileWith (a .tile .now) (a .counts .now)) (a .k) _ (read .four-colours .ensures) _ _ _ _ (first .pixels .ensures) (second .pixels2 .ensures) (third .pixels3 .ensures) (c .pixels4 .ensures)
 

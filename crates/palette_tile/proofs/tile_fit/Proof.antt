@@ -18,8 +18,7 @@ same-length c = search needs
 
 returns : tie.Need-returns
 returns c =
-    let v = c .before .before in
-    let z = v .before .before .before .before .before .before .before .before .before in
+    let v = c .before .before in let z = v .before .before .before .before .before .before .before .before .before in
     (fit-done _ _ _ _ _ _ (z .pre .paired) _ _ (v .before .before .before .tile-part .ensures) (v .before .before .counts-part .ensures) _ (v .best-fit .ensures .0), v .best-fit .ensures .1)
 
 pub tile-fit-spec : {M : Type 1} → statement M

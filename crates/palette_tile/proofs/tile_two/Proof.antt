@@ -18,8 +18,7 @@ same-length c = search needs
 
 returns : tie.Need-returns
 returns c =
-    let v = c .before .before in
-    let z = v .before .before .before .before .before .before .before .before .before in
+    let v = c .before .before in let z = v .before .before .before .before .before .before .before .before .before in
     (two-done _ _ _ _ _ _ (z .pre) _ _ (v .before .before .before .tile-part .ensures) (v .before .before .counts-part .ensures) _ (v .best-two .ensures .0), v .best-two .ensures .1)
 
 pub tile-two-spec : {M : Type 1} → statement M

@@ -41,8 +41,7 @@ part-requires-2 c κs = let z = c .before .before .before .before .before .befor
 
 distance-within-requires : tie.Need-distance-within-requires Inv-loop μ-loop
 distance-within-requires c κs =
-    let z = c .before .before .before .before .before .before .before .before .before in
-    let o = c .before .before .before in
+    let z = c .before .before .before .before .before .before .before .before .before in let o = c .before .before .before in
     turn-walks _ _ _ (z .pre .0) _ (z .pre .1) (omega (arith, z .fits .n)) (o .loop .i) _ (o .loop .inv .1) (omega arith) _ (c .part2 .ensures)
 
 enum-known-d : tie.Need-enum-known-d Inv-loop μ-loop

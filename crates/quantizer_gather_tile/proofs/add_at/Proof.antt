@@ -36,9 +36,7 @@ same-length-2 c = search needs
 
 returns : tie.Need-returns
 returns c =
-    let w = c .before .before .before in
-    let y = w .before in
-    let x = y .before .before in
+    let w = c .before .before .before in let y = w .before in let x = y .before .before in
     added _ _ _ _ _ _ _ _ (x .colour .ensures) (y .plus-times .ensures) (w .put .ensures)
 
 pub add-at-spec : {M : Type 1} → statement M

@@ -29,10 +29,7 @@ nearest-requires c κs = search needs
 
 add-add-at : tie.Need-add-add-at Inv-loop μ-loop
 add-add-at c =
-    let d = c .before .before in
-    let q = d .before in
-    let i = q .before in
-    let v = i .before in
+    let d = c .before .before in let q = d .before in let i = q .before in let v = i .before in
     let z = v .before .before .before .before .before .before in
     omega (arith, turn-place _ _ _ _ _ (z .pre) _ (i .loop-test .taken) _ (v .loop .inv .1) _ (q .colour .ensures) _ (d .nearest .ensures))
 
@@ -44,10 +41,7 @@ shared-slice-read-add-at c = omega arith
 
 add-at-requires : tie.Need-add-at-requires Inv-loop μ-loop
 add-at-requires c κs =
-    let d = c .before .before .before in
-    let q = d .before in
-    let i = q .before in
-    let v = i .before in
+    let d = c .before .before .before in let q = d .before in let i = q .before in let v = i .before in
     let z = v .before .before .before .before .before .before in
     turn-adding _ _ _ _ _ (z .pre) _ (i .loop-test .taken) _ (v .loop .inv .1) _ (q .colour .ensures) _ (d .nearest .ensures)
 
@@ -59,24 +53,18 @@ loop-less c = omega arith
 
 loop-again : tie.Need-loop-again Inv-loop μ-loop
 loop-again c =
-    let a = c .before .before .before .before in
-    let d = a .before .before .before .before in
-    let q = d .before in
-    let i = q .before in
-    let v = i .before in
-    let z = v .before .before .before .before .before .before in
+    let a = c .before .before .before .before in let d = a .before .before .before .before in let q = d .before in let i = q .before in
+    let v = i .before in let z = v .before .before .before .before .before .before in
     (omega arith, turn-more _ _ _ _ _ (z .pre) _ (i .loop-test .taken) _ (v .loop .inv .1) _ (q .colour .ensures) _ (d .nearest .ensures) _ (a .add-at .ensures))
 
 same-length : tie.Need-same-length Inv-loop μ-loop
 same-length c =
-    let v = c .before in
-    let z = v .before .before .before .before .before .before in
+    let v = c .before in let z = v .before .before .before .before .before .before in
     whole-at _ _ _ _ _ (z .pre) _ (v .loop .inv .0) _ _ (v .loop .inv .1) .0
 
 same-length-2 : tie.Need-same-length-2 Inv-loop μ-loop
 same-length-2 c =
-    let v = c .before in
-    let z = v .before .before .before .before .before .before in
+    let v = c .before in let z = v .before .before .before .before .before .before in
     whole-at _ _ _ _ _ (z .pre) _ (v .loop .inv .0) _ _ (v .loop .inv .1) .1
 
 returns : tie.Need-returns Inv-loop μ-loop

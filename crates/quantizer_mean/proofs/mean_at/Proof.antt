@@ -33,11 +33,7 @@ same-length c = search needs
 
 returns-2 : tie.Need-returns-2
 returns-2 c =
-    let w = c .before .before in
-    let y = w .before in
-    let m = y .before in
-    let x = m .before .before in
-    let o = x .before in
+    let w = c .before .before in let y = w .before in let m = y .before in let x = m .before .before in let o = x .before in
     mean-written _ _ _ (o .if1 .left) _ (m .wide .ensures) _ _ (x .colour .ensures) (y .over .ensures) _ (w .put .ensures)
 
 pub mean-at-spec : {M : Type 1} → statement M

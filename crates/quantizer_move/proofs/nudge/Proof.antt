@@ -17,14 +17,12 @@ sample-colour-requires c κs =
 
 tile-fit-requires : tie.Need-tile-fit-requires
 tile-fit-requires c κs =
-    let m = c .before .before .before in
-    let z = m .before .before .before .before .before .before .before in
+    let m = c .before .before .before in let z = m .before .before .before .before .before .before .before in
     fit-asked _ _ _ _ _ _ (z .pre) _ (m .sample-tile .ensures)
 
 part-requires : tie.Need-part-requires
 part-requires c κs =
-    let f = c .before .before .before in
-    let m = f .before .before .before .before in
+    let f = c .before .before .before in let m = f .before .before .before .before in
     let z = m .before .before .before .before .before .before .before in
     part-asked _ _ _ _ _ _ (z .pre) _ (m .sample-tile .ensures) _ (f .tile-fit .ensures .0)
 
@@ -33,28 +31,19 @@ nearest-requires c κs = search needs
 
 mul-nudge : tie.Need-mul-nudge
 mul-nudge c =
-    let v = c .before .before in
-    let u = v .before in
-    let f = u .before .before .before .before in
-    let m = f .before .before .before .before in
+    let v = c .before .before in let u = v .before in let f = u .before .before .before .before in let m = f .before .before .before .before in
     let z = m .before .before .before .before .before .before .before in
     omega (arith, place-small _ _ _ _ _ _ (z .pre) _ (m .sample-tile .ensures) _ (f .tile-fit .ensures .0) _ (u .part .ensures) _ _ (v .nearest .ensures))
 
 add-nudge : tie.Need-add-nudge
 add-nudge c =
-    let v = c .before .before in
-    let u = v .before in
-    let f = u .before .before .before .before in
-    let m = f .before .before .before .before in
+    let v = c .before .before in let u = v .before in let f = u .before .before .before .before in let m = f .before .before .before .before in
     let z = m .before .before .before .before .before .before .before in
     omega (arith, place-small _ _ _ _ _ _ (z .pre) _ (m .sample-tile .ensures) _ (f .tile-fit .ensures .0) _ (u .part .ensures) _ _ (v .nearest .ensures))
 
 nudge-requires : tie.Need-nudge-requires
 nudge-requires c κs =
-    let v = c .before .before in
-    let u = v .before in
-    let f = u .before .before .before .before in
-    let m = f .before .before .before .before in
+    let v = c .before .before in let u = v .before in let f = u .before .before .before .before in let m = f .before .before .before .before in
     let z = m .before .before .before .before .before .before .before in
     place-asked _ _ _ _ _ _ (z .pre) _ (m .sample-tile .ensures) _ (f .tile-fit .ensures .0) _ (u .part .ensures) _ _ (v .nearest .ensures)
 
@@ -66,13 +55,8 @@ same-length-2 c = search needs
 
 returns : tie.Need-returns
 returns c =
-    let w = c .before .before in
-    let v = w .before .before .before in
-    let u = v .before in
-    let f = u .before .before .before .before in
-    let q = f .before .before .before in
-    let m = q .before in
-    let z = m .before .before .before .before .before .before .before in
+    let w = c .before .before in let v = w .before .before .before in let u = v .before in let f = u .before .before .before .before in
+    let q = f .before .before .before in let m = q .before in let z = m .before .before .before .before .before .before .before in
     draw-done _ _ _ _ _ _ (z .pre) _ (m .sample-tile .ensures) _ (f .tile-fit .ensures .0) _ (u .part .ensures) _ _ (v .nearest .ensures) _ _ _ (q .sample-colour .ensures) (f .tile-fit .ensures .1) (w .nudge .ensures)
 
 pub nudge-spec : {M : Type 1} → statement M

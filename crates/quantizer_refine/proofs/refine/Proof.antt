@@ -36,8 +36,7 @@ same-length-2 c = search needs
 
 returns : tie.Need-returns
 returns c =
-    let w = c .before .before in
-    let g = w .before .before .before .before .before .before .before .before .before in
+    let w = c .before .before in let g = w .before .before .before .before .before .before .before .before .before in
     let z = g .before .before .before .before .before .before .before .before .before .before in
     (pass-done _ _ (z .pre .0) _ (g .gather-all .ensures .0) _ (w .write-means .ensures), g .gather-all .ensures .1)
 

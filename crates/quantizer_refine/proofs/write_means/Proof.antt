@@ -18,9 +18,7 @@ loop-holds c = (omega arith, means-none _ _)
 
 mean-at-requires : tie.Need-mean-at-requires Inv-loop μ-loop
 mean-at-requires c κs =
-    let i = c .before in
-    let v = i .before in
-    let z = v .before .before .before .before in
+    let i = c .before in let v = i .before in let z = v .before .before .before .before in
     means-meaning _ _ _ (z .pre) _ (i .loop-test .taken) _ (v .loop .inv .1)
 
 add-p : tie.Need-add-p Inv-loop μ-loop
@@ -31,8 +29,7 @@ loop-less c = omega arith
 
 loop-again : tie.Need-loop-again Inv-loop μ-loop
 loop-again c =
-    let m = c .before .before in
-    let v = m .before .before .before in
+    let m = c .before .before in let v = m .before .before .before in
     (omega arith, means-more _ _ _ _ _ (v .loop .inv .1) (m .mean-at .ensures))
 
 same-length : tie.Need-same-length Inv-loop μ-loop

@@ -20,8 +20,7 @@ loop-holds c = (omega arith, sum-none _)
 
 sample-colour-requires : tie.Need-sample-colour-requires Inv-loop μ-loop
 sample-colour-requires c κs =
-    let v = c .before in
-    let z = v .before .before .before .before in
+    let v = c .before in let z = v .before .before .before .before in
     z .pre .told (v .loop .i) (c .loop-test .taken)
 
 plus-requires : tie.Need-plus-requires Inv-loop μ-loop
@@ -35,8 +34,7 @@ loop-less c = omega arith
 
 loop-again : tie.Need-loop-again Inv-loop μ-loop
 loop-again c =
-    let q = c .before in
-    let v = q .before .before in
+    let q = c .before in let v = q .before .before in
     (omega arith, sum-more _ _ _ _ _ (v .loop .inv .1) (q .sample-colour .ensures) (c .plus .ensures))
 
 over-requires : tie.Need-over-requires Inv-loop μ-loop

@@ -17,9 +17,7 @@ same-length c = search needs
 
 returns : tie.Need-returns
 returns c =
-    let w = c .before .before in
-    let m = w .before .before in
-    let z = m .before .before .before .before .before .before in
+    let w = c .before .before in let m = w .before .before in let z = m .before .before .before .before .before .before in
     seed-done _ _ (z .pre) _ _ (m .mean-oklab .ensures) (w .put .ensures)
 
 pub seed-spec : {M : Type 1} → statement M

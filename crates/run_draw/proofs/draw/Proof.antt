@@ -45,8 +45,7 @@ returns : tie.Need-returns
 returns c =
     let after-draw = c .before .before .before .before .before .before .before in let after-cycle-of = after-draw .before .before .before .before in
     let after-alpha-of = after-cycle-of .before in let after-have-of = after-alpha-of .before in let after-subs-of = after-have-of .before in
-    let start = after-subs-of .before .before .before .before .before .before .before .before in
-    let a = start .args in
+    let start = after-subs-of .before .before .before .before .before .before .before .before in let a = start .args in
     drawn-by (courseOf (a .z) (now (a .tiles)) (now (a .colours)) (now (a .counts)) (now (a .samples))) (now (a .order)) (now (a .hints))
     (now (a .palette)) (a .r) _ _ (after-subs-of .subs-of .ensures) (after-have-of .have-of .ensures) _ _ (after-cycle-of .cycle-of .ensures) _
     (after-alpha-of .alpha-of .ensures) _ _ _ _ _ (after-draw .draw .ensures .0) (after-draw .draw .ensures .1 .0) (after-draw .draw .ensures .1 .1) _

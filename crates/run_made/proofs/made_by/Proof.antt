@@ -19,9 +19,7 @@ base-iterations-requires c κs = search needs
 
 mul-result : tie.Need-mul-result
 mul-result c =
-    let drawn = c .before in
-    let draws = drawn .before in
-    let lined = draws .before in
+    let drawn = c .before in let draws = drawn .before in let lined = draws .before in
     let z = lined .before .pre in
     let yes = not-false _ (drawn .if1 .left) in
     let few = few-rounds _ _ _ (z .0) _ _ _ (z .1) _ (draws .makes-draws .ensures) yes _ (lined .stage-of .ensures) in
@@ -29,10 +27,7 @@ mul-result c =
 
 add-result : tie.Need-add-result
 add-result c =
-    let tenth = c .before in
-    let drawn = tenth .before in
-    let draws = drawn .before in
-    let lined = draws .before in
+    let tenth = c .before in let drawn = tenth .before in let draws = drawn .before in let lined = draws .before in
     let z = lined .before .pre in
     let yes = not-false _ (drawn .if1 .left) in
     let few = few-rounds _ _ _ (z .0) _ _ _ (z .1) _ (draws .makes-draws .ensures) yes _ (lined .stage-of .ensures) in
@@ -41,19 +36,14 @@ add-result c =
 
 sub-result : tie.Need-sub-result
 sub-result c =
-    let drawn = c .before .before .before in
-    let draws = drawn .before in
-    let lined = draws .before in
+    let drawn = c .before .before .before in let draws = drawn .before in let lined = draws .before in
     let z = lined .before .pre in
     let yes = not-false _ (drawn .if1 .left) in
     left-in _ _ _ (z .0) _ _ _ (z .1) _ (draws .makes-draws .ensures) yes _ (lined .stage-of .ensures)
 
 add-result-2 : tie.Need-add-result-2
 add-result-2 c =
-    let tenth = c .before .before in
-    let drawn = tenth .before in
-    let draws = drawn .before in
-    let lined = draws .before in
+    let tenth = c .before .before in let drawn = tenth .before in let draws = drawn .before in let lined = draws .before in
     let z = lined .before .pre in
     let yes = not-false _ (drawn .if1 .left) in
     let few = few-rounds _ _ _ (z .0) _ _ _ (z .1) _ (draws .makes-draws .ensures) yes _ (lined .stage-of .ensures) in
@@ -63,9 +53,7 @@ add-result-2 c =
 
 returns-2 : tie.Need-returns-2
 returns-2 c =
-    let tenth = c .before .before in
-    let drawn = tenth .before in
-    let draws = drawn .before in
+    let tenth = c .before .before in let drawn = tenth .before in let draws = drawn .before in
     made-drawing _ _ _ _ _ (draws .makes-draws .ensures) (not-false _ (drawn .if1 .left)) _ (draws .before .stage-of .ensures) _ (tenth .base-iterations .ensures)
 
 pub made-by-spec : {M : Type 1} → statement M

@@ -15,26 +15,17 @@ stage-of-requires c κs = search needs
 
 returns-2 : tie.Need-returns-2
 returns-2 c =
-    let line = c .before .before in
-    let draws = line .before in
-    let called = draws .before in
+    let line = c .before .before in let draws = line .before in let called = draws .before in
     rounds-over _ _ _ _ (called .before .if1 .left) _ (called .makes-draws .ensures) (draws .if2 .taken) _ (line .stage-of .ensures) (c .if3 .taken)
 
 returns-3 : tie.Need-returns-3
 returns-3 c =
-    let few = c .before in
-    let line = few .before .before in
-    let draws = line .before in
-    let called = draws .before in
+    let few = c .before in let line = few .before .before in let draws = line .before in let called = draws .before in
     none-left _ _ _ _ (called .before .if1 .left) _ (called .makes-draws .ensures) (draws .if2 .taken) _ (line .stage-of .ensures) (few .if3 .left) (c .if4 .taken)
 
 returns-4 : tie.Need-returns-4
 returns-4 c =
-    let some = c .before in
-    let few = some .before in
-    let line = few .before .before in
-    let draws = line .before in
-    let called = draws .before in
+    let some = c .before in let few = some .before in let line = few .before .before in let draws = line .before in let called = draws .before in
     some-left _ _ _ _ (called .before .if1 .left) _ (called .makes-draws .ensures) (draws .if2 .taken) _ (line .stage-of .ensures) (few .if3 .left) (some .if4 .left)
 
 returns-5 : tie.Need-returns-5

@@ -58,10 +58,7 @@ returns-5 c = let fourth = c .before in line4 _ _ _ _ _ (fourth .before .before 
 
 returns-6 : tie.Need-returns-6
 returns-6 c =
-    let fourth = c .before in
-    let third = fourth .before in
-    let second = third .before in
-    let first = second .before in
+    let fourth = c .before in let third = fourth .before in let second = third .before in let first = second .before in
     line-past _ _ _ _ _ (first .before .base-iterations .ensures) (first .if1 .left) (second .if2 .left) (third .if3 .left) (fourth .if4 .left) (c .if5 .left)
 
 pub stage-of-spec : {M : Type 1} → statement M

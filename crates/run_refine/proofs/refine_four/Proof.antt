@@ -27,8 +27,7 @@ loop-less c = let refined = c .before .before .before .before in omega (arith, r
 
 loop-again : tie.Need-loop-again Inv-loop μ-loop
 loop-again c =
-    let refined = c .before .before .before .before in
-    let inside = refined .before .before .before in
+    let refined = c .before .before .before .before in let inside = refined .before .before .before in
     again _ _ _ _ _ _ (inside .before .loop .inv) (omega (arith, inside .loop-test .taken)) _ _ (refined .refine .ensures .0) (refined .refine .ensures .1)
 
 same-length : tie.Need-same-length Inv-loop μ-loop

@@ -46,8 +46,7 @@ loop-less c = omega arith
 
 loop-again : tie.Need-loop-again Inv-loop μ-loop
 loop-again c =
-    let entered = c .before .before .before .before .before .before in
-    let first = entered .before .before in
+    let entered = c .before .before .before .before .before .before in let first = entered .before .before in
     let fit = c .before .before .shared-slice-known3 .given in
     let step = turn _ _ fit _ (first .pre) _ _ (omega arith) (omega arith) _ _ (c .before .before .before .total-key .ensures) (c .before .total-key2 .ensures) (entered .loop .inv .2) in
     ⊎-elim

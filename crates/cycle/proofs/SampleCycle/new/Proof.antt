@@ -18,8 +18,7 @@ same-length c = search needs
 returns : tie.Need-returns
 unfolding after
 returns c =
-    let at-shuffle = c .before .before in
-    let at-fill = at-shuffle .before .before .before .before in
+    let at-shuffle = c .before .before in let at-fill = at-shuffle .before .before .before .before in
     let seed = at-fill .before .before .before .args .seed in
     ap (λ (d : Deck). cycle d 0) (at-shuffle .shuffle .ensures ∙ ap (shuffleOf seed) (at-fill .fill .ensures))
 

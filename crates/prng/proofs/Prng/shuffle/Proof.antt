@@ -45,9 +45,7 @@ loop-less c = omega arith
 loop-again : tie.Need-loop-again Inv-loop μ-loop
 unfolding turn
 loop-again c =
-    let at-swap = c .before .before .before in
-    let at-next = at-swap .before .before .before in
-    let at-loop = at-next .before .before in
+    let at-swap = c .before .before .before in let at-next = at-swap .before .before .before in let at-loop = at-next .before .before in
     let v = at-loop .loop in
     let i : ℕ = v .i - 1 in
     let s : ℕ = v .prng .state in (
