@@ -6,7 +6,7 @@ ghost use mathlib.Core.Bool.{_&&_};
 ghost use lib.Dec.{ltb};
 ghost use lib.ListN.{length};
 ghost use Rattle.run_stages.specs.State.{placed, noted, draws, stops};
-ghost use Rattle.run_stages.specs.Record.{stageOf};
+ghost use Rattle.run_stages.specs.Record.{stageWith, stageOf};
 ghost use Rattle.run_stages.specs.Calls.{recordOf};
 ghost use Rattle.run_record.specs.Sized.{sized, Sized};
 
@@ -90,44 +90,31 @@ pub fn stage_of(s: usize, c: usize, n: usize, stage: u64) -> Stage
     let replaced = (both + 8) * b;
     let ended = (both + 18) * b;
     if stage == 0 {
-        return Stage {
-            rounds: seeding,
-            each: b,
-            before: 0,
-        };
+        return line(seeding, b, 0);
     }
     if stage == 1 {
-        return Stage {
-            rounds: growing,
-            each: b,
-            before: seeded,
-        };
+        return line(growing, b, seeded);
     }
     if stage == 2 {
-        return Stage {
-            rounds: 10,
-            each: b,
-            before: grown,
-        };
+        return line(10, b, grown);
     }
     if stage == 3 {
-        return Stage {
-            rounds: 0,
-            each: 0,
-            before: replaced,
-        };
+        return line(0, 0, replaced);
     }
     if stage == 4 {
-        return Stage {
-            rounds: 1,
-            each: 10 * b,
-            before: replaced,
-        };
+        return line(1, 10 * b, replaced);
     }
+    line(0, 0, ended)
+}
+
+// A line of that table.
+fn line(rounds: u64, each: u64, before: u64) -> Stage
+    ensures { λ r. ⌜ r ≡ stageWith rounds each before ⌝ }
+{
     Stage {
-        rounds: 0,
-        each: 0,
-        before: ended,
+        rounds,
+        each,
+        before,
     }
 }
 
