@@ -1,5 +1,5 @@
 // The mean squared error of a palette over a job's tiles, each matched to the subpalette that fits it best.
-// It is what the definition in specs/Mse.antt of mse says; the hints then name each tile's winner.
+// It is what the definition in specs/Mse.antt of palette_mse says; the hints then name each tile's winner.
 use job::Sizes;
 ghost use mathlib.Core.Path.{_≡_};
 ghost use Prim.Native.Nat.{_+_, _*_, _<_};

@@ -1,1 +1,1 @@
-// What holds of the run between its calls: laws over the definitions of `stages`, in proofs/. No function.
+// What holds of the run between its calls: laws over the definitions of `run_stages`, in proofs/. No function.
