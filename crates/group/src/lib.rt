@@ -26,7 +26,7 @@ fn position(n: usize, entry_bytes: &[u8], x: group_pixels::Rgba) -> usize
 }
 
 // Pixel k joins the entry with its bytes, or begins one. The number of entries after it.
-pub fn settle(
+fn settle(
     k: usize,
     n: usize,
     pixels: &[u8],
@@ -58,7 +58,7 @@ pub fn settle(
 }
 
 // On pixels that passed the first pass. The number of entries.
-pub fn fill(
+fn fill(
     p: usize,
     pixels: &[u8],
     oklab: &[f32],

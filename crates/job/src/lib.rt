@@ -20,6 +20,7 @@ pub struct Sizes {
 // The pixels of a tile, at most.
 pub const TILE_SIZE: usize = 64;
 
+// The numbers of a call on tiles of 64 pixels: what exports and programs begin with.
 pub fn sizes_of(s: usize, c: usize, t: usize, n: usize, weight: f32) -> Sizes
     ensures { λ r. ⌜ r ≡ sizesOf s c t n weight ⌝ }
 {
