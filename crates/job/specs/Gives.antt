@@ -10,10 +10,10 @@ use lib.Ieee.Positive.{positive}
 use Rattle.lists.specs.Every.{sum}
 use Rattle.ieee.specs.Terms.{Within}
 use Rattle.color.specs.Color.{Bounded}
-use Rattle.job.specs.Job.{Job, firstOf, sizeOf, countsOf, mostSubpalettes, mostColours, mostTiles, mostTileColours, mostSamples}
+use Rattle.job.specs.Job.{Job, firstOf, sizeOf, countsOf, mostTileSize, mostSubpalettes, mostColours, mostTiles, mostTileColours, mostSamples}
 
 pub record InRange (size s c t : ℕ) : Type 0 where
-  pub small : size ≤ 256
+  pub small : size ≤ mostTileSize
   pub subs : 1 ≤ s
   pub few : s ≤ mostSubpalettes
   pub some : 1 ≤ c

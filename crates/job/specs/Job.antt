@@ -64,6 +64,10 @@ pub record Inside (per : ℕ) (tiles : List ℕ) (t length·part : ℕ) : Type 0
   pub inside : per * (firstOf tiles t + sizeOf tiles t) ≤ length·part
 
 -- ---- limits
+-- of a tile's pixels, whatever tile sizes pass
+abbrev pub mostTileSize : ℕ
+mostTileSize = 256
+
 abbrev pub mostSubpalettes : ℕ
 mostSubpalettes = 16
 

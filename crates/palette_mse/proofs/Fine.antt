@@ -23,7 +23,7 @@ use Rattle.ieee.specs.Narrow.{narrowOf}
 use Rattle.ieee.proofs.Narrows.{narrow-within, narrow-good}
 use Rattle.color.specs.Color.{colourAt, Sized}
 use Rattle.color.proofs.Sizes.{bounded-finite, nth-sized, sized-real}
-use Rattle.job.specs.Job.{Job, sizeOf, isEmpty}
+use Rattle.job.specs.Job.{Job, sizeOf, isEmpty, mostTileSize}
 use Rattle.job.proofs.Tiles.{counts-length, tile-three, tile-bounded}
 use Rattle.palette.specs.Palette.{Tile, subOf, nearestOf}
 use Rattle.palette.proofs.Sums.{nearest-good}
@@ -40,7 +40,7 @@ pub record Fine (a : Tally) (b : ℕ) : Type 0 where
   pub few : a .count ≤ b
 
 -- ---- a colour
-step-fine : (a : Tally) (b : ℕ) (d : Float) (n : ℕ) → Fine a b → Good binary32 d → Within d 1188 1 → 1 ≤ n → n ≤ 256 → b ≤ 1099511627776 → Fine (stepTally a (mul binary64 d (ofInt binary64 (pos n))) n) (b + 256)
+step-fine : (a : Tally) (b : ℕ) (d : Float) (n : ℕ) → Fine a b → Good binary32 d → Within d 1188 1 → 1 ≤ n → n ≤ mostTileSize → b ≤ 1099511627776 → Fine (stepTally a (mul binary64 d (ofInt binary64 (pos n))) n) (b + mostTileSize)
 step-fine a b d n F g v lo hi B =
     record {
       good = add-good binary64 _ _ (F .good) (times-good binary64 d _ (record { fit = fits-widens d (g .fit); pos = g .pos }) (count-positive binary64 n lo (omega arith)));
@@ -58,18 +58,18 @@ module _ (s : List Float) (X : Tile) (w : Float) (R : Summed s X w) where
   pub near-good : (k : ℕ) → k < length (X .counts) → Good binary32 (nearestOf s (colourAt (X .colours) k) w .dist)
   near-good k l = nearest-good s w (bounded-finite s 4 (R .sub)) (R .weight) (colourAt (X .colours) k) (sized-real (colourAt (X .colours) k) 2 (target-sized k l))
 
-  tile-fine : (a : Tally) (b k : ℕ) → k ≤ length (X .counts) → b + 256 * k ≤ 1099511627776 → Fine a b → Fine (tileTally s X w a k) (b + 256 * k)
+  tile-fine : (a : Tally) (b k : ℕ) → k ≤ length (X .counts) → b + mostTileSize * k ≤ 1099511627776 → Fine a b → Fine (tileTally s X w a k) (b + mostTileSize * k)
   unfolding tileTally
   tile-fine a b zero h B F = subst (Fine a) (none b) F
     where
-      none : (b : ℕ) → b ≡ b + 256 * 0
+      none : (b : ℕ) → b ≡ b + mostTileSize * 0
       none b = omega arith
   tile-fine a b (suc k) h B F =
       subst (Fine (stepTally (tileTally s X w a k) (errorOf s X w k) (getD (X .counts) k 0))) (more b k)
-      (step-fine (tileTally s X w a k) (b + 256 * k) (nearestOf s (colourAt (X .colours) k) w .dist) (getD (X .counts) k 0) (tile-fine a b k (omega arith) (omega arith) F)
+      (step-fine (tileTally s X w a k) (b + mostTileSize * k) (nearestOf s (colourAt (X .colours) k) w .dist) (getD (X .counts) k 0) (tile-fine a b k (omega arith) (omega arith) F)
       (near-good k h) (nearest-within s (colourAt (X .colours) k) w (R .some) (R .sub) (target-sized k h) (R .weight) (R .heavy)) (R .low k h) (R .high k h) (omega arith))
     where
-      more : (b k : ℕ) → b + 256 * k + 256 ≡ b + 256 * suc k
+      more : (b k : ℕ) → b + mostTileSize * k + mostTileSize ≡ b + mostTileSize * suc k
       more b k = omega arith
 
 -- ---- a job
@@ -87,29 +87,29 @@ module _ (J : Job) (pal : List Float) (n have : ℕ) (S : Shown J pal n have) wh
         high = λ k v. omega (arith, S .ready .high t k l v, S .ready .sizes .small);
       }
 
-  start : Fine nothing (65536 * 0)
+  start : Fine nothing (mostTileSize * mostTileSize * 0)
   unfolding ofBits
   start = record { good = record { fit = ofBits-fits binary64 0; pos = tt }; size = lit≤ tt; few = lit≤ tt }
 
   looser : (a : Tally) (b d : ℕ) → b ≤ d → Fine a b → Fine a d
   looser a b d h F = record { good = F .good; size = F .size; few = omega (arith, F .few) }
 
-  turn-fine : (t : ℕ) → t < J .T → (a : Tally) → Fine a (65536 * t) → Fine (tallyStep J pal n have t a) (65536 * suc t)
+  turn-fine : (t : ℕ) → t < J .T → (a : Tally) → Fine a (mostTileSize * mostTileSize * t) → Fine (tallyStep J pal n have t a) (mostTileSize * mostTileSize * suc t)
   unfolding tallyStep
   turn-fine t l a F = by (isEmpty J t)
     where
       k : ℕ
       k = sizeOf (J .tiles) t
 
-      by : (e : Bool) → Fine (cond e a (tileTally (subOf pal (J .C) have (winner J pal n have t)) (tileAt J t) (J .weight) a (sizeOf (J .tiles) t))) (65536 * suc t)
-      by true = looser a (65536 * t) (65536 * suc t) (omega arith) F
+      by : (e : Bool) → Fine (cond e a (tileTally (subOf pal (J .C) have (winner J pal n have t)) (tileAt J t) (J .weight) a (sizeOf (J .tiles) t))) (mostTileSize * mostTileSize * suc t)
+      by true = looser a (mostTileSize * mostTileSize * t) (mostTileSize * mostTileSize * suc t) (omega arith) F
       by false =
-          looser _ (65536 * t + 256 * sizeOf (J .tiles) t) (65536 * suc t) (omega (arith, S .ready .short t l, S .ready .sizes .small))
-          (tile-fine (subOf pal (J .C) have (winner J pal n have t)) (tileAt J t) (J .weight) (summed t l (winner J pal n have t) (winner-below J pal n have S t)) a (65536 * t) (sizeOf (J .tiles) t)
+          looser _ (mostTileSize * mostTileSize * t + mostTileSize * sizeOf (J .tiles) t) (mostTileSize * mostTileSize * suc t) (omega (arith, S .ready .short t l, S .ready .sizes .small))
+          (tile-fine (subOf pal (J .C) have (winner J pal n have t)) (tileAt J t) (J .weight) (summed t l (winner J pal n have t) (winner-below J pal n have S t)) a (mostTileSize * mostTileSize * t) (sizeOf (J .tiles) t)
           (omega (arith, counts-length J (S .ready) t l)) (omega (arith, S .ready .short t l, S .ready .sizes .small, S .ready .sizes .tiles)) F)
 
-  pub tally-fine : (t : ℕ) → t ≤ J .T → Fine (tallyOf J pal n have t) (65536 * t)
-  tally-fine = walk-keeps (λ t a. Fine a (65536 * t)) (J .T) (tallyStep J pal n have) nothing start turn-fine
+  pub tally-fine : (t : ℕ) → t ≤ J .T → Fine (tallyOf J pal n have t) (mostTileSize * mostTileSize * t)
+  tally-fine = walk-keeps (λ t a. Fine a (mostTileSize * mostTileSize * t)) (J .T) (tallyStep J pal n have) nothing start turn-fine
 
 -- ---- the mean
 div-plus : (f : Format) (x y : Float) (k : ℕ) → T (plus x) → Within x k 1 → T (positive y) → T (plus (div f x y))
@@ -161,4 +161,4 @@ mean-error a b B F = elim (eq-zero-or-pos (a .count)) [
 
 pub mse-error : (J : Job) (pal : List Float) (n have : ℕ) → Shown J pal n have → Error (mseOf J pal n have)
 unfolding mseOf
-mse-error J pal n have S = mean-error (tallyOf J pal n have (J .T)) (65536 * J .T) (omega (arith, S .ready .sizes .tiles)) (tally-fine J pal n have S (J .T) (le-refl (J .T)))
+mse-error J pal n have S = mean-error (tallyOf J pal n have (J .T)) (mostTileSize * mostTileSize * J .T) (omega (arith, S .ready .sizes .tiles)) (tally-fine J pal n have S (J .T) (le-refl (J .T)))

@@ -7,7 +7,7 @@ use native.Mathlib.Omega.{arith}
 use lib.ListN.{length, set}
 use lib.Ieee.{Float}
 use Rattle.ieee.proofs.Plus.{plus-real}
-use Rattle.job.specs.Job.{Job, sizeOf, tileOf, countsOf, isEmpty}
+use Rattle.job.specs.Job.{Job, sizeOf, tileOf, countsOf, isEmpty, mostTileSize}
 use Rattle.job.proofs.Tiles.{counts-length}
 use Rattle.stats.specs.declared.Near.{Near}
 use Rattle.palette.specs.Palette.{tileWith, subOf}
@@ -38,7 +38,7 @@ module _ (J : Job) (pal : List Float) (n have : ℕ) (hints : List ℕ) (t : ℕ
     size : length part ≡ sizeOf (J .tiles) t
     size = ap length C ∙ counts-length J (K .paired .shown .ready) t (K .paired .tile)
 
-    pub turn-summed : Summed sub (tileWith tile part) (J .weight) × (a .count + 256 * length part < 18446744073709551616)
+    pub turn-summed : Summed sub (tileWith tile part) (J .weight) × (a .count + mostTileSize * length part < 18446744073709551616)
     turn-summed =
         let R = K .paired .shown .ready in (
           goes-asks J pal have t (b .index) best (fit-index J pal n have t b B) sub tile part S E C (λ i s X. Summed s X (J .weight))
@@ -56,8 +56,8 @@ module _ (J : Job) (pal : List Float) (n have : ℕ) (hints : List ℕ) (t : ℕ
 
 -- ---- the sum while the tiles are walked over
 module _ (J : Job) (pal : List Float) (n have : ℕ) (S : Shown J pal n have) {a : Tally} {t : ℕ} (W : Walked (J .T) (tallyStep J pal n have) nothing a t) where
-  fine : Fine a (65536 * t)
-  fine = walked-has W (λ t a. Fine a (65536 * t)) (tally-fine J pal n have S)
+  fine : Fine a (mostTileSize * mostTileSize * t)
+  fine = walked-has W (λ t a. Fine a (mostTileSize * mostTileSize * t)) (tally-fine J pal n have S)
 
   pub sum-turn : {first hints : List ℕ} → length first ≡ J .T → Walked (J .T) (hintStep J pal n have) first hints t → t < J .T → Turn J pal n have hints t a
   sum-turn L H l = record { paired = walked-paired J pal n have H S L l; few = fine .few }
@@ -66,7 +66,7 @@ module _ (J : Job) (pal : List Float) (n have : ℕ) (S : Shown J pal n have) {a
   sum-meaned =
       record {
         exact = omega (arith, fine .few, W .within, S .ready .sizes .tiles);
-        real = λ z. plus-real _ (mean-plus a (65536 * t) (omega (arith, W .within, S .ready .sizes .tiles)) fine z);
+        real = λ z. plus-real _ (mean-plus a (mostTileSize * mostTileSize * t) (omega (arith, W .within, S .ready .sizes .tiles)) fine z);
       }
 
   pub sum-end : J .T ≤ t → (r : Float) → r ≡ meanError a → r ≡ mseOf J pal n have

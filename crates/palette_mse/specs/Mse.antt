@@ -12,7 +12,7 @@ use lib.Ieee.Positive.{positive}
 use Rattle.ieee.specs.Terms.{Within}
 use Rattle.ieee.specs.Narrow.{narrowOf}
 use Rattle.color.specs.Color.{colourAt, Bounded}
-use Rattle.job.specs.Job.{Job, sizeOf, isEmpty}
+use Rattle.job.specs.Job.{Job, sizeOf, isEmpty, mostTileSize}
 use Rattle.palette.specs.Palette.{Tile, subOf, nearestOf}
 use Rattle.palette_tile.specs.Walk.{walk}
 use Rattle.palette_tile.specs.Tiles.{tileAt, winner, Paired}
@@ -60,12 +60,12 @@ pub record Summed (s : List Float) (X : Tile) (w : Float) : Type 0 where
   pub three : length (X .colours) ≡ 3 * length (X .counts)
   pub bounded : Bounded (X .colours) 2
   pub low : (k : ℕ) → k < length (X .counts) → 1 ≤ getD (X .counts) k 0
-  pub high : (k : ℕ) → k < length (X .counts) → getD (X .counts) k 0 ≤ 256
+  pub high : (k : ℕ) → k < length (X .counts) → getD (X .counts) k 0 ≤ mostTileSize
 
--- of a turn over tile t: 256 colours of 256 pixels for each tile before it at most
+-- of a turn over tile t: each tile before it has as many colours, of as many pixels, as the largest tile has pixels, at most
 pub record Turn (J : Job) (pal : List Float) (n have : ℕ) (hints : List ℕ) (t : ℕ) (a : Tally) : Type 0 where
   pub paired : Paired J pal n have hints t
-  pub few : a .count ≤ 65536 * t
+  pub few : a .count ≤ mostTileSize * mostTileSize * t
 
 -- of the mean: a count that an f64 holds, and a quotient to narrow
 pub record Meaned (a : Tally) : Type 0 where

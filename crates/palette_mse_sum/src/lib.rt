@@ -4,7 +4,7 @@ use job::Sizes;
 ghost use mathlib.Core.Path.{_≡_};
 ghost use Prim.Native.Nat.{_+_, _*_, _<_};
 ghost use lib.ListN.{length};
-ghost use Rattle.job.specs.Job.{jobOf};
+ghost use Rattle.job.specs.Job.{jobOf, mostTileSize};
 ghost use Rattle.palette.specs.Palette.{tileWith};
 ghost use Rattle.palette_tile.specs.Tiles.{hintStep, hintsOf, Shown};
 ghost use Rattle.palette_mse.specs.Mse.{tileTally, tallyStep, meanError, mseOf, Summed, Turn, Meaned};
@@ -12,7 +12,7 @@ use palette_mse::Tally;
 
 // A tile's distances times counts, added to a sum in f64.
 fn tile_tally(s: &[f32], tile: &[f32], counts: &[u32], w: f32, from: Tally) -> Tally
-    requires { ⌜ Summed (now s) (tileWith (now tile) (now counts)) w × (from .count + 256 * length (now counts) < 18446744073709551616) ⌝ }
+    requires { ⌜ Summed (now s) (tileWith (now tile) (now counts)) w × (from .count + mostTileSize * length (now counts) < 18446744073709551616) ⌝ }
     ensures { λ r. ⌜ r ≡ tileTally (now (s .entry)) (tileWith (now (tile .entry)) (now (counts .entry))) w from (length (now (counts .entry))) ⌝ }
 {
     let n = counts.len();

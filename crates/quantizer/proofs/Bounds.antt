@@ -19,6 +19,7 @@ use Rattle.palette_edit.specs.Edits.{colourCopied, subCopied}
 use Rattle.palette_edit.proofs.Kept.{place-room, length-sub-copied}
 use Rattle.palette_edit.proofs.Gentle.{Gentle, nudged-bounded, colour-copied-bounded, sub-copied-bounded}
 use Rattle.palette_tile.specs.Tiles.{Shown}
+use Rattle.quantizer.specs.Sums.{places}
 use Rattle.quantizer.specs.declared.Swap.{Swap}
 use Rattle.quantizer.specs.Course.{Course, sampleTile, samplePlace, sampleColour}
 use Rattle.quantizer.specs.Seeding.{seedMean, seeded, duplicated}
@@ -27,7 +28,7 @@ use Rattle.quantizer.specs.Replacing.{Shares, sharesOf, spreadOf, ownerO
 use Rattle.quantizer.specs.Drawing.{targetOf, moved}
 use Rattle.quantizer.specs.Lengths.{Wide}
 use Rattle.quantizer.proofs.Lengths.{shares-wide, spread-wide, length-grown-by, length-colour-copied}
-use Rattle.quantizer.proofs.Indexes.{split-below, from-below, to-below, shown-subs, row-256, target-in}
+use Rattle.quantizer.proofs.Indexes.{split-below, from-below, to-below, shown-subs, row-placed, target-in}
 
 -- ---- seeding
 module _ (K : Course) (room : Bool) (D : Sampled (K .job) (K .n) (K .samples) room) where
@@ -88,7 +89,7 @@ module _ (J : Job) (pal : List Float) (S : Shown J pal (J .S) (J .C)) (k : ℕ) 
   stays : Kept pal k pal
   stays = record { size = refl; bound = B }
 
-  module _ (A : Shares) (W : Wide A 256) where
+  module _ (A : Shares) (W : Wide A places) where
     recoloured-kept : (i : ℕ) → i ≤ J .S → Kept pal k (recoloured J pal A i)
     unfolding recoloured colourSwapped
     recoloured-kept zero h = stays
@@ -96,7 +97,7 @@ module _ (J : Job) (pal : List Float) (S : Shown J pal (J .S) (J .C)) (k : ℕ) 
         let q = recoloured J pal A i in
         let s = swapIn A (i * J .C) (J .C) in
         let before = recoloured-kept i (omega arith) in
-        let row = row-256 J pal (J .S) (J .C) S i h in
+        let row = row-placed J pal (J .S) (J .C) S i h in
         either-kept pal k (s .gives) (colourCopied q (J .C) i (s .from) (s .to)) q
         (record {
           size = length-colour-copied q (J .C) i (s .from) (s .to) ∙ before .size;

@@ -20,7 +20,7 @@ use Rattle.palette_edit.proofs.Kept.{place-room}
 use Rattle.palette_tile.specs.Tiles.{fitAt, winner, Shown}
 use Rattle.palette_tile.proofs.Present.{shown-present, winner-below, pair-below, part-colours, part-nearest}
 use Rattle.palette_tile.proofs.Turns.{fit-below}
-use Rattle.quantizer.specs.Sums.{sumsAt, greatest}
+use Rattle.quantizer.specs.Sums.{sumsAt, greatest, places}
 use Rattle.quantizer.proofs.Choices.{greatest-below, smallest-below}
 use Rattle.quantizer.specs.Seeding.{worstOf}
 use Rattle.quantizer.specs.Growing.{needsOf, splitOf}
@@ -41,19 +41,19 @@ module _ (J : Job) (pal : List Float) (n have : ℕ) (S : Shown J pal n have) wh
   pub shown-subs : n ≤ 16
   shown-subs = omega (arith, S .most, S .ready .sizes .few)
 
-  pub shown-few : n * J .C ≤ 256
+  pub shown-few : n * J .C ≤ places
   shown-few = le-trans (mul-le-mul-right (J .C) (S .most)) (S .ready .sizes .cells)
 
-  -- the places of subpalette i are among 256
-  pub row-256 : (i : ℕ) → i < n → i * J .C + J .C ≤ 256
-  row-256 i l = row-room i n (J .C) 256 l shown-few
+  -- the places of subpalette i are among `places`
+  pub row-placed : (i : ℕ) → i < n → i * J .C + J .C ≤ places
+  row-placed i l = row-room i n (J .C) places l shown-few
 
   -- b is a tile's fit
-  pub fit-row : (t : ℕ) (b : Near) → b ≡ fitAt J pal n have t → b .index * J .C + J .C ≤ 256
-  fit-row t b e = row-256 (b .index) (fit-below J pal n have t b e S)
+  pub fit-row : (t : ℕ) (b : Near) → b ≡ fitAt J pal n have t → b .index * J .C + J .C ≤ places
+  fit-row t b e = row-placed (b .index) (fit-below J pal n have t b e S)
 
-  pub place-256 : (i j : ℕ) → i < n → j < have → i * J .C + j < 256
-  place-256 i j l m = omega (arith, row-256 i l, S .present)
+  pub place-placed : (i j : ℕ) → i < n → j < have → i * J .C + j < places
+  place-placed i j l m = omega (arith, row-placed i l, S .present)
 
   pub place-in : (i j : ℕ) → i < n → j < have → 3 * (i * J .C + j) + 2 < length pal
   place-in i j l m = place-room n (J .C) i j (length pal) l (omega (arith, S .present)) (shown-present J pal n have S .room)
@@ -78,7 +78,7 @@ split-below J pal have S i l = either (eqb have 1)
   where
     either : (b : Bool) → cond b 0 (greatest (sumsAt (needsOf J pal have (J .T)) (i * J .C) have)) < have
     either true = S .some
-    either false = greatest-below (needsOf J pal have (J .T)) (i * J .C) have (omega (arith, length-needs J pal have (J .T), row-256 J pal (J .S) have S i l, S .present)) (S .some)
+    either false = greatest-below (needsOf J pal have (J .T)) (i * J .C) have (omega (arith, length-needs J pal have (J .T), row-placed J pal (J .S) have S i l, S .present)) (S .some)
 
 pub owner-below : (J : Job) (pal : List Float) → Shown J pal (J .S) (J .C) → (t : ℕ) → ownerOf J pal t < J .S
 unfolding ownerOf

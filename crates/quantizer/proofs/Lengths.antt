@@ -14,6 +14,7 @@ use Rattle.palette.specs.Palette.{Tile, subOf}
 use Rattle.palette_edit.specs.Edits.{placeOf, colourCopied}
 use Rattle.palette_tile.specs.Tiles.{tileAt, winner}
 use Rattle.palette_tile.proofs.Hints.{length-hints}
+use Rattle.quantizer.specs.Sums.{places}
 use Rattle.quantizer.specs.Course.{Course}
 use Rattle.quantizer.proofs.Lists.{length-bump, length-zeros}
 use Rattle.quantizer.specs.Seeding.{seedMean, seeded, distanceStep, distancesOf}
@@ -38,9 +39,9 @@ unfolding tileNeeds
 length-tile-needs s X w base d zero = refl
 length-tile-needs s X w base d (suc k) = length-bump (tileNeeds s X w base d k) _ _ ∙ length-tile-needs s X w base d k
 
-pub length-needs : (J : Job) (pal : List Float) (have t : ℕ) → length (needsOf J pal have t) ≡ 256
+pub length-needs : (J : Job) (pal : List Float) (have t : ℕ) → length (needsOf J pal have t) ≡ places
 unfolding walk needStep
-length-needs J pal have zero = length-zeros 256
+length-needs J pal have zero = length-zeros places
 length-needs J pal have (suc t) =
     let i = winner J pal (J .S) have t in
     length-tile-needs (subOf pal (J .C) have i) (tileAt J t) (J .weight) (i * J .C) (needsOf J pal have t) (length (tileAt J t .counts)) ∙ length-needs J pal have t
@@ -59,10 +60,10 @@ tile-wide s X w base A n W (suc k) =
     let B = tile-wide s X w base A n W k in
     record { had = length-bump (tileShares s X w base A k .had) _ _ ∙ B .had; lost = length-bump (tileShares s X w base A k .lost) _ _ ∙ B .lost }
 
-pub spread-wide : (J : Job) (pal : List Float) (owner : ℕ → ℕ) (t : ℕ) → Wide (spreadOf J pal owner t) 256
+pub spread-wide : (J : Job) (pal : List Float) (owner : ℕ → ℕ) (t : ℕ) → Wide (spreadOf J pal owner t) places
 unfolding walk spreadStep
-spread-wide J pal owner zero = record { had = length-zeros 256; lost = length-zeros 256 }
-spread-wide J pal owner (suc t) = tile-wide (subOf pal (J .C) (J .C) (owner t)) (tileAt J t) (J .weight) _ (spreadOf J pal owner t) 256 (spread-wide J pal owner t) _
+spread-wide J pal owner zero = record { had = length-zeros places; lost = length-zeros places }
+spread-wide J pal owner (suc t) = tile-wide (subOf pal (J .C) (J .C) (owner t)) (tileAt J t) (J .weight) _ (spreadOf J pal owner t) places (spread-wide J pal owner t) _
 
 -- ---- hints
 module _ (J : Job) (pal : List Float) (h : List ℕ) where

@@ -23,7 +23,7 @@ use Rattle.palette.proofs.Sums.{gap-good, tile-real, dist-good}
 use Rattle.palette_two.specs.PaletteTwo.{nearestTwoOf}
 use Rattle.palette_tile.specs.Tiles.{tileAt, presentIn, fitAt, winner, twoAt, Shown}
 use Rattle.palette_tile.proofs.Present.{shown-present, winner-below, pair-below, part-nearest, tile-counted}
-use Rattle.quantizer.specs.Sums.{bump}
+use Rattle.quantizer.specs.Sums.{bump, places}
 use Rattle.quantizer.specs.Seeding.{distanceStep, distancesOf}
 use Rattle.quantizer.specs.Growing.{tileNeeds, needStep, needsOf}
 use Rattle.quantizer.specs.Replacing.{Shares, pairAt, sharesOf, tileShares, spreadStep, spreadOf}
@@ -31,7 +31,7 @@ use Rattle.quantizer.specs.Goods.{AllGood}
 use Rattle.quantizer.proofs.Goods.{zeros-good, bump-good}
 use Rattle.quantizer.specs.Lengths.{Wide}
 use Rattle.quantizer.proofs.Lengths.{tile-wide, length-distances, length-tile-needs, length-needs, shares-wide, spread-wide}
-use Rattle.quantizer.proofs.Indexes.{shown-subs, place-256, part-nearest-two}
+use Rattle.quantizer.proofs.Indexes.{shown-subs, place-placed, part-nearest-two}
 
 module _ (J : Job) (pal : List Float) (n have : ℕ) (S : Shown J pal n have) (t : ℕ) (l : t < J .T) where
   -- ---- a tile's distances, the least of them, and the second least
@@ -57,19 +57,19 @@ module _ (J : Job) (pal : List Float) (n have : ℕ) (S : Shown J pal n have) (t
         gap-good (subOf pal (J .C) have i) (J .weight) F (S .ready .weight) (colourAt (tileAt J t .colours) k)
         (tile-real (subOf pal (J .C) have i) (J .weight) F (S .ready .weight) (tileAt J t) (tile-counted J pal n have S t l) k o) j p
 
-    pub tile-needs-good : (d : List Float) → length d ≡ 256 → AllGood d → (k : ℕ) → k ≤ length (tileAt J t .counts) → AllGood (tileNeeds (subOf pal (J .C) have i) (tileAt J t) (J .weight) (i * J .C) d k)
+    pub tile-needs-good : (d : List Float) → length d ≡ places → AllGood d → (k : ℕ) → k ≤ length (tileAt J t .counts) → AllGood (tileNeeds (subOf pal (J .C) have i) (tileAt J t) (J .weight) (i * J .C) d k)
     unfolding tileNeeds
     tile-needs-good d e g zero h = g
     tile-needs-good d e g (suc k) h =
         let s = subOf pal (J .C) have i in
         let q = colourAt (tileAt J t .colours) k in
-        let p = place-256 J pal n have S i (nearestOf s q (J .weight) .index) m (part-nearest J pal n have S i m q) in
+        let p = place-placed J pal n have S i (nearestOf s q (J .weight) .index) m (part-nearest J pal n have S i m q) in
         bump-good (tileNeeds s (tileAt J t) (J .weight) (i * J .C) d k) (i * J .C + nearestOf s q (J .weight) .index) (termOf s (tileAt J t) (J .weight) k)
         (omega (arith, p, length-tile-needs s (tileAt J t) (J .weight) (i * J .C) d k))
         (times-good binary32 _ _ (least-good (gap s q (J .weight)) (length s / 3) (gaps-good k h)) (count-good k h))
         (tile-needs-good d e g k (omega arith))
 
-    pub tile-shares-good : (A : Shares) → Wide A 256 → AllGood (A .had) × AllGood (A .lost) → (k : ℕ) → k ≤ length (tileAt J t .counts)
+    pub tile-shares-good : (A : Shares) → Wide A places → AllGood (A .had) × AllGood (A .lost) → (k : ℕ) → k ≤ length (tileAt J t .counts)
         → AllGood (tileShares (subOf pal (J .C) have i) (tileAt J t) (J .weight) (i * J .C) A k .had) × AllGood (tileShares (subOf pal (J .C) have i) (tileAt J t) (J .weight) (i * J .C) A k .lost)
     unfolding tileShares
     tile-shares-good A W g zero h = g
@@ -78,9 +78,9 @@ module _ (J : Job) (pal : List Float) (n have : ℕ) (S : Shown J pal n have) (t
         let q = colourAt (tileAt J t .colours) k in
         let r = nearestTwoOf s q (J .weight) in
         let B = tileShares s (tileAt J t) (J .weight) (i * J .C) A k in
-        let wide = tile-wide s (tileAt J t) (J .weight) (i * J .C) A 256 W k in
+        let wide = tile-wide s (tileAt J t) (J .weight) (i * J .C) A places W k in
         let before = tile-shares-good A W g k (omega arith) in
-        let p = place-256 J pal n have S i (r .index) m (part-nearest-two J pal n have S i m q) in
+        let p = place-placed J pal n have S i (r .index) m (part-nearest-two J pal n have S i m q) in
         let both = two-all (Good binary32) (gap s q (J .weight)) (length s / 3) (inf-good binary32) (gaps-good k h) in
         let f = ofInt binary32 (pos (getD (tileAt J t .counts) k 0)) in (
           bump-good (B .had) (i * J .C + r .index) (mul binary32 (r .dist) f) (omega (arith, p, wide .had)) (times-good binary32 (r .dist) f (both .0) (count-good k h)) (before .0),
@@ -100,7 +100,7 @@ distances-good J pal n S (suc t) h = either (isEmpty J t) (distances-good J pal 
 -- ---- growing
 pub needs-good : (J : Job) (pal : List Float) (have : ℕ) → Shown J pal (J .S) have → (t : ℕ) → t ≤ J .T → AllGood (needsOf J pal have t)
 unfolding walk needStep
-needs-good J pal have S zero h = zeros-good 256
+needs-good J pal have S zero h = zeros-good places
 needs-good J pal have S (suc t) h =
     tile-needs-good J pal (J .S) have S t h (winner J pal (J .S) have t) (winner-below J pal (J .S) have S t) (needsOf J pal have t) (length-needs J pal have t)
     (needs-good J pal have S t (omega arith)) (length (tileAt J t .counts)) (le-refl _)
@@ -122,6 +122,6 @@ module _ (J : Job) (pal : List Float) (S : Shown J pal (J .S) (J .C)) where
 
   pub spread-good : (owner : ℕ → ℕ) → ((t : ℕ) → t < J .T → owner t < J .S) → (t : ℕ) → t ≤ J .T → AllGood (spreadOf J pal owner t .had) × AllGood (spreadOf J pal owner t .lost)
   unfolding walk spreadStep
-  spread-good owner o zero h = (zeros-good 256, zeros-good 256)
+  spread-good owner o zero h = (zeros-good places, zeros-good places)
   spread-good owner o (suc t) h =
       tile-shares-good J pal (J .S) (J .C) S t h (owner t) (o t h) (spreadOf J pal owner t) (spread-wide J pal owner t) (spread-good owner o t (omega arith)) (length (tileAt J t .counts)) (le-refl _)

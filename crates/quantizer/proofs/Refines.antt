@@ -19,16 +19,16 @@ use Rattle.color.specs.Color.{colourAt, putAt, plusTimes, overOf, Sized, Bounde
 use Rattle.color.proofs.Puts.{length-put, put-here, put-elsewhere}
 use Rattle.color.proofs.Sizes.{colour-sized, sized-wider, bounded-put}
 use Rattle.color.proofs.Means.{times-sized, over-sized}
-use Rattle.job.specs.Job.{Job}
+use Rattle.job.specs.Job.{Job, mostTileSize}
 use Rattle.palette_tile.specs.Walk.{walk}
 use Rattle.job.proofs.Tiles.{counts-length}
 use Rattle.palette.specs.Palette.{Tile, subOf, nearestOf}
 use Rattle.palette_tile.specs.Tiles.{tileAt, winner, Shown}
 use Rattle.palette_tile.proofs.Present.{winner-below, part-nearest, tile-sized}
-use Rattle.quantizer.specs.Sums.{zeros}
+use Rattle.quantizer.specs.Sums.{zeros, places}
 use Rattle.quantizer.specs.Refining.{Gather, nothing, addAt, tileGather, gatherStep, gatherOf, meanStep, meansOf, refined}
 use Rattle.quantizer.proofs.Lists.{length-zeros, zeros-bounded}
-use Rattle.quantizer.proofs.Indexes.{shown-few, place-256}
+use Rattle.quantizer.proofs.Indexes.{shown-few, place-placed}
 use Rattle.quantizer.specs.Refines.{Gathered, SumsWithin}
 
 same-or-not : (a b : ℕ) → (a ≡ b) ⊎ (a ≢ b)
@@ -39,7 +39,7 @@ same-or-not a b = by (ℕ-discrete a b)
     by (no n) = inr n
 
 -- ---- an addition
-module _ (A : Gather) (H : SumsWithin A) (p : ℕ) (q : Oklab) (m : ℕ) (P : p < 256) where
+module _ (A : Gather) (H : SumsWithin A) (p : ℕ) (q : Oklab) (m : ℕ) (P : p < places) where
   pub counted : (i : ℕ) → getD (addAt A p q m .cnts) i 0 ≤ getD (A .cnts) i 0 + m
   unfolding addAt
   counted i = elim (same-or-not i p) [
@@ -77,7 +77,7 @@ pub record Summed (A B : Gather) (m : ℕ) : Type 0 where
   pub held : SumsWithin B
   pub few : (i : ℕ) → getD (B .cnts) i 0 ≤ getD (A .cnts) i 0 + m
 
-module _ (s : List Float) (X : Tile) (w : Float) (base : ℕ) (A : Gather) (H : SumsWithin A) (place : (q : Oklab) → base + nearestOf s q w .index < 256)
+module _ (s : List Float) (X : Tile) (w : Float) (base : ℕ) (A : Gather) (H : SumsWithin A) (place : (q : Oklab) → base + nearestOf s q w .index < places)
     (near : (k : ℕ) → k < length (X .counts) → Sized (colourAt (X .colours) k) 2) (few : (i : ℕ) → getD (A .cnts) i 0 + sum (λ k. getD (X .counts) k 0) (length (X .counts)) ≤ 8388608) where
   pub tile-summed : (k : ℕ) → k ≤ length (X .counts) → Summed A (tileGather s X w base A k) (sum (λ k. getD (X .counts) k 0) k)
   unfolding tileGather sum
@@ -103,28 +103,28 @@ pub nothing-gathered : Gathered nothing 0
 nothing-gathered =
     record {
       held = record {
-        whole = length-zeros 768;
-        all = length-replicate {A = ℕ} 256 0;
-        sized = λ p l. colour-sized (zeros 768) (2 * getD (replicate 256 0) p 0) p (zeros-bounded 768 (2 * getD (replicate 256 0) p 0)) (third (length (zeros 768)) p (length-zeros 768) l);
+        whole = length-zeros (3 * places);
+        all = length-replicate {A = ℕ} places 0;
+        sized = λ p l. colour-sized (zeros (3 * places)) (2 * getD (replicate places 0) p 0) p (zeros-bounded (3 * places) (2 * getD (replicate places 0) p 0)) (third (length (zeros (3 * places))) p (length-zeros (3 * places)) l);
       };
-      few = none-counted 256;
+      few = none-counted places;
     }
   where
-    third : (z p : ℕ) → z ≡ 768 → p < 256 → p < z / 3
+    third : (z p : ℕ) → z ≡ 3 * places → p < places → p < z / 3
     third z p e l = omega arith
 
 module _ (J : Job) (pal : List Float) (S : Shown J pal (J .S) (J .C)) where
   tile-colour : (t : ℕ) → t < J .T → (k : ℕ) → k < length (tileAt J t .counts) → Sized (colourAt (tileAt J t .colours) k) 2
   tile-colour t l k m = tile-sized J pal (J .S) (J .C) S t l k (omega (arith, counts-length J (S .ready) t l))
 
-  -- a place of a subpalette is one of the 256
-  pub gather-place : (i : ℕ) → i < J .S → (q : Oklab) → i * J .C + nearestOf (subOf pal (J .C) (J .C) i) q (J .weight) .index < 256
-  gather-place i l q = place-256 J pal (J .S) (J .C) S i (nearestOf (subOf pal (J .C) (J .C) i) q (J .weight) .index) l (part-nearest J pal (J .S) (J .C) S i l q)
+  -- a place of a subpalette is one of `places`
+  pub gather-place : (i : ℕ) → i < J .S → (q : Oklab) → i * J .C + nearestOf (subOf pal (J .C) (J .C) i) q (J .weight) .index < places
+  gather-place i l q = place-placed J pal (J .S) (J .C) S i (nearestOf (subOf pal (J .C) (J .C) i) q (J .weight) .index) l (part-nearest J pal (J .S) (J .C) S i l q)
 
-  tile-pixels : (t : ℕ) → t < J .T → sum (λ k. getD (tileAt J t .counts) k 0) (length (tileAt J t .counts)) ≤ 256
+  tile-pixels : (t : ℕ) → t < J .T → sum (λ k. getD (tileAt J t .counts) k 0) (length (tileAt J t .counts)) ≤ mostTileSize
   tile-pixels t l = le-trans (S .ready .full t l) (S .ready .sizes .small)
 
-  pub gathered : (t : ℕ) → t ≤ J .T → Gathered (gatherOf J pal t) (256 * t)
+  pub gathered : (t : ℕ) → t ≤ J .T → Gathered (gatherOf J pal t) (mostTileSize * t)
   unfolding walk gatherStep
   gathered zero h = record { held = nothing-gathered .held; few = λ i. omega (arith, nothing-gathered .few i) }
   gathered (suc t) h =
@@ -137,7 +137,7 @@ module _ (J : Job) (pal : List Float) (S : Shown J pal (J .S) (J .C)) where
 
 -- ---- the means
 module _ (pal : List Float) (A : Gather) (H : SumsWithin A) (few : (p : ℕ) → getD (A .cnts) p 0 ≤ 8388608) (k : ℕ) (K : 2 ≤ k) (B : Bounded pal k) where
-  pub means-bounded : (n : ℕ) → n ≤ 256 → Bounded (meansOf pal A n) k
+  pub means-bounded : (n : ℕ) → n ≤ places → Bounded (meansOf pal A n) k
   unfolding meansOf meanStep
   means-bounded zero h = B
   means-bounded (suc p) h = elim (eq-zero-or-pos (getD (A .cnts) p 0)) [

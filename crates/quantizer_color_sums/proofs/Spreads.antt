@@ -13,7 +13,7 @@ use Rattle.quantizer.specs.Sums.{places}
 use Rattle.quantizer.specs.Replacing.{Shares, noShares, tileShares, ownerOf, spreadStep}
 use Rattle.quantizer.specs.Lengths.{Wide}
 use Rattle.quantizer.proofs.Lengths.{spread-wide}
-use Rattle.quantizer.proofs.Indexes.{owner-below, row-256}
+use Rattle.quantizer.proofs.Indexes.{owner-below, row-placed}
 use Rattle.quantizer_matches.specs.Matches.{Matched}
 use Rattle.quantizer_matches.proofs.Asked.{tile-matched}
 use Rattle.quantizer_owner.specs.Owner.{ownerIn}
@@ -34,7 +34,7 @@ module _ (J : Job) (pal : List Float) (hints : List ℕ) (t : ℕ) (A : Shares) 
     owner-part = goes-part J pal (J .S) (J .C) (K .owned .shown) i (ownerOf J pal t) mine below
 
     pub owner-row : i * J .C + J .C ≤ places
-    owner-row = row-256 J pal (J .S) (J .C) (K .owned .shown) i (goes-below J pal (J .S) (J .C) (K .owned .shown) i (ownerOf J pal t) mine below)
+    owner-row = row-placed J pal (J .S) (J .C) (K .owned .shown) i (goes-below J pal (J .S) (J .C) (K .owned .shown) i (ownerOf J pal t) mine below)
 
     module _ (sub tile : List Float) (part : List ℕ) (S : sub ≡ subOf pal (J .C) (J .C) i) (E : tile ≡ tileOf J t) (C : part ≡ countsOf J t) where
       pub owner-matched : Matched sub (tileWith tile part) (i * J .C) (length (A .had)) × (length (A .lost) ≡ length (A .had))

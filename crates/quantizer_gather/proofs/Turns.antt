@@ -5,7 +5,7 @@ use mathlib.Core.Bool.{Bool, true, false}
 use mathlib.Core.List.{List}
 use lib.ListN.{length, set}
 use lib.Ieee.{Float}
-use Rattle.job.specs.Job.{Job, tileOf, countsOf, isEmpty}
+use Rattle.job.specs.Job.{Job, tileOf, countsOf, isEmpty, mostTileSize}
 use Rattle.stats.specs.declared.Near.{Near}
 use Rattle.palette.specs.Palette.{tileWith, subOf}
 use Rattle.palette_tile.specs.Tiles.{tileAt, fitAt, winner, hintStep, Shown}
@@ -48,8 +48,8 @@ module _ (J : Job) (pal : List Float) (hints : List ℕ) (t : ℕ) (A : Gather) 
 
 -- ---- while the tiles are walked over
 module _ (J : Job) (pal : List Float) (S : Shown J pal (J .S) (J .C)) {A : Gather} {t : ℕ} (W : Walked (J .T) (λ i. gatherStep J pal (winner J pal (J .S) (J .C) i) i) nothing A t) where
-  pub walked-gathered : Gathered A (256 * t)
-  walked-gathered = walked-has W (λ i B. Gathered B (256 * i)) (gathered J pal S)
+  pub walked-gathered : Gathered A (mostTileSize * t)
+  walked-gathered = walked-has W (λ i B. Gathered B (mostTileSize * i)) (gathered J pal S)
 
   -- the lists are as long as those before the walk
   pub walked-whole : (B : Gather) → B ≡ nothing → (length (A .sums) ≡ length (B .sums)) × (length (A .cnts) ≡ length (B .cnts))

@@ -10,6 +10,7 @@ use Rattle.color.specs.declared.Oklab.{Oklab}
 use Rattle.color.specs.Color.{colourAt, putAt, plusTimes}
 use Rattle.stats.specs.declared.Near.{Near}
 use Rattle.palette.specs.Palette.{Tile, nearestOf}
+use Rattle.quantizer.specs.Sums.{places}
 use Rattle.quantizer.specs.Refining.{Gather, gather, addAt, tileGather}
 use Rattle.quantizer_gather_tile.specs.Gathers.{Adding, Gathering}
 use Rattle.quantizer_gather_tile.proofs.Through.{place-in, pixels-part, through}
@@ -25,7 +26,7 @@ module _ (s : List Float) (X : Tile) (w : Float) (base : ℕ) (A : Gather) (G : 
     near-is : d .index ≡ nearestOf s q w .index
     near-is = ap (λ (x : Near). x .index) g
 
-    pub turn-place : base + d .index < 256
+    pub turn-place : base + d .index < places
     turn-place = omega (arith, place-in s X w base A G q, near-is)
 
     pub turn-adding : Adding B (base + d .index) (getD (X .counts) k 0)

@@ -18,11 +18,11 @@ use Rattle.job.specs.Job.{Job}
 use Rattle.palette_edit.specs.Edits.{colourCopied}
 use Rattle.palette_edit.proofs.Kept.{place-room}
 use Rattle.palette_tile.proofs.Present.{shown-present}
-use Rattle.quantizer.specs.Sums.{zeros, sumsAt, greatest}
+use Rattle.quantizer.specs.Sums.{zeros, sumsAt, greatest, places}
 use Rattle.quantizer.specs.Growing.{needsOf, splitOf, grownBy, grown}
 use Rattle.quantizer.proofs.Lengths.{length-needs, length-grown-by}
 use Rattle.quantizer.proofs.Lists.{length-zeros, length-sums}
-use Rattle.quantizer.proofs.Indexes.{row-256}
+use Rattle.quantizer.proofs.Indexes.{row-placed}
 use Rattle.quantizer.specs.Goods.{AllGood}
 use Rattle.quantizer.proofs.Goods.{zeros-good, sums-no-nan}
 use Rattle.quantizer.proofs.Choices.{greatest-below}
@@ -59,12 +59,12 @@ one-greatest xs e = below (greatest xs) (subst (λ (n : ℕ). greatest xs < n) e
     below k l = omega arith
 
 module _ (J : Job) (pal : List Float) (have : ℕ) where
-  length-split-sums : length (splitSums J pal have) ≡ 256
+  length-split-sums : length (splitSums J pal have) ≡ places
   unfolding splitSums
   length-split-sums = either (eqb have 1)
     where
-      either : (b : Bool) → length (cond b (zeros 256) (needsOf J pal have (J .T))) ≡ 256
-      either true = length-zeros 256
+      either : (b : Bool) → length (cond b (zeros places) (needsOf J pal have (J .T))) ≡ places
+      either true = length-zeros places
       either false = length-needs J pal have (J .T)
 
 module _ (J : Job) (first : List Float) (have : ℕ) (hints : List ℕ) (K : Growing J first have hints) where
@@ -72,12 +72,12 @@ module _ (J : Job) (first : List Float) (have : ℕ) (hints : List ℕ) (K : Gro
   unfolding splitSums
   split-sums-good = either (eqb have 1)
     where
-      either : (b : Bool) → AllGood (cond b (zeros 256) (needsOf J first have (J .T)))
-      either true = zeros-good 256
+      either : (b : Bool) → AllGood (cond b (zeros places) (needsOf J first have (J .T)))
+      either true = zeros-good places
       either false = needs-good J first have (K .shown) (J .T) (le-refl (J .T))
 
   row : (i : ℕ) → i < J .S → i * J .C + J .C ≤ length (splitSums J first have)
-  row i l = omega (arith, row-256 J first (J .S) have (K .shown) i l, length-split-sums J first have)
+  row i l = omega (arith, row-placed J first (J .S) have (K .shown) i l, length-split-sums J first have)
 
   one-split : (i : ℕ) → i < J .S → have ≡ 1 → splitOf J first have i ≡ greatest (sumsAt (splitSums J first have) (i * J .C) have)
   unfolding splitOf
@@ -89,7 +89,7 @@ module _ (J : Job) (first : List Float) (have : ℕ) (hints : List ℕ) (K : Gro
   unfolding splitOf splitSums
   more-split i f =
       ap (λ (b : Bool). cond b 0 (greatest (sumsAt (needsOf J first have (J .T)) (i * J .C) have))) (ne-eqb have 1 f)
-      ∙ sym (ap (λ (b : Bool). greatest (sumsAt (cond b (zeros 256) (needsOf J first have (J .T))) (i * J .C) have)) (ne-eqb have 1 f))
+      ∙ sym (ap (λ (b : Bool). greatest (sumsAt (cond b (zeros places) (needsOf J first have (J .T))) (i * J .C) have)) (ne-eqb have 1 f))
 
   same-split : (i : ℕ) → i < J .S → splitOf J first have i ≡ greatest (sumsAt (splitSums J first have) (i * J .C) have)
   same-split i l = by (ℕ-discrete have 1)

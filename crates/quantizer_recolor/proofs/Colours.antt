@@ -11,10 +11,11 @@ use lib.Ieee.{Float}
 use borrow.Author.Tests.{lt-ltb, le-ltb}
 use Rattle.job.specs.Job.{Job}
 use Rattle.palette_tile.proofs.Present.{shown-part}
+use Rattle.quantizer.specs.Sums.{places}
 use Rattle.quantizer.specs.Replacing.{Shares, ownerOf, spreadOf, swapIn, colourSwapped, recoloured, coloursReplaced}
 use Rattle.quantizer.specs.Lengths.{Wide}
 use Rattle.quantizer.proofs.Lengths.{spread-wide}
-use Rattle.quantizer.proofs.Indexes.{owner-below, row-256}
+use Rattle.quantizer.proofs.Indexes.{owner-below, row-placed}
 use Rattle.quantizer.specs.Goods.{AllGood}
 use Rattle.quantizer.proofs.NoNans.{spread-good}
 use Rattle.quantizer_color_sums.specs.Asked.{Owned}
@@ -39,8 +40,8 @@ module _ (J : Job) (first : List Float) (hints : List ℕ) (O : Owned J first hi
     pub recolouring-length : length pal ≡ length first
     recolouring-length = ap length (G .done) ∙ length-recoloured J first A i
 
-    wide : Wide A 256
-    wide = subst⁻¹ (λ (x : Shares). Wide x 256) E (spread-wide J first (ownerOf J first) (J .T))
+    wide : Wide A places
+    wide = subst⁻¹ (λ (x : Shares). Wide x places) E (spread-wide J first (ownerOf J first) (J .T))
 
     good : AllGood (A .had) × AllGood (A .lost)
     good =
@@ -49,7 +50,7 @@ module _ (J : Job) (first : List Float) (hints : List ℕ) (O : Owned J first hi
 
     pub recolouring-row : i < J .S → Row pal (J .C) i A
     recolouring-row l =
-        let row = row-256 J first (J .S) (J .C) (O .shown) i l in
+        let row = row-placed J first (J .S) (J .C) (O .shown) i l in
         record {
           some = O .shown .some;
           had = omega (arith, row, wide .had);

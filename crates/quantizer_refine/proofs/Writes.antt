@@ -7,7 +7,7 @@ use native.Mathlib.Numerals.{add-one}
 use native.Mathlib.Omega.{arith}
 use lib.ListN.{length}
 use lib.Ieee.{Float}
-use Rattle.job.specs.Job.{Job}
+use Rattle.job.specs.Job.{Job, mostTileSize}
 use Rattle.palette_tile.specs.Tiles.{Shown}
 use Rattle.quantizer.specs.Refining.{Gather, gatherOf, meanStep, meansOf, refined}
 use Rattle.quantizer.proofs.Lengths.{length-means}
@@ -38,7 +38,7 @@ module _ (pal : List Float) (A : Gather) where
 module _ (J : Job) (pal : List Float) (S : Shown J pal (J .S) (J .C)) (A : Gather) (e : A ≡ gatherOf J pal (J .T)) where
   pub pass-meaning : Meaning pal (J .S * J .C) A
   pass-meaning =
-      let K : Gathered A (256 * J .T) = subst⁻¹ (λ (X : Gather). Gathered X (256 * J .T)) e (gathered J pal S (J .T) (le-refl (J .T))) in
+      let K : Gathered A (mostTileSize * J .T) = subst⁻¹ (λ (X : Gather). Gathered X (mostTileSize * J .T)) e (gathered J pal S (J .T) (le-refl (J .T))) in
       record { room = omega (arith, S .room); size = S .ready .sizes .cells; whole = K .held .whole; all = K .held .all; few = λ p. omega (arith, K .few p, S .ready .sizes .tiles) }
 
   pub pass-done : (after : List Float) → after ≡ meansOf pal A (J .S * J .C) → after ≡ refined J pal

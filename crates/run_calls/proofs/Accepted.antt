@@ -4,11 +4,9 @@ use mathlib.Core.Bool.{Bool, true, false}
 use mathlib.Core.Logic.{_⊎_, inl, inr}
 use Prim.Native.Nat.{_*_, _≤_}
 use lib.ListN.{length, getD}
-use native.Mathlib.Omega.{arith}
 use lib.Dec.{eqb}
 use borrow.Author.Tests.{eq-eqb, ne-eqb, eqb-true, eqb-false, lt-ltb, ltb-true}
 use Rattle.lists.proofs.Tests.{and-l, and-r}
-use Rattle.job.specs.Job.{tileSize}
 use Rattle.job.specs.Rules.{Passed}
 use Rattle.job.proofs.Passing.{pass-all}
 use Rattle.job.specs.Checks.{sampledAnswer}
@@ -24,10 +22,6 @@ use Rattle.run_calls.proofs.Limits.{fits-four, four-bounded, entries-fi
 use Rattle.run_calls.specs.Sound.{Second, in2, out2}
 use Rattle.run_calls.specs.Fit.{Fit}
 use Rattle.run_calls.specs.Accepted.{Accepted, Roomy}
-
--- the pixels of a tile in the public calls are few enough for every law
-pub few-pixels : tileSize ≤ 256
-few-pixels = omega arith
 
 module _ (K : Course) where
   pub roomy-of : (m : Memory) → memoryRoom K m ≡ true → Roomy K m

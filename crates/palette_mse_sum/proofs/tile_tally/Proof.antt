@@ -1,4 +1,5 @@
 -- `palette_mse_sum::tile_tally` meets its contract. The loop's invariant: the sum and the count are those with the first k colours. Assumes nothing.
+use Rattle.job.specs.Job.{mostTileSize}
 use Prim.Native.Nat.{_+_, _*_, _-_, _≤_}
 use mathlib.Core.Path.{_≡_, refl, ap, _∙_}
 use native.Mathlib.Omega.{arith}
@@ -11,7 +12,7 @@ use Rattle.palette_mse_sum.proofs.tile_tally.Tie as tie
 
 abbrev Inv-loop : tie.InvT-loop
 Inv-loop s tile counts w n total₀ count₀ k₀ total count k =
-    (k ≤ n) × ((count ≤ count₀ + 256 * k) × (record { total = total; count = count } ≡ tileTally s (tileWith tile counts) w (record { total = total₀; count = count₀ }) k))
+    (k ≤ n) × ((count ≤ count₀ + mostTileSize * k) × (record { total = total; count = count } ≡ tileTally s (tileWith tile counts) w (record { total = total₀; count = count₀ }) k))
 
 abbrev μ-loop : tie.MeasureT-loop
 μ-loop s tile counts w n total₀ count₀ k₀ total count k = n - k
