@@ -27,11 +27,12 @@ nearest-requires : tie.Need-nearest-requires Inv-loop μ-loop
 nearest-requires c κs = search needs
 
 add-p : tie.Need-add-p Inv-loop μ-loop
-add-p c = omega (
-  arith,
-  near-place _ _ _ _ _ (c .before .before .before .before .before .before .before .before .before .pre) _ _ (c .before .before .before .before .loop .inv .1) _
-      (c .before .before .colour .ensures) _ (c .before .nearest .ensures),
-)
+add-p c =
+    let turn = c .before .before .before .before in
+    omega (
+      arith,
+      near-place _ _ _ _ _ (turn .before .before .before .before .before .pre) _ _ (turn .loop .inv .1) _ (c .before .before .colour .ensures) _ (c .before .nearest .ensures),
+    )
 
 mul-m : tie.Need-mul-m Inv-loop μ-loop
 mul-m c = omega arith
@@ -45,12 +46,12 @@ int-to-float-m c =
     count-exact binary32 _ (start .pre .high (after-loop .loop .k) (omega arith))
 
 mul-total : tie.Need-mul-total Inv-loop μ-loop
-mul-total c = omega (
-  arith,
-  near-place _ _ _ _ _ (c .before .before .before .before .before .before .before .before .before .before .before .pre) _ _
-      (c .before .before .before .before .before .before .loop .inv .1) _ (c .before .before .before .before .colour .ensures) _
-      (c .before .before .before .nearest .ensures),
-)
+mul-total c =
+    let turn = c .before .before .before .before .before .before in
+    omega (
+      arith,
+      near-place _ _ _ _ _ (turn .before .before .before .before .before .pre) _ _ (turn .loop .inv .1) _ (c .before .before .before .before .colour .ensures) _ (c .before .before .before .nearest .ensures),
+    )
 
 slice-read-total : tie.Need-slice-read-total Inv-loop μ-loop
 slice-read-total c =
@@ -59,12 +60,12 @@ slice-read-total c =
     omega (arith, near-place _ _ _ _ _ (start .pre) _ _ (after-loop .loop .inv .1) _ (after-colour .colour .ensures) _ (after-nearest .nearest .ensures), needs-length _ _ _ _ _ (start .pre) _ _ (after-loop .loop .inv .1))
 
 mul-total-2 : tie.Need-mul-total-2 Inv-loop μ-loop
-mul-total-2 c = omega (
-  arith,
-  near-place _ _ _ _ _ (c .before .before .before .before .before .before .before .before .before .before .before .before .before .pre) _ _
-      (c .before .before .before .before .before .before .before .before .loop .inv .1) _ (c .before .before .before .before .before .before .colour .ensures) _
-      (c .before .before .before .before .before .nearest .ensures),
-)
+mul-total-2 c =
+    let turn = c .before .before .before .before .before .before .before .before in
+    omega (
+      arith,
+      near-place _ _ _ _ _ (turn .before .before .before .before .before .pre) _ _ (turn .loop .inv .1) _ (c .before .before .before .before .before .before .colour .ensures) _ (c .before .before .before .before .before .nearest .ensures),
+    )
 
 slice-write-total : tie.Need-slice-write-total Inv-loop μ-loop
 slice-write-total c =
