@@ -2,19 +2,16 @@
 use Prim.Native.Nat.{ℕ, _≤_, _<_}
 use mathlib.Core.Path.{_≡_, refl, sym, ap, _∙_}
 use mathlib.Core.Bool.{Bool, true, false, not, cond}
-use mathlib.Core.Logic.{_≢_}
 use mathlib.Core.List.{List, [], _∷_}
 use native.Mathlib.Nat.{le-of-eq}
 use native.Mathlib.Omega.{arith}
 use lib.Dec.{eqb}
 use lib.ListN.{length, getD, set}
-use lib.Ieee.{Float, binary32, lt}
+use lib.Ieee.{Float, binary32}
 use borrow.Author.Tests.{eqb-true, eq-eqb}
 use Rattle.lists.proofs.Tests.{and-l, and-r}
 use Rattle.ieee.specs.Terms.{Good}
 use Rattle.stats.specs.declared.Near.{Near}
-use Rattle.stats.specs.Stats.{nextOf}
-use Rattle.stats.proofs.Seconds.{next-below, next-other, second-at}
 use Rattle.job.specs.Job.{Job, isEmpty}
 use Rattle.job.specs.Rules.{rule, answer, numbered}
 use Rattle.job.proofs.Passing.{goes, fails, both-pass}
@@ -23,10 +20,10 @@ use Rattle.job.specs.Gives.{Plain}
 use Rattle.job.proofs.Ready.{plain-ready}
 use Rattle.stats.specs.Least.{Least}
 use Rattle.stats.proofs.Scan.{least-has}
-use Rattle.stats.proofs.BestTwo.{firstOf, two-first}
+use Rattle.stats.proofs.Next.{next-has, next-alone, infinite-first, infinite-next}
 use Rattle.palette.proofs.Sums.{dist-good}
 use Rattle.palette_tile.specs.Tiles.{tileAt, presentIn, fitAt, winner, twoAt, Shown}
-use Rattle.palette_tile.proofs.Present.{shown-present, tile-counted}
+use Rattle.palette_tile.proofs.Present.{first-of-two, shown-present, tile-counted}
 use Rattle.fits_outcome.specs.Fits.{singleOutcome, singleDef}
 use Rattle.fits_outcome.specs.Pairs.{pairOutcome, pairDef}
 use Rattle.fits_check.specs.One.{oneRules, oneAnswer, singleAnswer}
@@ -39,7 +36,6 @@ use Rattle.assign_tiles.specs.Tiles.{TileMemory, tileMemory, assigned, subpalet
 use Rattle.assign.specs.Assign.{Outcome, outcome, roomFor, assignAnswer, assignDef}
 use Rattle.assign.proofs.Reading.{subpalette-at, hint-at}
 use Rattle.demands.specs.Second.{distances, Chosen, Single-fit, Best-two, Assign}
-use Rattle.demands.proofs.Runners.{second-least}
 
 -- ---- the choice, in every call and at every moment of a run
 module _ (J : Job) (palette : List Float) (n have : ℕ) (P : Shown J palette n have) (t : ℕ) (l : t < J .T) where
@@ -50,29 +46,18 @@ module _ (J : Job) (palette : List Float) (n have : ℕ) (P : Shown J palette n 
   unfolding fitAt
   least = least-has (distances J palette n have t) n (P .subs) good
 
-  first-of-two : firstOf (twoAt J palette n have t) ≡ fitAt J palette n have t
-  unfolding twoAt fitAt
-  first-of-two = two-first (distances J palette n have t) n
-
-  second-of-two : 2 ≤ n
-      → (other : ℕ) × (other < n) × (other ≢ twoAt J palette n have t .index) × (twoAt J palette n have t .second ≡ distances J palette n have t other)
-  unfolding twoAt
-  second-of-two h =
-      let d = distances J palette n have t in
-      (nextOf d n, next-below d n h good, next-other d n h good, second-at d n h good)
-
-  none-before-second : (j : ℕ) → j < n → j ≢ twoAt J palette n have t .index → lt (distances J palette n have t j) (twoAt J palette n have t .second) ≡ false
-  unfolding twoAt
-  none-before-second = second-least (distances J palette n have t) n good (P .subs) (omega (arith, P .most, P .ready .sizes .few))
+  few : n < 18446744073709551616
+  few = omega (arith, P .most, P .ready .sizes .few)
 
   pub chosen : Chosen J palette n have t
   chosen =
       record {
         least = least;
-        first = ap (λ (x : Near). x .index) first-of-two;
-        first-dist = ap (λ (x : Near). x .dist) first-of-two;
-        second = second-of-two;
-        none-before-second = none-before-second;
+        first = ap (λ (x : Near). x .index) (first-of-two J palette n have t);
+        first-dist = ap (λ (x : Near). x .dist) (first-of-two J palette n have t);
+        next = unfold twoAt in next-has (distances J palette n have t) n good few;
+        next-alone = unfold twoAt in next-alone (distances J palette n have t) n good few;
+        all-infinite = unfold twoAt in λ e. (infinite-first (distances J palette n have t) n (P .subs) e, λ h. infinite-next (distances J palette n have t) n h e);
       }
 
 -- ---- the single fit and best_two

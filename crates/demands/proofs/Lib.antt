@@ -1,7 +1,6 @@
 pub mod Calls
 pub mod First
 pub mod Sheets
-pub mod Runners
 pub mod Fits
 pub mod Draws
 pub mod Hints

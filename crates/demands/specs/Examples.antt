@@ -86,8 +86,8 @@ pub record Examples : Type 0 where
   pub a-run-of-44 : (seed : ℕ) → (x : Finished (oneColour 2 2 25) seed) × Most-twice (x .samples)
   pub argmax-takes-last : argmaxOf (valueAt (one ∷ three ∷ three ∷ [])) 3 ≡ 2
   pub argmin-takes-first : argminOf (valueAt (two ∷ one ∷ one ∷ [])) 3 ≡ 1
-  pub two-of-2-1-1 : leastTwo (valueAt (two ∷ one ∷ one ∷ [])) 3 ≡ record { index = 1; dist = one; second = one }
-  pub two-of-5 : leastTwo (valueAt (five ∷ [])) 1 ≡ record { index = 0; dist = five; second = inf false }
+  pub two-of-2-1-1 : leastTwo (valueAt (two ∷ one ∷ one ∷ [])) 3 ≡ record { index = 1; dist = one; next = 2; second = one }
+  pub two-of-5 : leastTwo (valueAt (five ∷ [])) 1 ≡ record { index = 0; dist = five; next = 0; second = inf false }
   pub tile-2 : fitAt sheetJob sheetPalette 2 1 2 ≡ record { index = 0; dist = half }
   -- so from hints 0, 1 and 99, and from any other
   pub tile-2-from : (a c hint d : ℕ) (w x y z : ℕ) → getD (assignDef sheetJob sheetPalette (tileMemory (a ∷ c ∷ hint ∷ d ∷ []) (w ∷ x ∷ y ∷ z ∷ [])) .after .out) 2 0 ≡ 0

@@ -6,14 +6,14 @@ use mathlib.Core.Bool.{true, false}
 use mathlib.Core.Logic.{_≢_}
 use mathlib.Core.List.{List, [], _∷_}
 use lib.ListN.{length, getD, set}
-use lib.Ieee.{Float, inf, lt}
+use lib.Ieee.{Float, inf}
 use Rattle.cycle.specs.Cycle.{drawOne}
 use Rattle.color.specs.declared.Oklab.{Oklab}
 use Rattle.color.specs.Color.{sqdistOf, colourAt}
 use Rattle.color.specs.Blend.{nudged}
 use Rattle.stats.specs.declared.Near.{Near}
 use Rattle.job.specs.Job.{Job, nought, isEmpty}
-use Rattle.stats.specs.Least.{Least}
+use Rattle.stats.specs.Least.{Least, RunnerUp}
 use Rattle.palette.specs.Palette.{distAt}
 use Rattle.palette_edit.specs.Edits.{placeOf}
 use Rattle.palette_tile.specs.Tiles.{tileAt, presentIn, fitAt, winner, twoAt}
@@ -42,9 +42,13 @@ pub record Chosen (J : Job) (palette : List Float) (n have t : ℕ) : Type 0 whe
   -- the first of the best two is that one
   pub first : twoAt J palette n have t .index ≡ fitAt J palette n have t .index
   pub first-dist : twoAt J palette n have t .dist ≡ fitAt J palette n have t .dist
-  -- the second is the distance of another subpalette, and none of the others is less far
-  pub second : 2 ≤ n → (other : ℕ) × (other < n) × (other ≢ twoAt J palette n have t .index) × (twoAt J palette n have t .second ≡ distances J palette n have t other)
-  pub none-before-second : (j : ℕ) → j < n → j ≢ twoAt J palette n have t .index → lt (distances J palette n have t j) (twoAt J palette n have t .second) ≡ false
+  -- the next is, among the others, the lowest of least distance, and the second is that distance
+  pub next : 2 ≤ n → RunnerUp (distances J palette n have t) n (twoAt J palette n have t)
+  -- where there is no other it is the first itself, and the second is infinity
+  pub next-alone : n ≡ 1 → (twoAt J palette n have t .next ≡ twoAt J palette n have t .index) × (twoAt J palette n have t .second ≡ inf false)
+  -- where all distances are infinite the first is 0, and the next is 1 if there is such a subpalette
+  pub all-infinite : ((j : ℕ) → j < n → distances J palette n have t j ≡ inf false)
+      → (twoAt J palette n have t .index ≡ 0) × (2 ≤ n → twoAt J palette n have t .next ≡ 1)
 
 -- ---- the single fit, best_two and assign, where S subpalettes of C colours are present
 module _ (J : Job) (palette : List Float) where
@@ -63,11 +67,11 @@ module _ (J : Job) (palette : List Float) where
         → Chosen J palette (J .S) (J .C) 0
         × (pairDef J palette hints ≡ pairOutcome (pair.Best (twoAt J palette (J .S) (J .C) 0)) (set hints 0 (winner J palette (J .S) (J .C) 0)))
     pub any-hint : (h k : List ℕ) → length h ≡ length k → pairDef J palette h .answer ≡ pairDef J palette k .answer
-    -- an empty tile: 0, 0 and 0, or infinity where there is one subpalette
+    -- an empty tile: 0 at 0 and 1 at 0, or 0 at infinity where there is one subpalette
     pub empty-one : (hints : List ℕ) → oneAnswer J palette (length hints) ≡ 0 → isEmpty J 0 ≡ true → J .S ≡ 1
-        → pairDef J palette hints ≡ pairOutcome (pair.Best (record { index = 0; dist = nought; second = inf false })) (set hints 0 0)
+        → pairDef J palette hints ≡ pairOutcome (pair.Best (record { index = 0; dist = nought; next = 0; second = inf false })) (set hints 0 0)
     pub empty-many : (hints : List ℕ) → oneAnswer J palette (length hints) ≡ 0 → isEmpty J 0 ≡ true → 2 ≤ J .S
-        → pairDef J palette hints ≡ pairOutcome (pair.Best (record { index = 0; dist = nought; second = nought })) (set hints 0 0)
+        → pairDef J palette hints ≡ pairOutcome (pair.Best (record { index = 0; dist = nought; next = 1; second = nought })) (set hints 0 0)
 
   pub record Assign : Type 0 where
     -- each tile that is not empty gets its choice, whatever its hint was, and it becomes the hint

@@ -2,6 +2,7 @@
 // One byte past the largest sheet is enough to know that a sheet is too large. Assumes nothing.
 ghost use mathlib.Core.Path.{_≡_};
 ghost use lib.ListN.{length};
+ghost use Rattle.fit_text.specs.Fit.{mostText};
 
 // Room for the largest sheet and one byte more. The contract gives only the length.
 fn sheet_room() -> [u8; 65537]
@@ -11,10 +12,10 @@ fn sheet_room() -> [u8; 65537]
 }
 
 // Room for the lines of any sheet.
-fn text_room() -> [u8; 34060]
-    ensures { λ r. ⌜ 34060 ≡ length r ⌝ }
+fn text_room() -> [u8; fit_text::MOST_TEXT]
+    ensures { λ r. ⌜ mostText ≡ length r ⌝ }
 {
-    [0; 34060]
+    [0; fit_text::MOST_TEXT]
 }
 
 fn main() {

@@ -7,6 +7,7 @@ use lib.Dec.{ltb}
 use lib.ListN.{length}
 use lib.Seq.{sets}
 use Rattle.io.specs.Digits.{digits}
+use Rattle.fit_lines.specs.declared.Found.{Found}
 
 -- x stands in the places from `at` up to `next`, and all else as before
 pub record Stored (before after : List ℕ) (at next : ℕ) (x : List ℕ) : Type 0 where
@@ -41,6 +42,10 @@ subWord = 32 ∷ 115 ∷ 117 ∷ 98 ∷ 32 ∷ []
 abbrev pub distWord : List ℕ
 distWord = 32 ∷ 100 ∷ 105 ∷ 115 ∷ 116 ∷ 32 ∷ []
 
+-- " next "
+abbrev pub nextWord : List ℕ
+nextWord = 32 ∷ 110 ∷ 101 ∷ 120 ∷ 116 ∷ 32 ∷ []
+
 -- "load "
 abbrev pub loadWord : List ℕ
 loadWord = 108 ∷ 111 ∷ 97 ∷ 100 ∷ 32 ∷ []
@@ -65,12 +70,14 @@ headLine tiles subs =
     ++ (subpalettesWord ++ decimal subs)
     ++ lineEnd
 
--- "tile T sub S dist D", the distance's pattern in eight hexadecimal digits
-unfoldable pub tileLine : ℕ → ℕ → ℕ → List ℕ
-tileLine tile sub dist =
+-- "tile T sub S dist D next K", the distance's pattern in eight hexadecimal digits
+unfoldable pub tileLine : ℕ → Found → List ℕ
+tileLine tile found =
     tileWord ++ decimal tile
-    ++ (subWord ++ decimal sub)
-    ++ distWord ++ digits 16 8 dist ++ lineEnd
+    ++ (subWord ++ decimal (found .sub))
+    ++ distWord ++ digits 16 8 (found .dist)
+    ++ (nextWord ++ decimal (found .next))
+    ++ lineEnd
 
 -- "load S N"
 unfoldable pub loadLine : ℕ → ℕ → List ℕ

@@ -78,15 +78,23 @@ pub fn put_head(out: &mut [u8], at: usize, tiles: u32, subs: u32) -> usize
     put_word(out, b, b"\n")
 }
 
-pub fn put_tile(out: &mut [u8], at: usize, tile: u32, sub: u32, dist: u32) -> usize
-    requires { ⌜ at + 33 ≤ length (now out) ⌝ }
-    ensures { λ r. ⌜ Stored (now (out .entry)) (now (out .exit)) at r (tileLine tile sub dist) ⌝ }
+// What the line of a tile says: its subpalette, its distance as a pattern, and the next best subpalette.
+pub struct Found {
+    pub sub: u32,
+    pub dist: u32,
+    pub next: u32,
+}
+
+pub fn put_tile(out: &mut [u8], at: usize, tile: u32, found: Found) -> usize
+    requires { ⌜ at + 43 ≤ length (now out) ⌝ }
+    ensures { λ r. ⌜ Stored (now (out .entry)) (now (out .exit)) at r (tileLine tile found) ⌝ }
 {
     let a = put_field(out, at, b"tile ", tile);
-    let b = put_field(out, a, b" sub ", sub);
+    let b = put_field(out, a, b" sub ", found.sub);
     let c = put_word(out, b, b" dist ");
-    let d = put_digits(out, c, dist, 16, 8);
-    put_word(out, d, b"\n")
+    let d = put_digits(out, c, found.dist, 16, 8);
+    let e = put_field(out, d, b" next ", found.next);
+    put_word(out, e, b"\n")
 }
 
 pub fn put_load(out: &mut [u8], at: usize, sub: u32, n: u32) -> usize

@@ -3,6 +3,7 @@ use Prim.Native.Nat.{ℕ}
 use mathlib.Core.List.{List}
 use Rattle.format.specs.Format.{Answer}
 use Rattle.fit_tiles.specs.Text.{fitText}
+pub use Rattle.fit_tiles.specs.Text.{mostText}
 use Rattle.sheet_format.specs.Sheet.{Sheet, edition1, readSheet}
 use Rattle.sheet_parts.specs.Texts.{sheetText, Printed, printed, printedIn}
 
@@ -17,4 +18,4 @@ abbrev pub fitOutcome : ℕ → List ℕ → FitOutcome
 fitOutcome n h = printed n h
 
 abbrev pub fitDef : List ℕ → List ℕ → FitOutcome
-fitDef sheet found = printedIn 34060 (textOf (readSheet edition1 sheet)) found
+fitDef sheet found = printedIn mostText (textOf (readSheet edition1 sheet)) found

@@ -6,12 +6,12 @@ ghost use Prim.Native.Nat.{_≤_};
 ghost use lib.ListN.{length};
 ghost use Rattle.io.specs.Counts.{Counts};
 ghost use Rattle.fit_lines.specs.Lines.{Stored};
-ghost use Rattle.fit_tiles.specs.Text.{fitText};
+ghost use Rattle.fit_tiles.specs.Text.{fitText, mostText};
 ghost use Rattle.sheet_parts.specs.Front.{frontJob, frontPalette, Front};
 ghost use Rattle.fit_text.specs.Fit.{fitOutcome, fitDef};
 
 // The bytes that any sheet's lines take, at most.
-const MOST_TEXT: usize = 34060;
+pub const MOST_TEXT: usize = 44300;
 
 // The lines of the job in the first places of these slices.
 fn put_job(
@@ -22,10 +22,10 @@ fn put_job(
     palette: &[f32],
     out: &mut [u8],
 ) -> usize
-    requires { ⌜ Front z (now tiles) (now colours) (now counts) (now palette) × (34060 ≤ length (now out)) ⌝ }
+    requires { ⌜ Front z (now tiles) (now colours) (now counts) (now palette) × (mostText ≤ length (now out)) ⌝ }
     ensures { λ r. ⌜ Stored (now (out .entry)) (now (out .exit)) 0 r
         (fitText (frontJob z (now (tiles .entry)) (now (colours .entry)) (now (counts .entry))) (frontPalette z (now (palette .entry))))
-        × (r ≤ 34060) ⌝ }
+        × (r ≤ mostText) ⌝ }
 {
     let mut hints = sheet_parts::no_hints();
     let n = sheet_parts::colours_to(tiles, z.t);

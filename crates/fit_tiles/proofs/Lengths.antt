@@ -4,27 +4,30 @@ use native.Mathlib.Omega.{arith}
 use mathlib.Core.List.{List, _++_}
 use lib.ListN.{length, length-append}
 use lib.Ieee.{Float}
-use Rattle.assign_tiles.specs.Tiles.{subpaletteOf}
 use Rattle.job.specs.Job.{Job}
 use Rattle.io.specs.Digits.{digits}
-use Rattle.fit_lines.specs.Lines.{decimal, headLine, tileLine, loadLine, refusedLine, tilesWord, subpalettesWord, tileWord, subWord, distWord, loadWord, space, refusedWord, lineEnd}
+use Rattle.fit_lines.specs.declared.Found.{Found}
+use Rattle.fit_lines.specs.Lines.{decimal, headLine, tileLine, loadLine, refusedLine, tilesWord, subpalettesWord, tileWord, subWord, distWord, nextWord, loadWord, space, refusedWord, lineEnd}
 use Rattle.fit_lines.proofs.Lengths.{field-most, length-digits}
-use Rattle.fit_tiles.specs.Text.{distBits, tileLines, loadOf, loadLines, fitText}
+use Rattle.fit_tiles.specs.Text.{foundOf, tileLines, loadOf, loadLines, fitText, mostText}
 
-pub tile-most : (i k d : ℕ) → length (tileLine i k d) ≤ 33
+pub tile-most : (i : ℕ) (f : Found) → length (tileLine i f) ≤ 43
 unfolding tileLine
-tile-most i k d =
+tile-most i f =
     let a : List ℕ = tileWord ++ decimal i in
-    let b : List ℕ = subWord ++ decimal k in
+    let b : List ℕ = subWord ++ decimal (f .sub) in
+    let c : List ℕ = nextWord ++ decimal (f .next) in
     omega (
       arith,
-      length-append (a ++ b ++ distWord ++ digits 16 8 d) lineEnd,
-      length-append (a ++ b ++ distWord) (digits 16 8 d),
+      length-append (a ++ b ++ distWord ++ digits 16 8 (f .dist) ++ c) lineEnd,
+      length-append (a ++ b ++ distWord ++ digits 16 8 (f .dist)) c,
+      length-append (a ++ b ++ distWord) (digits 16 8 (f .dist)),
       length-append (a ++ b) distWord,
       length-append a b,
       field-most tileWord i,
-      field-most subWord k,
-      length-digits 16 8 d,
+      field-most subWord (f .sub),
+      length-digits 16 8 (f .dist),
+      field-most nextWord (f .next),
     )
 
 pub load-most : (k n : ℕ) → length (loadLine k n) ≤ 15
@@ -45,11 +48,11 @@ pub refused-most : (n : ℕ) → length (refusedLine n) ≤ 13
 unfolding refusedLine
 refused-most n = omega (arith, length-append (refusedWord ++ decimal n) lineEnd, field-most refusedWord n)
 
-pub tile-lines-most : (J : Job) (p : List Float) (n : ℕ) → length (tileLines J p n) ≤ 33 * n
+pub tile-lines-most : (J : Job) (p : List Float) (n : ℕ) → length (tileLines J p n) ≤ 43 * n
 unfolding tileLines
 tile-lines-most J p zero = omega arith
 tile-lines-most J p (suc n) =
-    omega (arith, length-append (tileLines J p n) (tileLine n (subpaletteOf J p n) (distBits J p n)), tile-most n (subpaletteOf J p n) (distBits J p n), tile-lines-most J p n)
+    omega (arith, length-append (tileLines J p n) (tileLine n (foundOf J p n)), tile-most n (foundOf J p n), tile-lines-most J p n)
 
 loads-most : (f : ℕ → ℕ) (n : ℕ) → length (loadLines f n) ≤ 15 * n
 unfolding loadLines
@@ -57,7 +60,7 @@ loads-most f zero = omega arith
 loads-most f (suc n) = omega (arith, length-append (loadLines f n) (loadLine n (f n)), load-most n (f n), loads-most f n)
 
 -- what any job's lines take, at most
-pub fit-most : (J : Job) (p : List Float) → J .T ≤ 1024 → J .S ≤ 16 → length (fitText J p) ≤ 34060
+pub fit-most : (J : Job) (p : List Float) → J .T ≤ 1024 → J .S ≤ 16 → length (fitText J p) ≤ mostText
 unfolding fitText
 fit-most J p t s =
     let f : ℕ → ℕ = λ k. loadOf J p k (J .T) in

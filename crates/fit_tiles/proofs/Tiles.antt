@@ -1,5 +1,5 @@
 -- One tile more: its line, its load, and its answer where it is empty and where it is not. Assumes nothing.
-use mathlib.Core.Path.{_≡_, refl, sym, ap, ap₂, _∙_}
+use mathlib.Core.Path.{_≡_, refl, sym, ap, ap₂, subst, subst⁻¹, _∙_}
 use Prim.Native.Nat.{ℕ, zero, suc, _+_, _≤_, _<_}
 use native.Mathlib.Omega.{arith}
 use native.Mathlib.Numerals.{add-one}
@@ -16,15 +16,19 @@ use Rattle.lists.specs.Firsts.{firsts, hits}
 use Rattle.lists.proofs.Hits.{hits-suc}
 use Rattle.ieee.proofs.Plus.{plus-real}
 use Rattle.assign_tiles.specs.Tiles.{subpaletteOf}
+use Rattle.stats.specs.declared.Near.{Near}
+use Rattle.stats.specs.declared.Two.{Two}
 use Rattle.stats.proofs.Scan.{least-good}
+use Rattle.stats.proofs.BestTwo.{firstOf}
 use Rattle.job.specs.Job.{Job, sizeOf, isEmpty}
 use Rattle.palette.specs.Palette.{distAt}
 use Rattle.palette.proofs.Sums.{dist-good}
-use Rattle.palette_tile.specs.Tiles.{tileAt, presentIn, fitAt, winner, Shown}
-use Rattle.palette_tile.proofs.Present.{shown-present, winner-below, tile-counted}
+use Rattle.palette_tile.specs.Tiles.{tileAt, presentIn, fitAt, winner, twoAt, Shown}
+use Rattle.palette_tile.proofs.Present.{first-of-two, shown-present, winner-below, tile-counted}
+use Rattle.fit_lines.specs.declared.Found.{Found}
 use Rattle.fit_lines.specs.Lines.{Stored, tileLine, loadLine, headLine}
 use Rattle.fit_lines.proofs.Stores.{both-stored}
-use Rattle.fit_tiles.specs.Text.{distBits, tileLines, loadOf, loadLines, fitText}
+use Rattle.fit_tiles.specs.Text.{distBits, nextSub, foundOf, tileLines, loadOf, loadLines, fitText}
 
 pub not-empty : (n : ℕ) (r : Bool) → r ≡ eqb n 0 → r ≡ false → 1 ≤ n
 not-empty zero r e h = absurd (true≢false (sym e ∙ h))
@@ -36,28 +40,45 @@ hit-most true = omega arith
 hit-most false = omega arith
 
 module _ (J : Job) (p : List Float) where
-  -- ---- the answer of a tile
-  pub empty-sub : (t : ℕ) (r : Bool) → r ≡ eqb (sizeOf (J .tiles) t) 0 → r ≡ true → (0 ≡ subpaletteOf J p t) × (0 ≡ distBits J p t)
-  unfolding subpaletteOf distBits
-  empty-sub t r e h = (
-    sym (ap (λ (b : Bool). cond b 0 (winner J p (J .S) (J .C) t)) (sym e ∙ h)),
-    sym (ap (λ (b : Bool). cond b 0 (toBits binary32 (fitAt J p (J .S) (J .C) t .dist))) (sym e ∙ h)),
-  )
+  -- ---- what a tile's line says
+  pub empty-found : (t : ℕ) (r : Bool) → r ≡ eqb (sizeOf (J .tiles) t) 0 → r ≡ true → record { sub = 0; dist = 0; next = 0 } ≡ foundOf J p t
+  unfolding subpaletteOf distBits nextSub
+  empty-found t r e h = by (isEmpty J t) (sym e ∙ h)
+    where
+      by : (b : Bool) → b ≡ true
+          → _≡_ {A = Found} (record { sub = 0; dist = 0; next = 0 })
+          (record { sub = cond b 0 (winner J p (J .S) (J .C) t); dist = cond b 0 (toBits binary32 (fitAt J p (J .S) (J .C) t .dist)); next = cond b 0 (twoAt J p (J .S) (J .C) t .next) })
+      by true q = refl
+      by false q = absurd (true≢false (sym q))
 
-  pub full-sub : (t : ℕ) (r : Bool) (k : ℕ) (d : Float) → r ≡ eqb (sizeOf (J .tiles) t) 0 → r ≡ false → k ≡ fitAt J p (J .S) (J .C) t .index → d ≡ fitAt J p (J .S) (J .C) t .dist
-      → (k ≡ subpaletteOf J p t) × (toBits binary32 d ≡ distBits J p t)
-  unfolding subpaletteOf distBits
-  full-sub t r k d e h ek ed = (
-    ek ∙ sym (ap (λ (b : Bool). cond b 0 (winner J p (J .S) (J .C) t)) (sym e ∙ h)),
-    ap (toBits binary32) ed ∙ sym (ap (λ (b : Bool). cond b 0 (toBits binary32 (fitAt J p (J .S) (J .C) t .dist))) (sym e ∙ h)),
-  )
+  two-fit : (t : ℕ) (b : Two) → b ≡ twoAt J p (J .S) (J .C) t → firstOf b ≡ fitAt J p (J .S) (J .C) t
+  two-fit t b e = ap firstOf e ∙ first-of-two J p (J .S) (J .C) t
+
+  pub full-found : (t : ℕ) (r : Bool) (b : Two) → r ≡ eqb (sizeOf (J .tiles) t) 0 → r ≡ false → b ≡ twoAt J p (J .S) (J .C) t
+      → record { sub = b .index; dist = toBits binary32 (b .dist); next = b .next } ≡ foundOf J p t
+  unfolding subpaletteOf distBits nextSub
+  full-found t r b e h q = by (isEmpty J t) (sym e ∙ h)
+    where
+      first : firstOf b ≡ fitAt J p (J .S) (J .C) t
+      first = two-fit t b q
+
+      by : (z : Bool) → z ≡ false
+          → _≡_ {A = Found} (record { sub = b .index; dist = toBits binary32 (b .dist); next = b .next })
+          (record { sub = cond z 0 (winner J p (J .S) (J .C) t); dist = cond z 0 (toBits binary32 (fitAt J p (J .S) (J .C) t .dist)); next = cond z 0 (twoAt J p (J .S) (J .C) t .next) })
+      by true k = absurd (true≢false k)
+      by false k =
+          ap (λ (x : Near). record { sub = x .index; dist = toBits binary32 (x .dist); next = b .next }) first
+          ∙ ap (λ (x : Two). record { sub = winner J p (J .S) (J .C) t; dist = toBits binary32 (fitAt J p (J .S) (J .C) t .dist); next = x .next }) q
 
   module _ (S : Shown J p (J .S) (J .C)) where
-    pub dist-real : (t : ℕ) → t < J .T → T (not (isNan (fitAt J p (J .S) (J .C) t .dist)))
+    fit-real : (t : ℕ) → t < J .T → T (not (isNan (fitAt J p (J .S) (J .C) t .dist)))
     unfolding fitAt
-    dist-real t l =
+    fit-real t l =
         plus-real _ (least-good (distAt (presentIn J p (J .S) (J .C)) (tileAt J t) (J .weight)) (J .S)
         (dist-good (presentIn J p (J .S) (J .C)) (tileAt J t) (J .weight) (shown-present J p (J .S) (J .C) S) (tile-counted J p (J .S) (J .C) S t l) (S .ready .weight)) .pos)
+
+    pub dist-real : (t : ℕ) → t < J .T → (b : Two) → b ≡ twoAt J p (J .S) (J .C) t → T (not (isNan (b .dist)))
+    dist-real t l b e = subst⁻¹ (λ (x : Near). T (not (isNan (x .dist)))) (two-fit t b e) (fit-real t l)
 
     pub sub-below : (t : ℕ) → subpaletteOf J p t < J .S
     unfolding subpaletteOf
@@ -72,15 +93,11 @@ module _ (J : Job) (p : List Float) where
   unfolding tileLines
   lines-none l at = record { text = refl; place = omega arith }
 
-  pub lines-more : (l m n : List ℕ) (at q r i k d : ℕ) → Stored l m at q (tileLines J p i) → Stored m n q r (tileLine i k d) → k ≡ subpaletteOf J p i → d ≡ distBits J p i → Stored l n at r (tileLines J p (i + 1))
+  pub lines-more : (l m n : List ℕ) (at q r i : ℕ) (f : Found) → Stored l m at q (tileLines J p i) → Stored m n q r (tileLine i f) → f ≡ foundOf J p i → Stored l n at r (tileLines J p (i + 1))
   unfolding tileLines
-  lines-more l m n at q r i k d a b ek ed =
-      for-any (i + 1) (add-one i) (both-stored a (over b))
+  lines-more l m n at q r i f a b e = for-any (i + 1) (add-one i) (both-stored a (subst (λ (x : Found). Stored m n q r (tileLine i x)) e b))
     where
-      over : Stored m n q r (tileLine i k d) → Stored m n q r (tileLine i (subpaletteOf J p i) (distBits J p i))
-      over s = record { text = s .text ∙ ap₂ (λ (x y : ℕ). sets m q (tileLine i x y)) ek ed; place = s .place ∙ ap₂ (λ (x y : ℕ). q + length (tileLine i x y)) ek ed }
-
-      for-any : (j : ℕ) → j ≡ suc i → Stored l n at r (tileLines J p i ++ tileLine i (subpaletteOf J p i) (distBits J p i)) → Stored l n at r (tileLines J p j)
+      for-any : (j : ℕ) → j ≡ suc i → Stored l n at r (tileLines J p i ++ tileLine i (foundOf J p i)) → Stored l n at r (tileLines J p j)
       for-any j e s = record { text = s .text ∙ ap (λ (x : ℕ). sets l at (tileLines J p x)) (sym e); place = s .place ∙ ap (λ (x : ℕ). at + length (tileLines J p x)) (sym e) }
 
   -- ---- loads

@@ -1,14 +1,14 @@
 // The lines that `fit` prints for a job and a palette: the sizes, each tile's fit and each subpalette's load.
 // Assumes nothing.
+use fit_lines::Found;
 use job::Sizes;
 ghost use mathlib.Core.Path.{_≡_};
 ghost use Prim.Native.Nat.{_+_, _<_, ℕ, _*_, _≤_};
 ghost use lib.ListN.{length, getD, set};
-ghost use Rattle.assign_tiles.specs.Tiles.{subpaletteOf};
 ghost use Rattle.fit_lines.specs.Lines.{Stored};
 ghost use Rattle.job.specs.Job.{jobOf};
 ghost use Rattle.palette_tile.specs.Tiles.{Shown, Paired};
-ghost use Rattle.fit_tiles.specs.Text.{distBits, tileLines, loadLines, loadOf, fitText};
+ghost use Rattle.fit_tiles.specs.Text.{foundOf, tileLines, loadLines, loadOf, fitText, mostText};
 
 // The load of subpalette `sub` with one tile more.
 fn count_tile(loads: &mut [u32], sub: u32)
@@ -19,13 +19,7 @@ fn count_tile(loads: &mut [u32], sub: u32)
     loads[k] += 1;
 }
 
-// A tile's subpalette, and its distance as a pattern.
-pub struct Found {
-    pub sub: u32,
-    pub bits: u32,
-}
-
-// Tile i: an empty one has subpalette 0 and distance 0.
+// Tile i: an empty one has subpalette 0, distance 0 and next 0.
 fn tile_found(
     z: Sizes,
     tiles: &[u32],
@@ -36,16 +30,20 @@ fn tile_found(
     i: usize,
 ) -> Found
     requires { ⌜ Paired (jobOf z (now tiles) (now colours) (now counts)) (now palette) (z .s) (z .c) (now hints) i ⌝ }
-    ensures { λ r. ⌜ (r .sub ≡ subpaletteOf (jobOf z (now (tiles .entry)) (now (colours .entry)) (now (counts .entry))) (now (palette .entry)) i)
-        × (r .bits ≡ distBits (jobOf z (now (tiles .entry)) (now (colours .entry)) (now (counts .entry))) (now (palette .entry)) i) ⌝ }
+    ensures { λ r. ⌜ r ≡ foundOf (jobOf z (now (tiles .entry)) (now (colours .entry)) (now (counts .entry))) (now (palette .entry)) i ⌝ }
 {
     if job::is_empty(tiles, i) {
-        return Found { sub: 0, bits: 0 };
+        return Found {
+            sub: 0,
+            dist: 0,
+            next: 0,
+        };
     }
-    let best = palette_tile::tile_fit(z, tiles, colours, counts, palette, z.s, z.c, hints, i);
+    let best = palette_tile::tile_two(z, tiles, colours, counts, palette, z.s, z.c, hints, i);
     let sub = best.index as u32;
-    let bits = f32::to_bits(best.dist);
-    Found { sub, bits }
+    let dist = f32::to_bits(best.dist);
+    let next = best.next as u32;
+    Found { sub, dist, next }
 }
 
 // A line for each tile, and how many tiles each subpalette has.
@@ -61,7 +59,7 @@ fn put_tiles(
     at: usize,
 ) -> usize
     requires { ⌜ Shown (jobOf z (now tiles) (now colours) (now counts)) (now palette) (z .s) (z .c) × (length (now hints) ≡ z .t)
-        × (z .s ≤ length (now loads)) × ((k : ℕ) → getD (now loads) k 0 ≡ 0) × (at + 33 * z .t ≤ length (now out)) ⌝ }
+        × (z .s ≤ length (now loads)) × ((k : ℕ) → getD (now loads) k 0 ≡ 0) × (at + 43 * z .t ≤ length (now out)) ⌝ }
     ensures { λ r. ⌜ Stored (now (out .entry)) (now (out .exit)) at r (tileLines (jobOf z (now (tiles .entry)) (now (colours .entry)) (now (counts .entry))) (now (palette .entry)) (z .t))
         × ((k : ℕ) → getD (now (loads .exit)) k 0 ≡ loadOf (jobOf z (now (tiles .entry)) (now (colours .entry)) (now (counts .entry))) (now (palette .entry)) k (z .t)) ⌝ }
 {
@@ -69,7 +67,7 @@ fn put_tiles(
     let mut i = 0;
     while i < z.t {
         let found = tile_found(z, tiles, colours, counts, palette, hints, i);
-        q = fit_lines::put_tile(out, q, i as u32, found.sub, found.bits);
+        q = fit_lines::put_tile(out, q, i as u32, found);
         count_tile(loads, found.sub);
         i += 1;
     }
@@ -100,7 +98,7 @@ pub fn put_fit(
     hints: &mut [u32],
     out: &mut [u8],
 ) -> usize
-    requires { ⌜ Shown (jobOf z (now tiles) (now colours) (now counts)) (now palette) (z .s) (z .c) × (length (now hints) ≡ z .t) × (34060 ≤ length (now out)) ⌝ }
+    requires { ⌜ Shown (jobOf z (now tiles) (now colours) (now counts)) (now palette) (z .s) (z .c) × (length (now hints) ≡ z .t) × (mostText ≤ length (now out)) ⌝ }
     ensures { λ r. ⌜ Stored (now (out .entry)) (now (out .exit)) 0 r (fitText (jobOf z (now (tiles .entry)) (now (colours .entry)) (now (counts .entry))) (now (palette .entry))) ⌝ }
 {
     let mut loads = [0u32; 16];

@@ -6,7 +6,7 @@ pub enum Single {
     Refused(u32),
 }
 
-// The best subpalette, its distance and the second smallest, or the number of the refusal.
+// The best subpalette and the next best, each with its distance, or the number of the refusal.
 pub enum Pair {
     Best(stats::Two),
     Refused(u32),

@@ -1,4 +1,4 @@
--- `best_two` of an empty tile: subpalette 0 at distance 0, and 0 for the second or infinity where there is one subpalette; its hint becomes 0. Assumes nothing.
+-- `best_two` of an empty tile: subpalette 0 at distance 0, and next 1 at 0, or 0 at infinity where there is one subpalette; its hint becomes 0. Assumes nothing.
 use Prim.Native.Nat.{ℕ, _≤_}
 use mathlib.Core.Path.{_≡_, _∙_}
 use mathlib.Core.Bool.{true, false}
@@ -25,10 +25,10 @@ module _ (J : Job) (palette : List Float) (hints : List ℕ) (z : oneAnswer J pa
   unfolding pairDef
   answered best f = rw (eq-eqb (oneAnswer J palette (length hints)) 0 z, f)
 
-  pub empty-one : J .S ≡ 1 → pairDef J palette hints ≡ pairOutcome (Both (record { index = 0; dist = ofBits binary32 0; second = inf false })) (set hints 0 0)
+  pub empty-one : J .S ≡ 1 → pairDef J palette hints ≡ pairOutcome (Both (record { index = 0; dist = ofBits binary32 0; next = 0; second = inf false })) (set hints 0 0)
   unfolding twoAt
-  empty-one s = answered (record { index = 0; dist = ofBits binary32 0; second = inf false }) (empty-alone (presentIn J palette (J .S) (J .C)) (tileAt J 0) (J .weight) no-counts s)
+  empty-one s = answered (record { index = 0; dist = ofBits binary32 0; next = 0; second = inf false }) (empty-alone (presentIn J palette (J .S) (J .C)) (tileAt J 0) (J .weight) no-counts s)
 
-  pub empty-many : 2 ≤ J .S → pairDef J palette hints ≡ pairOutcome (Both (record { index = 0; dist = ofBits binary32 0; second = ofBits binary32 0 })) (set hints 0 0)
+  pub empty-many : 2 ≤ J .S → pairDef J palette hints ≡ pairOutcome (Both (record { index = 0; dist = ofBits binary32 0; next = 1; second = ofBits binary32 0 })) (set hints 0 0)
   unfolding twoAt
-  empty-many s = answered (record { index = 0; dist = ofBits binary32 0; second = ofBits binary32 0 }) (empty-among (presentIn J palette (J .S) (J .C)) (tileAt J 0) (J .weight) no-counts s)
+  empty-many s = answered (record { index = 0; dist = ofBits binary32 0; next = 1; second = ofBits binary32 0 }) (empty-among (presentIn J palette (J .S) (J .C)) (tileAt J 0) (J .weight) no-counts s)

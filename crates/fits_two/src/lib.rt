@@ -6,8 +6,8 @@ ghost use Rattle.job.specs.Job.{jobOf};
 ghost use Rattle.fits_outcome.specs.Pairs.{pairOutcome, pairDef};
 use fits_outcome::Pair;
 
-// The subpalette that fits the one tile of a job best, its distance and the second smallest, infinity where there is none; its hint then
-// names it. An empty tile is answered: 0, 0 and 0, infinity if s is 1.
+// The subpalette that fits the one tile of a job best and its distance, and the next best with its own, the best itself and infinity where
+// there is none; its hint then names the best. An empty tile is answered: 0 at 0, and 1 at 0, or 0 at infinity if s is 1.
 pub fn best_two(
     z: Sizes,
     tiles: &[u32],

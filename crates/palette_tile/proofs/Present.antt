@@ -14,11 +14,16 @@ use Rattle.color.proofs.Sizes.{bounded-finite, nth-sized}
 use Rattle.job.specs.Job.{Job, sizeOf, tileOf}
 use Rattle.job.proofs.Tiles.{tile-length, tile-three, tile-bounded, tile-finite}
 use Rattle.stats.proofs.Scan.{least-below}
-use Rattle.stats.proofs.BestTwo.{two-below}
+use Rattle.stats.proofs.BestTwo.{firstOf, two-first, two-below, next-below as two-next-below}
 use Rattle.palette.specs.Palette.{subOf, nearestOf, distAt, Present, Counted, Fits, Hinted}
 use Rattle.palette.proofs.Parts.{sub-room, sub-length, sub-colours, sub-bounded}
 use Rattle.palette.proofs.Near.{nearest-below, nearest-within}
 use Rattle.palette_tile.specs.Tiles.{tileAt, presentIn, fitAt, winner, twoAt, Shown}
+
+-- the first of the best two is the best fit
+pub first-of-two : (J : Job) (pal : List Float) (n have t : ℕ) → firstOf (twoAt J pal n have t) ≡ fitAt J pal n have t
+unfolding twoAt fitAt
+first-of-two J pal n have t = two-first (distAt (presentIn J pal n have) (tileAt J t) (J .weight)) n
 
 module _ (J : Job) (pal : List Float) (n have : ℕ) (S : Shown J pal n have) where
   pub shown-present : Present (presentIn J pal n have)
@@ -36,6 +41,10 @@ module _ (J : Job) (pal : List Float) (n have : ℕ) (S : Shown J pal n have) wh
   pub pair-below : (t : ℕ) → twoAt J pal n have t .index < n
   unfolding twoAt
   pair-below t = two-below (distAt (presentIn J pal n have) (tileAt J t) (J .weight)) n (S .subs)
+
+  pub next-below : (t : ℕ) → twoAt J pal n have t .next < n
+  unfolding twoAt
+  next-below t = two-next-below (distAt (presentIn J pal n have) (tileAt J t) (J .weight)) n (S .subs)
 
   -- ---- subpalette i
   module _ (i : ℕ) (l : i < n) where

@@ -6,7 +6,7 @@ ghost use Rattle.palette_two.specs.PaletteTwo.{bestTwo};
 use palette_distance::Within;
 use stats::Two;
 
-// Index and distance of the subpalette that fits a tile best, and the distance of the second. The search starts at the hint.
+// Indexes and distances of the subpalette that fits a tile best and of the next best. The search starts at the hint.
 pub fn best_two_from(
     pal: &[f32],
     c: usize,
@@ -24,13 +24,14 @@ pub fn best_two_from(
     let mut b = Two {
         index: hint,
         dist: first,
+        next: hint,
         second: 1.0 / 0.0,
     };
     for i in 0..n {
         if i == hint {
             continue;
         }
-        // Anything over the runner-up can't change the outcome.
+        // Anything over the runner-up can't change the outcome; a lower index at its distance can.
         let sub = palette::part(pal, c, have, i);
         let Within::Sum(d) = palette_distance::distance_within(sub, tile, counts, w, b.second)
         else {

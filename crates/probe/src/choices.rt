@@ -14,11 +14,12 @@ pub extern "C" fn probe_narrow(x: f64) -> f32
     ieee_narrow::narrow(x)
 }
 
-// One value more, d at index i: `dist` and `second` hold the values so far, then those with it.
+// One value more, d at index i: `dist`, `next` and `second` hold the least two so far, then those with it.
 #[no_mangle]
 pub extern "C" fn probe_smallest_two(
     index: usize,
     dist: &mut f32,
+    next: &mut usize,
     second: &mut f32,
     i: usize,
     d: f32,
@@ -26,12 +27,35 @@ pub extern "C" fn probe_smallest_two(
     let so_far = Two {
         index,
         dist: *dist,
+        next: *next,
         second: *second,
     };
     let two = stats::smallest_two(so_far, i, d);
     *dist = two.dist;
+    *next = two.next;
     *second = two.second;
     two.index
+}
+
+// The next of n values, where the walk over them left these.
+#[no_mangle]
+pub extern "C" fn probe_with_other(
+    index: usize,
+    dist: f32,
+    next: usize,
+    second: f32,
+    n: usize,
+) -> usize {
+    let two = stats::with_other(
+        Two {
+            index,
+            dist,
+            next,
+            second,
+        },
+        n,
+    );
+    two.next
 }
 
 #[no_mangle]

@@ -41,6 +41,7 @@ pub extern "C" fn probe_public_best_two(
     hints: &mut [u32],
     index: &mut usize,
     dist: &mut f32,
+    next: &mut usize,
     second: &mut f32,
 ) -> u32 {
     let z = job::sizes_of(s, c, t, 0, weight);
@@ -48,6 +49,7 @@ pub extern "C" fn probe_public_best_two(
         Pair::Best(two) => {
             *index = two.index;
             *dist = two.dist;
+            *next = two.next;
             *second = two.second;
             0
         }

@@ -53,10 +53,12 @@ pub extern "C" fn probe_nearest_two(
     b: f32,
     weight: f32,
     dist: &mut f32,
+    next: &mut usize,
     second: &mut f32,
 ) -> usize {
     let two = palette_two::nearest_two(sub, Oklab { l, a, b }, weight);
     *dist = two.dist;
+    *next = two.next;
     *second = two.second;
     two.index
 }
@@ -73,12 +75,14 @@ pub extern "C" fn probe_best_two(
     hints: &mut [u32],
     t: usize,
     dist: &mut f32,
+    next: &mut usize,
     second: &mut f32,
 ) -> usize
     requires { ⌜ Fits (paletteWith (now pal) c have n) (tileWith (now tile) (now counts)) weight × Hinted n (now hints) t ⌝ }
 {
     let two = palette_hint::best_two(pal, c, have, n, tile, counts, weight, hints, t);
     *dist = two.dist;
+    *next = two.next;
     *second = two.second;
     two.index
 }
@@ -105,10 +109,12 @@ pub extern "C" fn probe_view_nearest_two(
     b: f32,
     weight: f32,
     dist: &mut f32,
+    next: &mut usize,
     second: &mut f32,
 ) -> usize {
     let two = palette_view::nearest_two_in(sub, Oklab { l, a, b }, weight);
     *dist = two.dist;
+    *next = two.next;
     *second = two.second;
     two.index
 }

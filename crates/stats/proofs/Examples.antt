@@ -3,7 +3,7 @@ use mathlib.Core.Path.{_≡_, refl}
 use mathlib.Core.Bool.{false}
 use mathlib.Core.List.{[], _∷_}
 use lib.Ieee.{Float, inf, binary32, ofBits, lt}
-use Rattle.stats.specs.Stats.{valueAt, leastTwo, nextOf}
+use Rattle.stats.specs.Stats.{valueAt, scanTwo, leastTwo}
 
 abbrev one : Float
 one = ofBits binary32 0x3f80_0000
@@ -14,19 +14,15 @@ two = ofBits binary32 0x4000_0000
 abbrev five : Float
 five = ofBits binary32 0x40a0_0000
 
-pub smallest-two-of-2-1-1 : leastTwo (valueAt (two ∷ one ∷ one ∷ [])) 3 ≡ record { index = 1; dist = one; second = one }
-unfolding leastTwo ofBits lt
+pub smallest-two-of-2-1-1 : leastTwo (valueAt (two ∷ one ∷ one ∷ [])) 3 ≡ record { index = 1; dist = one; next = 2; second = one }
+unfolding leastTwo scanTwo ofBits lt
 smallest-two-of-2-1-1 = refl
 
-pub smallest-two-of-5 : leastTwo (valueAt (five ∷ [])) 1 ≡ record { index = 0; dist = five; second = inf false }
-unfolding leastTwo ofBits lt
+pub smallest-two-of-5 : leastTwo (valueAt (five ∷ [])) 1 ≡ record { index = 0; dist = five; next = 0; second = inf false }
+unfolding leastTwo scanTwo ofBits lt
 smallest-two-of-5 = refl
 
--- the runner-up's index of the first, and of values that are all infinite
-pub next-of-2-1-1 : nextOf (valueAt (two ∷ one ∷ one ∷ [])) 3 ≡ 2
-unfolding nextOf ofBits lt
-next-of-2-1-1 = refl
-
-pub next-of-infinities : nextOf (valueAt (inf false ∷ inf false ∷ inf false ∷ [])) 3 ≡ 1
-unfolding nextOf lt
-next-of-infinities = refl
+-- values that are all infinite
+pub smallest-two-of-infinities : leastTwo (valueAt (inf false ∷ inf false ∷ inf false ∷ [])) 3 ≡ record { index = 0; dist = inf false; next = 1; second = inf false }
+unfolding leastTwo scanTwo lt
+smallest-two-of-infinities = refl

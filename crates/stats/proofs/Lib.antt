@@ -6,3 +6,5 @@ pub mod Leading
 pub mod Scan
 pub mod Runner
 pub mod Lesser
+pub mod Next
+pub mod Level

@@ -62,6 +62,10 @@ module _ (d : ℕ → Float) (n : ℕ) where
       both : (i j : ℕ) (x y : Float) → i ≡ j → x ≡ y → _≡_ {A = Near} (record { index = i; dist = x }) (record { index = j; dist = y })
       both i j x y p q = cc
 
+-- only infinity is not below infinity
+pub is-inf : (x : Float) → Good binary32 x → lt x (inf false) ≡ false → x ≡ inf false
+is-inf x g t = key-unique binary32 x (inf false) g (inf-good binary32) (le-antisymm (key-top binary32 x (g .fit)) (lt-no x (inf false) g (inf-good binary32) t))
+
 -- ---- the scan
 module _ (d : ℕ → Float) where
   -- the distance before which the scan has seen nothing
@@ -87,7 +91,7 @@ module _ (d : ℕ → Float) where
       by true p = own
       by false p =
           subst (λ (x : Float). Least d 1 (record { index = 0; dist = x }))
-          (key-unique binary32 (d 0) (inf false) g (inf-good binary32) (le-antisymm (key-top binary32 (d 0) (g .fit)) (lt-no (d 0) (inf false) g (inf-good binary32) p)))
+          (is-inf (d 0) g p)
           own
 
   module _ (m : ℕ) (b : Near) (g : (j : ℕ) → j < suc m → Good binary32 (d j)) (a : Least d m b) where

@@ -1,7 +1,7 @@
 // Selection helpers: the least and the least two of any values. Each function gives what its definition in specs/Stats.antt says.
 // The choice of the least from any hint is laws only, over any distance on indexes. Assumes nothing.
 ghost use mathlib.Core.Path.{_≡_};
-ghost use Rattle.stats.specs.Stats.{stepNear, stepTwo};
+ghost use Rattle.stats.specs.Stats.{stepNear, stepTwo, withOther};
 
 // Index and value of the smallest.
 pub struct Near {
@@ -9,10 +9,11 @@ pub struct Near {
     pub dist: f32,
 }
 
-// Index and values of the smallest and second smallest.
+// Indexes and values of the smallest and of the second smallest, `next` at `second`; `next` is `index` where there is no other.
 pub struct Two {
     pub index: usize,
     pub dist: f32,
+    pub next: usize,
     pub second: f32,
 }
 
@@ -36,15 +37,33 @@ pub fn smallest_two(b: Two, i: usize, d: f32) -> Two
         Two {
             index: i,
             dist: d,
+            next: b.index,
             second: b.dist,
         }
     } else if d < b.second {
         Two {
             index: b.index,
             dist: b.dist,
+            next: i,
             second: d,
         }
     } else {
         b
     }
+}
+
+// The smallest two of n values, all of which b has seen: where it met no other below infinity, the first other is next. After the walk and
+// not in it: a third test there keeps the compiler from lanes.
+pub fn with_other(b: Two, n: usize) -> Two
+    ensures { λ r. ⌜ r ≡ withOther n b ⌝ }
+{
+    if b.next == b.index && n > 1 {
+        return Two {
+            index: b.index,
+            dist: b.dist,
+            next: 1,
+            second: b.second,
+        };
+    }
+    b
 }

@@ -5,6 +5,7 @@ use mathlib.Core.List.{List}
 use native.Mathlib.Omega.{arith}
 use lib.ListN.{length, getD}
 use Rattle.job.specs.Job.{Job, jobOf}
+use Rattle.fit_lines.specs.declared.Found.{Found}
 use Rattle.fit_lines.specs.Lines.{Stored}
 use Rattle.fit_tiles.specs.Text.{tileLines, loadOf}
 use Rattle.fit_tiles.proofs.Lengths.{tile-most}
@@ -14,7 +15,7 @@ use Rattle.fit_tiles.proofs.put_tiles.Tie as tie
 
 abbrev Inv-loop : tie.InvT-loop
 Inv-loop z tiles colours counts palette hints₀ loads₀ out₀ at q₀ i₀ hints loads out q i =
-    (i ≤ z .t) × (length hints ≡ z .t) × (length loads ≡ length loads₀) × (length out ≡ length out₀) × (q ≤ at + 33 * i)
+    (i ≤ z .t) × (length hints ≡ z .t) × (length loads ≡ length loads₀) × (length out ≡ length out₀) × (q ≤ at + 43 * i)
     × Stored out₀ out at q (tileLines (jobOf z tiles colours counts) palette i) × ((k : ℕ) → getD loads k 0 ≡ loadOf (jobOf z tiles colours counts) palette k i)
 
 abbrev μ-loop : tie.MeasureT-loop
@@ -53,7 +54,7 @@ count-tile-requires c κs =
     let f = c .before .before .before .before .before .before .before in let l = f .before .before .before .before in
     let lent = l .before .before .before .before .before .before .before in let start = lent .before in let turn = l .loop in let a = start .args in
     let J : Job = jobOf (a .z) (a .tiles .now) (a .colours .now) (a .counts .now) in (
-      omega (arith, f .tile-found .ensures .0, sub-below J (a .palette .now) (start .pre .0) (turn .i)),
+      omega (arith, ap (λ (x : Found). x .sub) (f .tile-found .ensures), sub-below J (a .palette .now) (start .pre .0) (turn .i)),
       omega (arith, turn .inv .6 (f .tile-found .result .sub), load-few J (a .palette .now) (f .tile-found .result .sub) (turn .i), start .pre .0 .ready .sizes .tiles),
     )
 
@@ -69,18 +70,16 @@ loop-again c =
     let l = f .before .before .before .before in let lent = l .before .before .before .before .before .before .before in let start = lent .before in
     let turn = l .loop in let a = start .args in
     let J : Job = jobOf (a .z) (a .tiles .now) (a .colours .now) (a .counts .now) in
-    let k = f .tile-found .result .sub in
-    let room = tile-most (turn .i) k (f .tile-found .result .bits) in (
+    let found = f .tile-found .result in let its = f .tile-found .ensures in let sub = ap (λ (x : Found). x .sub) its in
+    let room = tile-most (turn .i) found in (
       omega arith,
       f .tile-found .kept .1 .1 .1 .1 .1 .0 ∙ turn .inv .1,
       n .count-tile .kept .0 ∙ turn .inv .2,
       p .put-tile .kept .0 ∙ turn .inv .3,
       omega (arith, p .put-tile .ensures .place),
-      lines-more J (a .palette .now) (a .out .now) (turn .out) (p .put-tile .last .0) (a .at) (turn .q) (p .put-tile .result) (turn .i) k (f .tile-found .result .bits)
-          (turn .inv .5) (p .put-tile .ensures) (f .tile-found .ensures .0) (f .tile-found .ensures .1),
+      lines-more J (a .palette .now) (a .out .now) (turn .out) (p .put-tile .last .0) (a .at) (turn .q) (p .put-tile .result) (turn .i) found (turn .inv .5) (p .put-tile .ensures) its,
       λ j. ap (λ (x : List ℕ). getD x j 0) (n .count-tile .ensures)
-          ∙ load-more J (a .palette .now) (turn .loads) (turn .i) k (f .tile-found .ensures .0)
-          (omega (arith, f .tile-found .ensures .0, sub-below J (a .palette .now) (start .pre .0) (turn .i))) (turn .inv .6) j,
+          ∙ load-more J (a .palette .now) (turn .loads) (turn .i) (found .sub) sub (omega (arith, sub, sub-below J (a .palette .now) (start .pre .0) (turn .i))) (turn .inv .6) j,
     )
 
 same-length : tie.Need-same-length Inv-loop μ-loop

@@ -1,13 +1,10 @@
--- `tile_found` meets its contract: an empty tile answers by itself, any other by its fit. Assumes nothing.
-use mathlib.Core.Path.{ap, subst⁻¹}
-use mathlib.Core.Bool.{not}
+-- `tile_found` meets its contract: an empty tile answers by itself, any other by its best two. Assumes nothing.
+use mathlib.Core.Path.{ap}
 use native.Mathlib.Omega.{arith}
-use lib.Dec.{T}
-use lib.Ieee.{Float, isNan}
-use Rattle.job.specs.Job.{jobOf, sizeOf}
-use Rattle.stats.specs.declared.Near.{Near}
-use Rattle.palette_tile.proofs.Present.{winner-below}
-use Rattle.fit_tiles.proofs.Tiles.{empty-sub, full-sub, not-empty, dist-real}
+use Rattle.job.specs.Job.{jobOf}
+use Rattle.stats.specs.declared.Two.{Two}
+use Rattle.palette_tile.proofs.Present.{pair-below, next-below}
+use Rattle.fit_tiles.proofs.Tiles.{empty-found, full-found, dist-real}
 use borrow.Author.Needs.{needs}
 use Rattle.fit_tiles.proofs.tile_found.Statement.{statement}
 use Rattle.fit_tiles.proofs.tile_found.Tie as tie
@@ -18,49 +15,52 @@ is-empty-requires c κs = search needs
 returns : tie.Need-returns
 returns c =
     let a = c .before .before .before .before .before .before .before .args in
-    empty-sub (jobOf (a .z) (a .tiles .now) (a .colours .now) (a .counts .now)) (a .palette .now) (a .i) (c .before .is-empty .result)
+    empty-found (jobOf (a .z) (a .tiles .now) (a .colours .now) (a .counts .now)) (a .palette .now) (a .i) (c .before .is-empty .result)
     (c .before .is-empty .ensures) (c .if1 .taken)
 
-tile-fit-requires : tie.Need-tile-fit-requires
-tile-fit-requires c κs =
-    let past-if1 = c .before in let after-is-empty = past-if1 .before in let start = after-is-empty .before .before .before .before .before .before in
-    let a = start .args in
-    record {
-      paired = start .pre;
-      full = not-empty (sizeOf (a .tiles .now) (a .i)) (after-is-empty .is-empty .result) (after-is-empty .is-empty .ensures) (past-if1 .if1 .left);
-    }
+tile-two-requires : tie.Need-tile-two-requires
+tile-two-requires c κs = let after-is-empty = c .before .before in after-is-empty .before .before .before .before .before .before .pre
 
 cast-sub : tie.Need-cast-sub
 cast-sub c =
-    let after-tile-fit = c .before .before .before in let after-is-empty = after-tile-fit .before .before .before in
+    let after-tile-two = c .before .before .before in let after-is-empty = after-tile-two .before .before .before in
     let start = after-is-empty .before .before .before .before .before .before in let a = start .args in
     omega (
       arith,
-      ap (λ (b : Near). b .index) (after-tile-fit .tile-fit .ensures .0),
-      winner-below (jobOf (a .z) (a .tiles .now) (a .colours .now) (a .counts .now))
+      ap (λ (b : Two). b .index) (after-tile-two .tile-two .ensures .0),
+      pair-below (jobOf (a .z) (a .tiles .now) (a .colours .now) (a .counts .now))
           (a .palette .now) (a .z .s) (a .z .c) (start .pre .shown) (a .i),
       start .pre .shown .ready .sizes .few,
     )
 
-float-to-bits-bits : tie.Need-float-to-bits-bits
-float-to-bits-bits c =
-    let after-tile-fit = c .before .before .before .before in let after-is-empty = after-tile-fit .before .before .before in
+float-to-bits-dist : tie.Need-float-to-bits-dist
+float-to-bits-dist c =
+    let after-tile-two = c .before .before .before .before in let after-is-empty = after-tile-two .before .before .before in
     let start = after-is-empty .before .before .before .before .before .before in let a = start .args in
-    subst⁻¹ (λ (x : Float). T (not (isNan x))) (ap (λ (b : Near). b .dist) (after-tile-fit .tile-fit .ensures .0))
-    (dist-real (jobOf (a .z) (a .tiles .now) (a .colours .now) (a .counts .now)) (a .palette .now) (start .pre .shown) (a .i) (start .pre .tile))
+    dist-real (jobOf (a .z) (a .tiles .now) (a .colours .now) (a .counts .now)) (a .palette .now) (start .pre .shown) (a .i) (start .pre .tile)
+    _ (after-tile-two .tile-two .ensures .0)
+
+cast-next : tie.Need-cast-next
+cast-next c =
+    let after-tile-two = c .before .before .before .before .before in let after-is-empty = after-tile-two .before .before .before in
+    let start = after-is-empty .before .before .before .before .before .before in let a = start .args in
+    omega (
+      arith,
+      ap (λ (b : Two). b .next) (after-tile-two .tile-two .ensures .0),
+      next-below (jobOf (a .z) (a .tiles .now) (a .colours .now) (a .counts .now))
+          (a .palette .now) (a .z .s) (a .z .c) (start .pre .shown) (a .i),
+      start .pre .shown .ready .sizes .few,
+    )
 
 same-length : tie.Need-same-length
 same-length c = search needs
 
 returns-2 : tie.Need-returns-2
 returns-2 c =
-    let after-tile-fit = c .before .before .before .before in let past-if1 = after-tile-fit .before .before in
+    let after-tile-two = c .before .before .before .before .before in let past-if1 = after-tile-two .before .before in
     let after-is-empty = past-if1 .before in let start = after-is-empty .before .before .before .before .before .before in let a = start .args in
-    full-sub (jobOf (a .z) (a .tiles .now) (a .colours .now) (a .counts .now)) (a .palette .now) (a .i) (after-is-empty .is-empty .result)
-    (after-tile-fit .tile-fit .result .index) (after-tile-fit .tile-fit .result .dist) (after-is-empty .is-empty .ensures) (past-if1 .if1 .left)
-    (ap (λ (b : Near). b .index) (after-tile-fit .tile-fit .ensures .0)) (ap (λ (b : Near). b .dist) (after-tile-fit .tile-fit .ensures .0))
+    full-found (jobOf (a .z) (a .tiles .now) (a .colours .now) (a .counts .now)) (a .palette .now) (a .i) (after-is-empty .is-empty .result)
+    (after-tile-two .tile-two .result) (after-is-empty .is-empty .ensures) (past-if1 .if1 .left) (after-tile-two .tile-two .ensures .0)
 
 pub tile-found-spec : {M : Type 1} → statement M
-tile-found-spec =
-    tie.close
-    (tie.spec is-empty-requires returns tile-fit-requires cast-sub float-to-bits-bits same-length returns-2)
+tile-found-spec = tie.close (tie.spec is-empty-requires returns tile-two-requires cast-sub float-to-bits-dist cast-next same-length returns-2)
