@@ -41,8 +41,9 @@ pub trait Timed {
 /// Its implementation stands below quantizer.rs.
 pub trait Make {
     fn make(&self, job: &Job, standing: &Standing) -> Box<dyn Timed>;
-    /// The best fit of each tile, colours and counts, from hint 0; 0 at distance 0 for an empty one.
-    fn fits(&self, palette: &[Vec<Oklab>], tiles: Vec<(Vec<Oklab>, Vec<u32>)>) -> Vec<(usize, f32)>;
+    /// The best fit of each tile, colours and counts, from hint 0, and the next best: the best where the first is left out, itself where
+    /// there is no other; 0 at distance 0 and 0 for an empty one.
+    fn fits(&self, palette: &[Vec<Oklab>], tiles: Vec<(Vec<Oklab>, Vec<u32>)>) -> Vec<(usize, f32, usize)>;
 }
 
 pub struct Door;

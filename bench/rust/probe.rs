@@ -95,11 +95,22 @@ impl Make for crate::Door {
         Box::new(ready)
     }
 
-    fn fits(&self, palette: &[Vec<Oklab>], tiles: Vec<(Vec<Oklab>, Vec<u32>)>) -> Vec<(usize, f32)> {
-        let palette = Palette::from_colors(palette, settings());
+    fn fits(&self, palette: &[Vec<Oklab>], tiles: Vec<(Vec<Oklab>, Vec<u32>)>) -> Vec<(usize, f32, usize)> {
+        let all = Palette::from_colors(palette, settings());
+        let without = |i: usize| Palette::from_colors(&[&palette[..i], &palette[i + 1..]].concat(), settings());
+        let others: Vec<Palette> = (0..palette.len()).map(without).collect();
         let fit = |(colors, counts)| {
             let tile = TileData { colors, counts, pixels: Vec::new(), sp_hint: Cell::new(0) };
-            if tile.is_empty(settings()) { (0, 0.0) } else { palette.best_fit(&tile) }
+            if tile.is_empty(settings()) {
+                return (0, 0.0, 0);
+            }
+            let (sub, dist) = all.best_fit(&tile);
+            if palette.len() == 1 {
+                return (sub, dist, sub);
+            }
+            tile.sp_hint.set(0);
+            let (next, _) = others[sub].best_fit(&tile);
+            (sub, dist, if next < sub { next } else { next + 1 })
         };
         tiles.into_iter().map(fit).collect()
     }

@@ -61,11 +61,11 @@ impl Lent {
 
     pub fn best_two(&self, memory: &mut Memory, tile: usize, dist: &mut f32, second: &mut f32) -> usize {
         let Lent(job) = self;
-        let (colours, counts) = job.tile(tile);
+        let ((colours, counts), mut next) = (job.tile(tile), 0);
         unsafe {
             lend!(probe_best_two(
                 ref memory.palette, job.c, job.c, job.s,
-                ref colours, ref counts, job.weight, mut memory.hints, tile, dist, second
+                ref colours, ref counts, job.weight, mut memory.hints, tile, dist, &mut next, second
             ))
         }
     }

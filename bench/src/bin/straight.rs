@@ -1,5 +1,5 @@
 //! What `fit` does, as a straightforward Rust program: reads a sheet from standard input, fits each tile by the Rust's own
-//! `best_fit` from hint 0, prints the lines. It trusts its input; it is the measure of speed, not of right and wrong.
+//! `best_fit` from hint 0, once over all subpalettes and once without the best, prints the lines. It trusts its input; it is the measure of speed, not of right and wrong.
 
 use std::fmt::Write as _;
 use std::io::{Read, Write};
@@ -48,9 +48,9 @@ fn main() {
     let tiles = (0..t).map(|_| r.tile()).collect();
     let mut loads = vec![0; s];
     let mut out = format!("tiles {t} subpalettes {s}\n");
-    for (i, (sub, dist)) in Door.fits(&palette, tiles).into_iter().enumerate() {
+    for (i, (sub, dist, next)) in Door.fits(&palette, tiles).into_iter().enumerate() {
         loads[sub] += 1;
-        writeln!(out, "tile {i} sub {sub} dist {:08x}", dist.to_bits()).unwrap();
+        writeln!(out, "tile {i} sub {sub} dist {:08x} next {next}", dist.to_bits()).unwrap();
     }
     for (i, load) in loads.iter().enumerate() {
         writeln!(out, "load {i} {load}").unwrap();

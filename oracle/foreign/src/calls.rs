@@ -36,6 +36,7 @@ unsafe extern "C" {
         hints_len: usize,
         index: &mut usize,
         dist: &mut f32,
+        next: &mut usize,
         second: &mut f32,
     ) -> u32;
     pub fn probe_group(

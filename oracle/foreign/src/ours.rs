@@ -3,7 +3,7 @@
 
 use crate::leaves::{
     probe_argmax, probe_argmin, probe_base_iterations, probe_cycle_new, probe_cycle_next, probe_narrow, probe_next,
-    probe_shuffle, probe_smallest_two, probe_sqdist,
+    probe_shuffle, probe_smallest_two, probe_sqdist, probe_with_other,
 };
 use crate::lend;
 use crate::palettes::{probe_nearest, probe_nearest_two, probe_view_nearest, probe_view_nearest_two};
@@ -11,6 +11,25 @@ use crate::training::probe_mean;
 
 /// An Oklab colour: l, a, b.
 pub type Colour = [f32; 3];
+
+/// The least and the next of the others, each with its value.
+#[derive(Clone, Copy, Debug)]
+pub struct Two {
+    pub index: usize,
+    pub dist: f32,
+    pub next: usize,
+    pub second: f32,
+}
+
+impl Two {
+    /// As it is before any value.
+    pub const NONE: Self = Self { index: 0, dist: f32::INFINITY, next: 0, second: f32::INFINITY };
+
+    /// What the Rust's answer has.
+    pub fn known(self) -> (usize, f32, f32) {
+        (self.index, self.dist, self.second)
+    }
+}
 
 pub fn narrow(x: f64) -> f32 {
     unsafe { probe_narrow(x) }
@@ -56,12 +75,13 @@ impl Cycle {
 }
 
 /// Value by value, as the run has them.
-pub fn smallest_two(values: &[f32]) -> (usize, f32, f32) {
-    let (mut index, mut dist, mut second) = (0, f32::INFINITY, f32::INFINITY);
+pub fn smallest_two(values: &[f32]) -> Two {
+    let mut two = Two::NONE;
     for (i, &value) in values.iter().enumerate() {
-        index = unsafe { probe_smallest_two(index, &mut dist, &mut second, i, value) };
+        two.index = unsafe { probe_smallest_two(two.index, &mut two.dist, &mut two.next, &mut two.second, i, value) };
     }
-    (index, dist, second)
+    two.next = unsafe { probe_with_other(two.index, two.dist, two.next, two.second, values.len()) };
+    two
 }
 
 /// No value is a NaN.
@@ -100,15 +120,18 @@ pub fn view_nearest(sub: &[Colour], q: Colour, weight: f32) -> (usize, f32) {
     (index, dist)
 }
 
-pub fn nearest_two(sub: &[Colour], q: Colour, weight: f32) -> (usize, f32, f32) {
-    let (flat, mut dist, mut second) = (sub.as_flattened(), 0.0, 0.0);
-    let index = unsafe { lend!(probe_nearest_two(ref flat, q[0], q[1], q[2], weight, &mut dist, &mut second)) };
-    (index, dist, second)
+pub fn nearest_two(sub: &[Colour], q: Colour, weight: f32) -> Two {
+    let (flat, [l, a, b], mut two) = (sub.as_flattened(), q, Two::NONE);
+    two.index =
+        unsafe { lend!(probe_nearest_two(ref flat, l, a, b, weight, &mut two.dist, &mut two.next, &mut two.second)) };
+    two
 }
 
 /// By the view.
-pub fn view_nearest_two(sub: &[Colour], q: Colour, weight: f32) -> (usize, f32, f32) {
-    let (flat, mut dist, mut second) = (sub.as_flattened(), 0.0, 0.0);
-    let index = unsafe { lend!(probe_view_nearest_two(ref flat, q[0], q[1], q[2], weight, &mut dist, &mut second)) };
-    (index, dist, second)
+pub fn view_nearest_two(sub: &[Colour], q: Colour, weight: f32) -> Two {
+    let (flat, [l, a, b], mut two) = (sub.as_flattened(), q, Two::NONE);
+    two.index = unsafe {
+        lend!(probe_view_nearest_two(ref flat, l, a, b, weight, &mut two.dist, &mut two.next, &mut two.second))
+    };
+    two
 }

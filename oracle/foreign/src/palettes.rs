@@ -45,6 +45,7 @@ unsafe extern "C" {
         b: f32,
         weight: f32,
         dist: &mut f32,
+        next: &mut usize,
         second: &mut f32,
     ) -> usize;
     pub fn probe_view_nearest_two(
@@ -55,6 +56,7 @@ unsafe extern "C" {
         b: f32,
         weight: f32,
         dist: &mut f32,
+        next: &mut usize,
         second: &mut f32,
     ) -> usize;
     pub fn probe_best_two(
@@ -72,6 +74,7 @@ unsafe extern "C" {
         hints_len: usize,
         t: usize,
         dist: &mut f32,
+        next: &mut usize,
         second: &mut f32,
     ) -> usize;
     pub fn probe_nudge(pal: *mut f32, len: usize, place: usize, l: f32, a: f32, b: f32, alpha: f32);

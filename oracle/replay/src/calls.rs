@@ -12,9 +12,10 @@ pub fn single_fit(job: &Job, palette: &[f32], hints: &mut [u32]) -> (u32, usize,
 
 /// The number, the winner, its distance and the second.
 pub fn best_two(job: &Job, palette: &[f32], hints: &mut [u32]) -> (u32, usize, [f32; 2]) {
-    let (mut index, [mut dist, mut second]) = (0, [0.0; 2]);
-    let number =
-        unsafe { lend!(probe_public_best_two(..job, ref palette, mut hints, &mut index, &mut dist, &mut second)) };
+    let ([mut index, mut next], [mut dist, mut second]) = ([0; 2], [0.0; 2]);
+    let number = unsafe {
+        lend!(probe_public_best_two(..job, ref palette, mut hints, &mut index, &mut dist, &mut next, &mut second))
+    };
     (number, index, [dist, second])
 }
 

@@ -30,7 +30,7 @@ pub fn case(list: &mut List) -> Read<()> {
 fn choices(list: &mut List) -> Read<()> {
     let n = list.number(MOST_VALUES)?;
     let values = list.floats(n)?;
-    let (index, least, second) = ours::smallest_two(&values);
+    let (index, least, second) = ours::smallest_two(&values).known();
     list.same_index(index)?;
     list.same_floats(&[least, second])?;
     list.same_index(ours::argmax(&values))?;

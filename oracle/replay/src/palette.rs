@@ -35,7 +35,7 @@ fn nearest(list: &mut List) -> Read<()> {
     let (index, dist) = ours::view_nearest(&colours, target, weight);
     list.same_index(index)?;
     list.same_float(dist)?;
-    let (index, dist, second) = ours::view_nearest_two(&colours, target, weight);
+    let (index, dist, second) = ours::view_nearest_two(&colours, target, weight).known();
     list.same_index(index)?;
     list.same_floats(&[dist, second])
 }
@@ -105,14 +105,14 @@ impl Shown {
     /// Of a tile that may be empty.
     fn best_two(&mut self, i: usize) -> Answer {
         let Shown { job, present, have, palette, hints } = self;
-        let ((colours, counts), [mut dist, mut second]) = (job.tile(i), [0.0; 2]);
-        let index = unsafe {
+        let ((colours, counts), mut two) = (job.tile(i), ours::Two::NONE);
+        two.index = unsafe {
             lend!(probe_best_two(
-                ref palette, job.c, *have, *present,
-                ref colours, ref counts, job.weight, mut hints, i, &mut dist, &mut second
+                ref palette, job.c, *have, *present, ref colours, ref counts, job.weight, mut hints, i,
+                &mut two.dist, &mut two.next, &mut two.second
             ))
         };
-        (index, dist, second)
+        two.known()
     }
 
     /// Over all tiles; the hints then name the best of each that is not empty.

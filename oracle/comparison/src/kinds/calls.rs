@@ -10,7 +10,7 @@ use super::{Kind, kind};
 use crate::damage;
 use crate::lent;
 use crate::ours;
-use crate::reading::fits::Present;
+use crate::reading::fits::{self, Present};
 use crate::table::{self, Given};
 use crate::tally::Tally;
 
@@ -129,18 +129,20 @@ fn best_two(rng: &mut Rng, _: u64, tally: &mut Tally) {
 /// Gives the number by the scope's table.
 pub fn paired(call: &Call, tally: &mut Tally) -> u32 {
     let number = call.number(call.given.t == 1, true);
-    let mut right = (number, (0, 0.0, 0.0), call.hints.clone(), true);
+    let mut right = (number, ((0, 0.0, 0.0), 0), call.hints.clone(), true);
     if number == 0 {
-        let fit = rust(call.given.weight).best_two(&call.subs(), &call.given.tiles()[0], &[call.hints[0] as usize])[0];
-        right = (0, (fit.index, fit.dist, fit.second), vec![fit.hint as u32], true);
+        let tile = &call.given.tiles()[0];
+        let fit = rust(call.given.weight).best_two(&call.subs(), tile, &[call.hints[0] as usize])[0];
+        let next = fits::next_best(&call.subs(), tile, call.given.weight, fit.index);
+        right = (0, ((fit.index, fit.dist, fit.second), next), vec![fit.hint as u32], true);
         call.count_fits(tally);
     }
     let (job, palette, mut hints) = (call.lent(), lent::floats(&call.palette), lent::words(&call.hints));
-    let (answer, index, dist, second) = ours::public_best_two(&job, &palette, &mut hints);
+    let (answer, two) = ours::public_best_two(&job, &palette, &mut hints);
     let kept = job.untouched() && palette.untouched() && hints.guarded();
     tally.answered("best_two", number);
     tally.left(call.floats());
-    tally.same((answer, (index, dist, second), hints.values().to_vec(), kept), right, || format!("{call:?}"));
+    tally.same((answer, (two.known(), two.next), hints.values().to_vec(), kept), right, || format!("{call:?}"));
     number
 }
 

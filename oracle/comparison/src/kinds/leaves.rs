@@ -6,6 +6,7 @@ use terms::rng::Rng;
 
 use super::{Kind, kind, whole};
 use crate::ours;
+use crate::reading::fits;
 use crate::tally::Tally;
 
 pub const KINDS: &[Kind] = &[
@@ -26,7 +27,8 @@ pub const KINDS: &[Kind] = &[
     }),
     kind("smallest_two", 50_000, 500_000, |rng, _, tally| {
         let values = jobs::values(rng);
-        tally.same(ours::smallest_two(&values), rust(2.15).smallest_two(&values), || format!("{values:?}"));
+        let (two, right) = (ours::smallest_two(&values), rust(2.15).smallest_two(&values));
+        tally.same((two.known(), two.next), (right, fits::next(&values, right.0)), || format!("{values:?}"));
     }),
     kind("argmax", 50_000, 500_000, |rng, _, tally| {
         let values = jobs::values(rng);

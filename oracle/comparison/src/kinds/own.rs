@@ -89,10 +89,10 @@ fn example(_: &mut Rng, _: u64, tally: &mut Tally) {
     tally.same((bytes.len(), bytes[..8].to_vec()), (77, begin.to_vec()), || "the example's bytes".to_string());
     let lines = [
         "tiles 4 subpalettes 2",
-        "tile 0 sub 0 dist 3e800000",
-        "tile 1 sub 0 dist 00000000",
-        "tile 2 sub 0 dist 3f000000",
-        "tile 3 sub 1 dist 00000000",
+        "tile 0 sub 0 dist 3e800000 next 1",
+        "tile 1 sub 0 dist 00000000 next 0",
+        "tile 2 sub 0 dist 3f000000 next 1",
+        "tile 3 sub 1 dist 00000000 next 0",
         "load 0 3",
         "load 1 1",
         "",

@@ -3,10 +3,11 @@
 use answers::{probed, rust};
 use terms::jobs::{self, Colours};
 use terms::rng::Rng;
-use terms::{Colour, Edit, Fit, FitTwo, Palette, Tile};
+use terms::{Colour, Edit, Fit, Palette, Tile};
 
 use super::{Kind, kind};
 use crate::ours::{self, Flat};
+use crate::reading::fits;
 use crate::tally::Tally;
 
 pub const KINDS: &[Kind] = &[
@@ -15,6 +16,7 @@ pub const KINDS: &[Kind] = &[
     kind("tile distance", 20_000, 200_000, distance),
     kind("best_fit", 10_000, 100_000, best_fit),
     kind("best_two", 10_000, 100_000, best_two),
+    kind("tied runners-up", 20_000, 200_000, tied_two),
     kind("nudge", 50_000, 500_000, nudge),
     kind("one draw", 20_000, 200_000, draw),
     kind("edits", 20_000, 200_000, edits),
@@ -46,6 +48,23 @@ impl Case {
         (0..s + 2).chain([99, u32::MAX as usize]).collect()
     }
 
+    /// The best two from each hint; the hints of other tiles stay.
+    fn compare_two(&self, tally: &mut Tally) {
+        let (hints, Case { palette, tile, weight, flat }) = (self.hints(), self);
+        let fits = rust(*weight).best_two(palette, tile, &hints);
+        for (&hint, fit) in hints.iter().zip(fits) {
+            let mut lent = [7, hint as u32, 9];
+            let two = ours::best_two(flat, tile, *weight, &mut lent, 1);
+            let right = ((fit.index, fit.dist, fit.second), fits::next_best(palette, tile, *weight, fit.index));
+            tally.same(((two.known(), two.next), lent.to_vec()), (right, vec![7, fit.hint as u32, 9]), || {
+                self.shown(hint)
+            });
+            let (tied, around) = fits::tied_next(palette, tile, *weight, fit.index);
+            tally.add("tied runners-up", tied.into());
+            tally.add("tied around the winner", around.into());
+        }
+    }
+
     fn shown(&self, hint: usize) -> String {
         format!("hint {hint}, weight {:?}, {:?}, {:?}", self.weight, self.tile, self.palette)
     }
@@ -71,9 +90,11 @@ fn nearest(rng: &mut Rng, _: u64, tally: &mut Tally) {
 fn nearest_two(rng: &mut Rng, _: u64, tally: &mut Tally) {
     let (sub, q, weight) = near(rng);
     let right = rust(weight).nearest_two(&sub, q);
+    let next = fits::next_nearest(&sub, q, weight, right.0);
     let shown = || format!("{q:?} among {sub:?}, weight {weight:?}");
-    tally.same(ours::nearest_two(&sub, q, weight), right, shown);
-    tally.same(ours::view_nearest_two(&sub, q, weight), right, shown);
+    for two in [ours::nearest_two(&sub, q, weight), ours::view_nearest_two(&sub, q, weight)] {
+        tally.same((two.known(), two.next), (right, next), shown);
+    }
 }
 
 fn distance(rng: &mut Rng, _: u64, tally: &mut Tally) {
@@ -103,14 +124,22 @@ fn best_two(rng: &mut Rng, _: u64, tally: &mut Tally) {
     if rng.once_in(10) {
         case.tile = Tile::default();
     }
-    let hints = case.hints();
-    let fits = rust(case.weight).best_two(&case.palette, &case.tile, &hints);
-    for (&hint, fit) in hints.iter().zip(fits) {
-        let mut lent = [7, hint as u32, 9];
-        let ours = ours::best_two(&case.flat, &case.tile, case.weight, &mut lent, 1);
-        let parts = |fit: FitTwo| (fit.index, fit.dist, fit.second, fit.hint);
-        tally.same((parts(ours), lent[0], lent[2]), (parts(fit), 7, 9), || case.shown(hint));
+    case.compare_two(tally);
+}
+
+/// The same over copies of a few subpalettes, so that several are next best, and mostly with one of the tile's own colours among them, so
+/// that the winner stands between them.
+fn tied_two(rng: &mut Rng, _: u64, tally: &mut Tally) {
+    let mut case = Case::any(rng);
+    let few = rng.among(1, case.palette.len().min(4));
+    let s = rng.among(3, 16);
+    case.palette = (0..s).map(|_| case.palette[rng.below(few)].clone()).collect();
+    if !rng.once_in(4) {
+        let own = case.tile.colours.iter().cycle().take(case.flat.have).copied().collect();
+        case.palette[rng.below(s)] = own;
     }
+    case.flat = Flat::new(&case.palette, case.flat.room);
+    case.compare_two(tally);
 }
 
 /// One colour, by each alpha that training has, and any other.

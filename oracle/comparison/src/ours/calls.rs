@@ -2,6 +2,7 @@
 
 use crate::lent::{self, Lent};
 use crate::table::Given;
+use foreign::ours::Two;
 use foreign::{dunkafeto_assign, lend, probe_group, probe_public_best_two, probe_single_fit};
 
 /// What every call with a job is lent.
@@ -71,12 +72,15 @@ pub fn single_fit(job: &Job, palette: &Lent<f32>, hints: &mut Lent<u32>) -> (u32
     (number, index, dist)
 }
 
-/// The number, the winner, its distance and the second; all stay 0 on a refusal.
-pub fn public_best_two(job: &Job, palette: &Lent<f32>, hints: &mut Lent<u32>) -> (u32, usize, f32, f32) {
-    let (mut index, mut dist, mut second) = (0, 0.0, 0.0);
-    let number =
-        unsafe { lend!(probe_public_best_two(..job, ref palette, mut hints, &mut index, &mut dist, &mut second)) };
-    (number, index, dist, second)
+/// The number, the winner, its distance, the runner-up and the second; all stay 0 on a refusal.
+pub fn public_best_two(job: &Job, palette: &Lent<f32>, hints: &mut Lent<u32>) -> (u32, Two) {
+    let mut two = Two { index: 0, dist: 0.0, next: 0, second: 0.0 };
+    let number = unsafe {
+        lend!(probe_public_best_two(
+            ..job, ref palette, mut hints, &mut two.index, &mut two.dist, &mut two.next, &mut two.second
+        ))
+    };
+    (number, two)
 }
 
 pub fn assign(job: &Job, palette: &Lent<f32>, hints: &mut Lent<u32>, out: &mut Lent<u32>) -> u32 {

@@ -1,10 +1,11 @@
 //! palette, palette_two, palette_edit.
 
+use foreign::ours::Two;
 use foreign::{
     lend, probe_best_fit, probe_best_two, probe_copy_color, probe_copy_subpalette, probe_duplicate_color,
     probe_duplicate_palette, probe_nudge, probe_tile_distance,
 };
-use terms::{Colour, Edit, Fit, FitTwo, Palette, Tile};
+use terms::{Colour, Edit, Fit, Palette, Tile};
 
 pub fn tile_distance(sub: &[Colour], tile: &Tile, weight: f32) -> f32 {
     let (sub, colours, counts) = (sub.as_flattened(), tile.colours.as_flattened(), &tile.counts);
@@ -77,14 +78,13 @@ pub fn best_fit(palette: &Flat, tile: &Tile, weight: f32, hints: &mut [u32], t: 
 }
 
 /// A tile that may be empty, by the hint at place t of some.
-pub fn best_two(palette: &Flat, tile: &Tile, weight: f32, hints: &mut [u32], t: usize) -> FitTwo {
-    let (colours, counts) = (tile.colours.as_flattened(), &tile.counts);
-    let [mut dist, mut second] = [0.0; 2];
-    let index = unsafe {
+pub fn best_two(palette: &Flat, tile: &Tile, weight: f32, hints: &mut [u32], t: usize) -> Two {
+    let (colours, counts, mut two) = (tile.colours.as_flattened(), &tile.counts, Two::NONE);
+    two.index = unsafe {
         lend!(probe_best_two(
             ref palette.numbers, palette.room, palette.have, palette.subs,
-            ref colours, ref counts, weight, mut hints, t, &mut dist, &mut second
+            ref colours, ref counts, weight, mut hints, t, &mut two.dist, &mut two.next, &mut two.second
         ))
     };
-    FitTwo { index, dist, second, hint: hints[t] as usize }
+    two
 }

@@ -1,6 +1,6 @@
 //! The distances and choices of docs/SCOPE.md, over the subpalettes that are present.
 
-use terms::{Colour, Tile};
+use terms::{Colour, Palette, Tile};
 
 /// The first colours of the first subpalettes of a palette with room for more.
 #[derive(Clone, Copy)]
@@ -68,6 +68,38 @@ pub fn nearest_two(sub: &[Colour], q: Colour, weight: f32) -> (usize, f32, f32) 
     let (winner, least) = nearest(sub, q, weight);
     let others = sub.iter().enumerate().filter(|(i, _)| *i != winner);
     (winner, least, others.map(|(_, &colour)| sqdist(colour, q, weight)).fold(f32::INFINITY, f32::min))
+}
+
+/// Among the indexes other than the winner those of least value.
+fn runners_up(values: &[f32], winner: usize) -> Vec<usize> {
+    let others = || (0..values.len()).filter(move |&i| i != winner);
+    let least = others().map(|i| values[i]).fold(f32::INFINITY, f32::min);
+    others().filter(|&i| values[i] == least).collect()
+}
+
+/// The lowest of those; the winner itself where there is no other.
+pub fn next(values: &[f32], winner: usize) -> usize {
+    runners_up(values, winner).first().copied().unwrap_or(winner)
+}
+
+/// The next nearest colour, where `winner` is the nearest.
+pub fn next_nearest(sub: &[Colour], q: Colour, weight: f32, winner: usize) -> usize {
+    next(&sub.iter().map(|&colour| sqdist(colour, q, weight)).collect::<Vec<_>>(), winner)
+}
+
+fn distances(palette: &Palette, tile: &Tile, weight: f32) -> Vec<f32> {
+    palette.iter().map(|sub| distance(sub, tile, weight)).collect()
+}
+
+/// The next best subpalette, where `winner` is the best.
+pub fn next_best(palette: &Palette, tile: &Tile, weight: f32, winner: usize) -> usize {
+    next(&distances(palette, tile, weight), winner)
+}
+
+/// Several subpalettes are next best; some before the winner and some behind it.
+pub fn tied_next(palette: &Palette, tile: &Tile, weight: f32, winner: usize) -> (bool, bool) {
+    let all = runners_up(&distances(palette, tile, weight), winner);
+    (all.len() > 1, all.iter().any(|&i| i < winner) && all.iter().any(|&i| i > winner))
 }
 
 fn distance(sub: &[Colour], tile: &Tile, weight: f32) -> f32 {

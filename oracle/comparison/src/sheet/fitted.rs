@@ -1,8 +1,9 @@
-//! What the program `fit` prints for a sheet, by the reading here and the Rust's fits.
+//! What the program `fit` prints for a sheet, by the reading here and the Rust's fits; the runner-up by a plain rule.
 
 use std::fmt::Write;
 
 use super::read;
+use crate::reading::fits::next_best;
 
 pub fn fitted(bytes: &[u8]) -> String {
     let sheet = match read(bytes) {
@@ -15,14 +16,14 @@ pub fn fitted(bytes: &[u8]) -> String {
     let mut load = vec![0; s];
     for (i, tile) in sheet.tiles.iter().enumerate() {
         let empty = tile.counts.is_empty();
-        let (sub, dist) = if empty {
-            (0, 0.0)
+        let (sub, dist, next) = if empty {
+            (0, 0.0, 0)
         } else {
             let fit = rust.best_fit(&sheet.palette, tile, &[0])[0];
-            (fit.index, fit.dist)
+            (fit.index, fit.dist, next_best(&sheet.palette, tile, sheet.weight, fit.index))
         };
         load[sub] += 1;
-        writeln!(text, "tile {i} sub {sub} dist {:08x}", f32::to_bits(dist)).unwrap();
+        writeln!(text, "tile {i} sub {sub} dist {:08x} next {next}", f32::to_bits(dist)).unwrap();
     }
     for (i, tiles) in load.iter().enumerate() {
         writeln!(text, "load {i} {tiles}").unwrap();
