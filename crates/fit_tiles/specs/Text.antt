@@ -14,7 +14,7 @@ use Rattle.fit_lines.specs.Lines.{headLine, tileLine, loadLine}
 unfoldable pub distBits : Job → List Float → ℕ → ℕ
 distBits J palette t = cond (isEmpty J t) 0 (toBits binary32 (fitAt J palette (J .S) (J .C) t .dist))
 
--- the next best subpalette of a tile, its own where there is one; 0 of an empty one
+-- the next best subpalette of a tile, its own where there is no other; 0 of an empty one
 unfoldable pub nextSub : Job → List Float → ℕ → ℕ
 nextSub J palette t = cond (isEmpty J t) 0 (twoAt J palette (J .S) (J .C) t .next)
 

@@ -12,7 +12,8 @@ use Rattle.ieee.proofs.Keys.{key-top}
 use Rattle.ieee.proofs.Ranks.{lt-yes, lt-no}
 use Rattle.stats.specs.declared.Two.{Two}
 use Rattle.stats.specs.Stats.{pickTwo, led, followed}
-use Rattle.stats.proofs.Runner.{Alone, Other, Runner, run-start, run-skips, run-drops, run-follows, run-takes, run-end}
+use Rattle.stats.proofs.Runner.{Alone, Other, Runner, run-start, run-skips, run-drops, run-follows, run-takes}
+use Rattle.stats.proofs.ScanTwo.{run-end}
 use Rattle.palette.specs.Palette.{Palette, Tile, subOf, tileDistance, distAt, Measured, Fits}
 use Rattle.palette.proofs.Parts.{sub-measured}
 use Rattle.palette.proofs.Sums.{dist-good}
@@ -26,11 +27,13 @@ module _ (P : Palette) (X : Tile) (w : Float) (F : Fits P X w) (hint : ℕ) (H :
   good : (i : ℕ) → i < P .subs → Good binary32 (distAt P X w i)
   good = dist-good P X w (F .palette) (F .tile) (F .weight)
 
-  pub turn-start : (s : List Float) → s ≡ subOf (P .flat) (P .stride) (P .have) hint → (x y : Float) → x ≡ tileDistance s X w → y ≡ inf false → Runner (distAt P X w) (P .subs) hint 0 (record { index = hint; dist = x; next = hint; second = y })
+  pub turn-start : (s : List Float) → s ≡ subOf (P .flat) (P .stride) (P .have) hint → (x y : Float) → x ≡ tileDistance s X w → y ≡ inf false
+      → Runner (distAt P X w) (P .subs) hint 0 (record { index = hint; dist = x; next = hint; second = y })
   unfolding distAt
   turn-start s e x y p q =
       subst⁻¹ (λ (z : Float). Runner (distAt P X w) (P .subs) hint 0 (record { index = hint; dist = x; next = hint; second = z })) q
-      (subst⁻¹ (λ (z : Float). Runner (distAt P X w) (P .subs) hint 0 (record { index = hint; dist = z; next = hint; second = inf false })) (p ∙ ap (λ (z : List Float). tileDistance z X w) e) (run-start (distAt P X w) (P .subs) hint good H N))
+      (subst⁻¹ (λ (z : Float). Runner (distAt P X w) (P .subs) hint 0 (record { index = hint; dist = z; next = hint; second = inf false }))
+      (p ∙ ap (λ (z : List Float). tileDistance z X w) e) (run-start (distAt P X w) (P .subs) hint good H N))
 
   module _ (i : ℕ) (b : Two) (R : Runner (distAt P X w) (P .subs) hint i b) where
     pub turn-skips : i ≡ hint → Runner (distAt P X w) (P .subs) hint (i + 1) b

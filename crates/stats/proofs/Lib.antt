@@ -5,6 +5,7 @@ pub mod BestTwo
 pub mod Leading
 pub mod Scan
 pub mod Runner
+pub mod ScanTwo
 pub mod Lesser
 pub mod Next
 pub mod Level

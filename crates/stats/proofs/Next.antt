@@ -13,7 +13,8 @@ use Rattle.ieee.proofs.Ranks.{yes-lt, no-lt}
 use Rattle.stats.specs.declared.Two.{Two}
 use Rattle.stats.specs.Stats.{leastTwo}
 use Rattle.stats.specs.Least.{RunnerUp}
-use Rattle.stats.proofs.Runner.{Alone, Other, Runner, run-whole}
+use Rattle.stats.proofs.Runner.{Alone, Other, Runner}
+use Rattle.stats.proofs.ScanTwo.{run-whole}
 use Rattle.stats.proofs.Level.{level-one, level-more}
 
 module _ (d : ℕ → Float) (n : ℕ) (G : (j : ℕ) → j < n → Good binary32 (d j)) (N : n < 18446744073709551616) where
