@@ -45,15 +45,17 @@ fn main() {
     let (s, c, t) = (r.field(4) as usize + 1, r.field(4) as usize + 1, r.field(10) as usize + 1);
     assert_eq!(f32::from_bits(r.field(32)), 2.15, "the Rust's weight is its own");
     let palette: Vec<Vec<Oklab>> = (0..s).map(|_| (0..c).map(|_| r.colour()).collect()).collect();
-    let tiles = (0..t).map(|_| r.tile()).collect();
-    let mut loads = vec![0; s];
+    let tiles: Vec<_> = (0..t).map(|_| r.tile()).collect();
+    let empty: Vec<bool> = tiles.iter().map(|(colours, _)| colours.is_empty()).collect();
+    let (mut loads, mut blank) = (vec![0; s], 0);
     let mut out = format!("tiles {t} subpalettes {s}\n");
     for (i, (sub, dist, next)) in Door.fits(&palette, tiles).into_iter().enumerate() {
-        loads[sub] += 1;
+        *if empty[i] { &mut blank } else { &mut loads[sub] } += 1;
         writeln!(out, "tile {i} sub {sub} dist {:08x} next {next}", dist.to_bits()).unwrap();
     }
     for (i, load) in loads.iter().enumerate() {
         writeln!(out, "load {i} {load}").unwrap();
     }
+    writeln!(out, "blank {blank}").unwrap();
     std::io::stdout().write_all(out.as_bytes()).unwrap();
 }

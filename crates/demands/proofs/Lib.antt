@@ -11,4 +11,5 @@ pub mod Third
 pub mod Ends
 pub mod Finish
 pub mod Trained
+pub mod Loads
 pub mod Examples

@@ -50,6 +50,10 @@ nextWord = 32 ∷ 110 ∷ 101 ∷ 120 ∷ 116 ∷ 32 ∷ []
 abbrev pub loadWord : List ℕ
 loadWord = 108 ∷ 111 ∷ 97 ∷ 100 ∷ 32 ∷ []
 
+-- "blank "
+abbrev pub blankWord : List ℕ
+blankWord = 98 ∷ 108 ∷ 97 ∷ 110 ∷ 107 ∷ 32 ∷ []
+
 -- " "
 abbrev pub space : List ℕ
 space = 32 ∷ []
@@ -62,27 +66,35 @@ refusedWord = 114 ∷ 101 ∷ 102 ∷ 117 ∷ 115 ∷ 101 ∷ 100 ∷ 32 ∷ []
 abbrev pub lineEnd : List ℕ
 lineEnd = 10 ∷ []
 
--- ---- lines
+-- ---- fields and lines
+-- a word, then a number
+abbrev pub field : List ℕ → ℕ → List ℕ
+field word n = word ++ decimal n
+
+-- the last field of a line
+abbrev pub last : List ℕ → ℕ → List ℕ
+last word n = field word n ++ lineEnd
+
+-- a line of two fields
+unfoldable pub pair : List ℕ → ℕ → List ℕ → ℕ → List ℕ
+pair word n more m = field word n ++ last more m
+
 -- "tiles T subpalettes S"
-unfoldable pub headLine : ℕ → ℕ → List ℕ
-headLine tiles subs =
-    tilesWord ++ decimal tiles
-    ++ (subpalettesWord ++ decimal subs)
-    ++ lineEnd
+abbrev pub headLine : ℕ → ℕ → List ℕ
+headLine tiles subs = pair tilesWord tiles subpalettesWord subs
 
 -- "tile T sub S dist D next K", the distance's pattern in eight hexadecimal digits
 unfoldable pub tileLine : ℕ → Found → List ℕ
-tileLine tile found =
-    tileWord ++ decimal tile
-    ++ (subWord ++ decimal (found .sub))
-    ++ distWord ++ digits 16 8 (found .dist)
-    ++ (nextWord ++ decimal (found .next))
-    ++ lineEnd
+tileLine tile found = field tileWord tile ++ field subWord (found .sub) ++ distWord ++ digits 16 8 (found .dist) ++ last nextWord (found .next)
 
 -- "load S N"
-unfoldable pub loadLine : ℕ → ℕ → List ℕ
-loadLine sub n = loadWord ++ decimal sub ++ (space ++ decimal n) ++ lineEnd
+abbrev pub loadLine : ℕ → ℕ → List ℕ
+loadLine sub n = pair loadWord sub space n
+
+-- "blank N"
+abbrev pub blankLine : ℕ → List ℕ
+blankLine n = last blankWord n
 
 -- "refused N"
-unfoldable pub refusedLine : ℕ → List ℕ
-refusedLine n = refusedWord ++ decimal n ++ lineEnd
+abbrev pub refusedLine : ℕ → List ℕ
+refusedLine n = last refusedWord n

@@ -5,7 +5,7 @@ ghost use Prim.Native.Nat.{_+_, _≤_, _<_};
 ghost use mathlib.Core.List.{_++_};
 ghost use lib.ListN.{length};
 ghost use Rattle.io.specs.Digits.{digits, glyph as Digits·glyph};
-ghost use Rattle.fit_lines.specs.Lines.{Stored, widthOf, decimal, headLine, tileLine, loadLine, refusedLine};
+ghost use Rattle.fit_lines.specs.Lines.{Stored, widthOf, decimal, last, pair, headLine, tileLine, loadLine, blankLine, refusedLine};
 
 // A word from place `at` on.
 fn put_word(out: &mut [u8], at: usize, word: &[u8]) -> usize
@@ -69,13 +69,29 @@ fn put_field(out: &mut [u8], at: usize, word: &[u8], n: u32) -> usize
     put_digits(out, next, n, 10, width(n))
 }
 
+// The last field of a line.
+fn put_last(out: &mut [u8], at: usize, word: &[u8], n: u32) -> usize
+    requires { ⌜ at + (length (now word) + 5) ≤ length (now out) ⌝ }
+    ensures { λ r. ⌜ Stored (now (out .entry)) (now (out .exit)) at r (last (now (word .entry)) n) ⌝ }
+{
+    let next = put_field(out, at, word, n);
+    put_word(out, next, b"\n")
+}
+
+// A line of two fields.
+fn put_pair(out: &mut [u8], at: usize, word: &[u8], n: u32, more: &[u8], m: u32) -> usize
+    requires { ⌜ at + (length (now word) + length (now more) + 9) ≤ length (now out) ⌝ }
+    ensures { λ r. ⌜ Stored (now (out .entry)) (now (out .exit)) at r (pair (now (word .entry)) n (now (more .entry)) m) ⌝ }
+{
+    let next = put_field(out, at, word, n);
+    put_last(out, next, more, m)
+}
+
 pub fn put_head(out: &mut [u8], at: usize, tiles: u32, subs: u32) -> usize
     requires { ⌜ at + 28 ≤ length (now out) ⌝ }
     ensures { λ r. ⌜ Stored (now (out .entry)) (now (out .exit)) at r (headLine tiles subs) ⌝ }
 {
-    let a = put_field(out, at, b"tiles ", tiles);
-    let b = put_field(out, a, b" subpalettes ", subs);
-    put_word(out, b, b"\n")
+    put_pair(out, at, b"tiles ", tiles, b" subpalettes ", subs)
 }
 
 // What the line of a tile says: its subpalette, its distance as a pattern, and the next best subpalette.
@@ -93,23 +109,26 @@ pub fn put_tile(out: &mut [u8], at: usize, tile: u32, found: Found) -> usize
     let b = put_field(out, a, b" sub ", found.sub);
     let c = put_word(out, b, b" dist ");
     let d = put_digits(out, c, found.dist, 16, 8);
-    let e = put_field(out, d, b" next ", found.next);
-    put_word(out, e, b"\n")
+    put_last(out, d, b" next ", found.next)
 }
 
 pub fn put_load(out: &mut [u8], at: usize, sub: u32, n: u32) -> usize
     requires { ⌜ at + 15 ≤ length (now out) ⌝ }
     ensures { λ r. ⌜ Stored (now (out .entry)) (now (out .exit)) at r (loadLine sub n) ⌝ }
 {
-    let a = put_field(out, at, b"load ", sub);
-    let b = put_field(out, a, b" ", n);
-    put_word(out, b, b"\n")
+    put_pair(out, at, b"load ", sub, b" ", n)
+}
+
+pub fn put_blank(out: &mut [u8], at: usize, n: u32) -> usize
+    requires { ⌜ at + 11 ≤ length (now out) ⌝ }
+    ensures { λ r. ⌜ Stored (now (out .entry)) (now (out .exit)) at r (blankLine n) ⌝ }
+{
+    put_last(out, at, b"blank ", n)
 }
 
 pub fn put_refused(out: &mut [u8], at: usize, n: u32) -> usize
     requires { ⌜ at + 13 ≤ length (now out) ⌝ }
     ensures { λ r. ⌜ Stored (now (out .entry)) (now (out .exit)) at r (refusedLine n) ⌝ }
 {
-    let a = put_field(out, at, b"refused ", n);
-    put_word(out, a, b"\n")
+    put_last(out, at, b"refused ", n)
 }

@@ -11,7 +11,7 @@ ghost use Rattle.sheet_parts.specs.Front.{frontJob, frontPalette, Front};
 ghost use Rattle.fit_text.specs.Fit.{fitOutcome, fitDef};
 
 // The bytes that any sheet's lines take, at most.
-pub const MOST_TEXT: usize = 44300;
+pub const MOST_TEXT: usize = 44311;
 
 // The lines of the job in the first places of these slices.
 fn put_job(

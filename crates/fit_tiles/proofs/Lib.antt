@@ -1,2 +1,3 @@
 pub mod Tiles
+pub mod Loads
 pub mod Lengths

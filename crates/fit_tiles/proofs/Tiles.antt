@@ -1,4 +1,4 @@
--- One tile more: its line, its load, and its answer where it is empty and where it is not. Assumes nothing.
+-- One tile more: its line, and its answer where it is empty and where it is not; the lines of all, one after another. Assumes nothing.
 use mathlib.Core.Path.{_≡_, refl, sym, ap, ap₂, subst, subst⁻¹, _∙_}
 use Prim.Native.Nat.{ℕ, zero, suc, _+_, _≤_, _<_}
 use native.Mathlib.Omega.{arith}
@@ -6,14 +6,9 @@ use native.Mathlib.Numerals.{add-one}
 use mathlib.Core.Bool.{Bool, true, false, cond, not, true≢false}
 use mathlib.Core.List.{List, _++_}
 use lib.Dec.{T, eqb}
-use lib.ListN.{length, getD, set, replicate}
-use lib.Seq.{sets, getD-set-same, getD-set-other}
+use lib.ListN.{length, getD, replicate}
+use lib.Seq.{sets}
 use lib.Ieee.{Float, binary32, toBits, isNan}
-use borrow.Author.Tests.{eqb-true, eqb-false}
-use Rattle.lists.specs.Count.{hit, count}
-use Rattle.lists.proofs.Counting.{hit-same, hit-other}
-use Rattle.lists.specs.Firsts.{firsts, hits}
-use Rattle.lists.proofs.Hits.{hits-suc}
 use Rattle.ieee.proofs.Plus.{plus-real}
 use Rattle.assign_tiles.specs.Tiles.{subpaletteOf}
 use Rattle.stats.specs.declared.Near.{Near}
@@ -26,18 +21,13 @@ use Rattle.palette.proofs.Sums.{dist-good}
 use Rattle.palette_tile.specs.Tiles.{tileAt, presentIn, fitAt, winner, twoAt, Shown}
 use Rattle.palette_tile.proofs.Present.{first-of-two, shown-present, winner-below, tile-counted}
 use Rattle.fit_lines.specs.declared.Found.{Found}
-use Rattle.fit_lines.specs.Lines.{Stored, tileLine, loadLine, headLine}
+use Rattle.fit_lines.specs.Lines.{Stored, tileLine, loadLine, blankLine, headLine}
 use Rattle.fit_lines.proofs.Stores.{both-stored}
-use Rattle.fit_tiles.specs.Text.{distBits, nextSub, foundOf, tileLines, loadOf, loadLines, fitText}
+use Rattle.fit_tiles.specs.Text.{distBits, nextSub, foundOf, tileLines, loadOf, loadLines, blanksOf, fitText}
 
 pub not-empty : (n : ℕ) (r : Bool) → r ≡ eqb n 0 → r ≡ false → 1 ≤ n
 not-empty zero r e h = absurd (true≢false (sym e ∙ h))
 not-empty (suc n) r e h = omega arith
-
-hit-most : (b : Bool) → hit b ≤ 1
-unfolding hit
-hit-most true = omega arith
-hit-most false = omega arith
 
 module _ (J : Job) (p : List Float) where
   -- ---- what a tile's line says
@@ -100,35 +90,6 @@ module _ (J : Job) (p : List Float) where
       for-any : (j : ℕ) → j ≡ suc i → Stored l n at r (tileLines J p i ++ tileLine i (foundOf J p i)) → Stored l n at r (tileLines J p j)
       for-any j e s = record { text = s .text ∙ ap (λ (x : ℕ). sets l at (tileLines J p x)) (sym e); place = s .place ∙ ap (λ (x : ℕ). at + length (tileLines J p x)) (sym e) }
 
-  -- ---- loads
-  pub load-none : (k : ℕ) → loadOf J p k 0 ≡ 0
-  unfolding loadOf firsts count
-  load-none k = refl
-
-  pub load-few : (k n : ℕ) → loadOf J p k n ≤ n
-  unfolding loadOf
-  load-few k zero = omega (arith, load-none k)
-  load-few k (suc n) = omega (arith, hits-suc (subpaletteOf J p) k n, load-few k n, hit-most (eqb (subpaletteOf J p n) k))
-
-  pub load-more : (loads : List ℕ) (i s : ℕ) → s ≡ subpaletteOf J p i → s < length loads → ((k : ℕ) → getD loads k 0 ≡ loadOf J p k i) → (k : ℕ) → getD (set loads s (getD loads s 0 + 1)) k 0 ≡ loadOf J p k (i + 1)
-  unfolding loadOf
-  load-more loads i s e l all k = by (eqb k s) refl
-    where
-      same : k ≡ s → getD (set loads s (getD loads s 0 + 1)) k 0 ≡ hits (subpaletteOf J p) k (i + 1)
-      same z =
-          ap (λ (j : ℕ). getD (set loads s (getD loads s 0 + 1)) j 0) z ∙ getD-set-same loads s (getD loads s 0 + 1) 0 l
-          ∙ ap (λ (j : ℕ). j + 1) (ap (λ (j : ℕ). getD loads j 0) (sym z) ∙ all k)
-          ∙ sym (ap (hits (subpaletteOf J p) k) (add-one i) ∙ hits-suc (subpaletteOf J p) k i ∙ ap (λ (j : ℕ). hits (subpaletteOf J p) k i + j) (hit-same (subpaletteOf J p i) k (sym e ∙ sym z)))
-
-      other : (k ≡ s → ⊥) → getD (set loads s (getD loads s 0 + 1)) k 0 ≡ hits (subpaletteOf J p) k (i + 1)
-      other z =
-          getD-set-other loads s k (getD loads s 0 + 1) 0 z ∙ all k
-          ∙ sym (ap (hits (subpaletteOf J p) k) (add-one i) ∙ hits-suc (subpaletteOf J p) k i ∙ ap (λ (j : ℕ). hits (subpaletteOf J p) k i + j) (hit-other (subpaletteOf J p i) k (λ f. z (sym f ∙ sym e))) ∙ omega arith)
-
-      by : (b : Bool) → eqb k s ≡ b → getD (set loads s (getD loads s 0 + 1)) k 0 ≡ hits (subpaletteOf J p) k (i + 1)
-      by true h = same (eqb-true k s h)
-      by false h = other (eqb-false k s h)
-
 -- ---- the lines of the loads
 pub loads-none : (f : ℕ → ℕ) (l : List ℕ) (at : ℕ) → Stored l l at at (loadLines f 0)
 unfolding loadLines
@@ -151,13 +112,11 @@ zero-at zero k = refl
 zero-at (suc n) zero = refl
 zero-at (suc n) (suc k) = zero-at n k
 
--- ---- head, tiles and loads
-pub all-stored : (J : Job) (p : List Float) (loads : List ℕ) (l m n o : List ℕ) (a b r : ℕ) → Stored l m 0 a (headLine (J .T) (J .S)) → Stored m n a b (tileLines J p (J .T))
-    → Stored n o b r (loadLines (λ k. getD loads k 0) (J .S)) → ((k : ℕ) → getD loads k 0 ≡ loadOf J p k (J .T)) → Stored l o 0 r (fitText J p)
+-- ---- head, tiles, loads and the blank ones
+pub all-stored : (J : Job) (p : List Float) (loads : List ℕ) (blank : ℕ) (l m n o u : List ℕ) (a b c r : ℕ) → Stored l m 0 a (headLine (J .T) (J .S))
+    → Stored m n a b (tileLines J p (J .T)) → Stored n o b c (loadLines (λ k. getD loads k 0) (J .S)) → Stored o u c r (blankLine blank)
+    → ((k : ℕ) → getD loads k 0 ≡ loadOf J p k (J .T)) → blank ≡ blanksOf (J .tiles) (J .T) → Stored l u 0 r (fitText J p)
 unfolding fitText
-all-stored J p loads l m n o a b r x y z h =
-    both-stored (both-stored x y)
-    (record {
-      text = z .text ∙ ap (sets n b) (loads-same (λ k. getD loads k 0) (λ k. loadOf J p k (J .T)) (J .S) h);
-      place = z .place ∙ ap (λ (u : List ℕ). b + length u) (loads-same (λ k. getD loads k 0) (λ k. loadOf J p k (J .T)) (J .S) h);
-    })
+all-stored J p loads blank l m n o u a b c r x y z w h e =
+    both-stored (both-stored (both-stored x y) (subst (Stored n o b c) (loads-same (λ k. getD loads k 0) (λ k. loadOf J p k (J .T)) (J .S) h) z))
+    (subst (λ (k : ℕ). Stored o u c r (blankLine k)) e w)

@@ -1,22 +1,41 @@
-// The lines that `fit` prints for a job and a palette: the sizes, each tile's fit and each subpalette's load.
+// The lines that `fit` prints for a job and a palette: the sizes, each tile's fit, each subpalette's load and the empty tiles.
 // Assumes nothing.
 use fit_lines::Found;
 use job::Sizes;
 ghost use mathlib.Core.Path.{_≡_};
 ghost use Prim.Native.Nat.{_+_, _<_, ℕ, _*_, _≤_};
+ghost use mathlib.Core.Bool.{not};
+ghost use lib.Dec.{eqb};
 ghost use lib.ListN.{length, getD, set};
 ghost use Rattle.fit_lines.specs.Lines.{Stored};
-ghost use Rattle.job.specs.Job.{jobOf};
+ghost use Rattle.lists.specs.Count.{hit};
+ghost use Rattle.job.specs.Job.{jobOf, sizeOf, mostTiles};
 ghost use Rattle.palette_tile.specs.Tiles.{Shown, Paired};
-ghost use Rattle.fit_tiles.specs.Text.{foundOf, tileLines, loadLines, loadOf, fitText, mostText};
+ghost use Rattle.fit_tiles.specs.Text.{foundOf, tileLines, loadLines, loadOf, blanksOf, fitText, mostText};
 
-// The load of subpalette `sub` with one tile more.
-fn count_tile(loads: &mut [u32], sub: u32)
-    requires { ⌜ (sub < length (now loads)) × (getD (now loads) sub 0 + 1 < 4294967296) ⌝ }
-    ensures { λ r. ⌜ now (loads .exit) ≡ set (now (loads .entry)) sub (getD (now (loads .entry)) sub 0 + 1) ⌝ }
+// The load of subpalette `sub` with its tile i: an empty one adds nothing.
+fn count_tile(tiles: &[u32], i: usize, sub: u32, loads: &mut [u32])
+    requires { ⌜ (2 * i + 1 < length (now tiles)) × (sub < length (now loads)) × (getD (now loads) sub 0 + 1 < 4294967296) ⌝ }
+    ensures { λ r. ⌜ now (loads .exit)
+        ≡ set (now (loads .entry)) sub (getD (now (loads .entry)) sub 0 + hit (not (eqb (sizeOf (now (tiles .entry)) i) 0))) ⌝ }
 {
     let k = sub as usize;
-    loads[k] += 1;
+    let one = if job::is_empty(tiles, i) { 0 } else { 1 };
+    loads[k] += one;
+}
+
+// How many of the first t tiles are empty.
+fn count_blanks(tiles: &[u32], t: usize) -> u32
+    requires { ⌜ (2 * t ≤ length (now tiles)) × (t ≤ mostTiles) ⌝ }
+    ensures { λ r. ⌜ r ≡ blanksOf (now (tiles .entry)) t ⌝ }
+{
+    let mut n = 0;
+    let mut i = 0;
+    while i < t {
+        n += if job::is_empty(tiles, i) { 1 } else { 0 };
+        i += 1;
+    }
+    n
 }
 
 // Tile i: an empty one has subpalette 0, distance 0 and next 0.
@@ -46,7 +65,7 @@ fn tile_found(
     Found { sub, dist, next }
 }
 
-// A line for each tile, and how many tiles each subpalette has.
+// A line for each tile, and how many tiles each subpalette has, the empty ones left out.
 fn put_tiles(
     z: Sizes,
     tiles: &[u32],
@@ -68,7 +87,7 @@ fn put_tiles(
     while i < z.t {
         let found = tile_found(z, tiles, colours, counts, palette, hints, i);
         q = fit_lines::put_tile(out, q, i as u32, found);
-        count_tile(loads, found.sub);
+        count_tile(tiles, i, found.sub, loads);
         i += 1;
     }
     q
@@ -114,5 +133,6 @@ pub fn put_fit(
         out,
         a,
     );
-    put_loads(z.s, &loads, out, b)
+    let c = put_loads(z.s, &loads, out, b);
+    fit_lines::put_blank(out, c, count_blanks(tiles, z.t))
 }

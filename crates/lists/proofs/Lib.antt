@@ -4,3 +4,4 @@ pub mod Loops
 pub mod Hits
 pub mod Counting
 pub mod Copies
+pub mod Sums

@@ -1,6 +1,6 @@
--- `put_tile` meets its contract: two fields, the distance, a field and the line's end. Assumes nothing.
+-- `put_tile` meets its contract: two fields, the distance and the last field. Assumes nothing.
 use native.Mathlib.Omega.{arith}
-use Rattle.fit_lines.specs.Lines.{tileLine, tileWord, subWord, nextWord}
+use Rattle.fit_lines.specs.Lines.{tileLine, tileWord, subWord}
 use Rattle.fit_lines.proofs.Lengths.{field-most, length-digits}
 use Rattle.fit_lines.proofs.Stores.{both-stored}
 use borrow.Author.Needs.{needs}
@@ -44,11 +44,11 @@ put-digits-requires c κs =
       after-put-word .put-word .ensures .place,
     )
 
-slice-aggregate-put-field-3 : tie.Need-slice-aggregate-put-field-3
-slice-aggregate-put-field-3 c = search needs
+slice-aggregate-put-last : tie.Need-slice-aggregate-put-last
+slice-aggregate-put-last c = search needs
 
-put-field-requires-3 : tie.Need-put-field-requires-3
-put-field-requires-3 c κs =
+put-last-requires : tie.Need-put-last-requires
+put-last-requires c κs =
     let after-put-digits = c .before .before .before .before in let after-put-word = after-put-digits .before .before .before .before in
     let after-put-field2 = after-put-word .before .before .before .before .before in
     let after-put-field = after-put-field2 .before .before .before .before .before in let start = after-put-field .before .before .before .before in
@@ -64,45 +64,21 @@ put-field-requires-3 c κs =
       length-digits 16 8 (a .found .dist),
     )
 
-slice-aggregate-put-word-2 : tie.Need-slice-aggregate-put-word-2
-slice-aggregate-put-word-2 c = search needs
-
-put-word-requires-2 : tie.Need-put-word-requires-2
-put-word-requires-2 c κs =
-    let after-put-field3 = c .before .before .before .before in
-    let after-put-digits = after-put-field3 .before .before .before .before .before in let after-put-word = after-put-digits .before .before .before .before in
-    let after-put-field2 = after-put-word .before .before .before .before .before in
-    let after-put-field = after-put-field2 .before .before .before .before .before in let start = after-put-field .before .before .before .before in
-    let a = start .args in
-    omega (
-      arith,
-      after-put-field .put-field .ensures .place,
-      after-put-field2 .put-field2 .ensures .place,
-      field-most tileWord (a .tile),
-      field-most subWord (a .found .sub),
-      after-put-word .put-word .ensures .place,
-      after-put-digits .put-digits .ensures .place,
-      length-digits 16 8 (a .found .dist),
-      after-put-field3 .put-field3 .ensures .place,
-      field-most nextWord (a .found .next),
-    )
-
 same-length : tie.Need-same-length
 same-length c = search needs
 
 returns : tie.Need-returns
 unfolding tileLine
 returns c =
-    let after-put-word2 = c .before .before in let after-put-field3 = after-put-word2 .before .before .before .before .before in
-    let after-put-digits = after-put-field3 .before .before .before .before .before in
+    let after-put-last = c .before .before in let after-put-digits = after-put-last .before .before .before .before .before in
     let after-put-word = after-put-digits .before .before .before .before in
     let after-put-field2 = after-put-word .before .before .before .before .before in
     let after-put-field = after-put-field2 .before .before .before .before .before in
-    both-stored (both-stored (both-stored (both-stored (both-stored (after-put-field .put-field .ensures) (after-put-field2 .put-field2 .ensures)) (after-put-word .put-word .ensures))
-    (after-put-digits .put-digits .ensures)) (after-put-field3 .put-field3 .ensures)) (after-put-word2 .put-word2 .ensures)
+    let fields = both-stored (after-put-field .put-field .ensures) (after-put-field2 .put-field2 .ensures) in
+    both-stored (both-stored (both-stored fields (after-put-word .put-word .ensures)) (after-put-digits .put-digits .ensures)) (after-put-last .put-last .ensures)
 
 pub put-tile-spec : {M : Type 1} → statement M
 put-tile-spec =
     tie.close
     (tie.spec slice-aggregate-put-field put-field-requires slice-aggregate-put-field-2 put-field-requires-2 slice-aggregate-put-word put-word-requires
-    put-digits-requires slice-aggregate-put-field-3 put-field-requires-3 slice-aggregate-put-word-2 put-word-requires-2 same-length returns)
+    put-digits-requires slice-aggregate-put-last put-last-requires same-length returns)

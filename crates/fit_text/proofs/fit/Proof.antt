@@ -4,7 +4,7 @@ use Rattle.sheet.specs.Sheets.{room}
 use Rattle.sheet_parts.proofs.Readings.{are-bytes, Lengths, lengths}
 use Rattle.sheet_parts.proofs.Texts.{held, refused-text, front-text, nothing-told, told}
 use Rattle.fit_tiles.specs.Text.{fitText}
-use Rattle.fit_tiles.proofs.Lengths.{refused-most}
+use Rattle.fit_lines.proofs.Lengths.{refused-most}
 use borrow.Author.Needs.{needs}
 use Rattle.fit_text.proofs.fit.Statement.{statement}
 use Rattle.fit_text.proofs.fit.Tie as tie

@@ -5,7 +5,7 @@ use native.Mathlib.Omega.{arith}
 use lib.ListN.{length, getD}
 use Rattle.fit_lines.specs.Lines.{Stored}
 use Rattle.fit_tiles.specs.Text.{loadLines}
-use Rattle.fit_tiles.proofs.Lengths.{load-most}
+use Rattle.fit_lines.proofs.Lengths.{load-most}
 use Rattle.fit_tiles.proofs.Tiles.{loads-none, loads-more}
 use Rattle.fit_tiles.proofs.put_loads.Statement.{statement}
 use Rattle.fit_tiles.proofs.put_loads.Tie as tie

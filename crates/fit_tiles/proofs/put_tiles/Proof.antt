@@ -8,8 +8,9 @@ use Rattle.job.specs.Job.{Job, jobOf}
 use Rattle.fit_lines.specs.declared.Found.{Found}
 use Rattle.fit_lines.specs.Lines.{Stored}
 use Rattle.fit_tiles.specs.Text.{tileLines, loadOf}
-use Rattle.fit_tiles.proofs.Lengths.{tile-most}
-use Rattle.fit_tiles.proofs.Tiles.{sub-below, lines-none, lines-more, load-none, load-few, load-more}
+use Rattle.fit_lines.proofs.Lengths.{tile-most}
+use Rattle.fit_tiles.proofs.Tiles.{sub-below, lines-none, lines-more}
+use Rattle.fit_tiles.proofs.Loads.{load-none, load-few, load-more}
 use Rattle.fit_tiles.proofs.put_tiles.Statement.{statement}
 use Rattle.fit_tiles.proofs.put_tiles.Tie as tie
 
@@ -54,6 +55,7 @@ count-tile-requires c κs =
     let f = c .before .before .before .before .before .before .before in let l = f .before .before .before .before in
     let lent = l .before .before .before .before .before .before .before in let start = lent .before in let turn = l .loop in let a = start .args in
     let J : Job = jobOf (a .z) (a .tiles .now) (a .colours .now) (a .counts .now) in (
+      omega (arith, start .pre .0 .ready .table),
       omega (arith, ap (λ (x : Found). x .sub) (f .tile-found .ensures), sub-below J (a .palette .now) (start .pre .0) (turn .i)),
       omega (arith, turn .inv .6 (f .tile-found .result .sub), load-few J (a .palette .now) (f .tile-found .result .sub) (turn .i), start .pre .0 .ready .sizes .tiles),
     )
@@ -74,7 +76,7 @@ loop-again c =
     let room = tile-most (turn .i) found in (
       omega arith,
       f .tile-found .kept .1 .1 .1 .1 .1 .0 ∙ turn .inv .1,
-      n .count-tile .kept .0 ∙ turn .inv .2,
+      n .count-tile .kept .1 .1 .1 .0 ∙ turn .inv .2,
       p .put-tile .kept .0 ∙ turn .inv .3,
       omega (arith, p .put-tile .ensures .place),
       lines-more J (a .palette .now) (a .out .now) (turn .out) (p .put-tile .last .0) (a .at) (turn .q) (p .put-tile .result) (turn .i) found (turn .inv .5) (p .put-tile .ensures) its,

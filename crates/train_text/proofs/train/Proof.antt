@@ -4,7 +4,7 @@ use Rattle.sheet.specs.Sheets.{room}
 use Rattle.sheet_parts.proofs.Readings.{are-bytes, Lengths, lengths}
 use Rattle.sheet_parts.proofs.Texts.{held, refused-text, front-text, nothing-told, told}
 use Rattle.train_text.specs.Trained.{jobText}
-use Rattle.fit_tiles.proofs.Lengths.{refused-most}
+use Rattle.fit_lines.proofs.Lengths.{refused-most}
 use borrow.Author.Needs.{needs}
 use Rattle.train_text.proofs.train.Statement.{statement}
 use Rattle.train_text.proofs.train.Tie as tie

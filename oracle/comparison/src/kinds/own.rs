@@ -93,8 +93,9 @@ fn example(_: &mut Rng, _: u64, tally: &mut Tally) {
         "tile 1 sub 0 dist 00000000 next 0",
         "tile 2 sub 0 dist 3f000000 next 1",
         "tile 3 sub 1 dist 00000000 next 0",
-        "load 0 3",
+        "load 0 2",
         "load 1 1",
+        "blank 1",
         "",
     ];
     let fitted = sheet::fitted::fitted(&bytes).into_bytes();

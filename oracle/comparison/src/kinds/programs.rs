@@ -48,7 +48,16 @@ fn fit_example(_: &mut Rng, _: u64, tally: &mut Tally) {
 }
 
 fn fits(bytes: &[u8], tally: &mut Tally) {
-    tally.answered("program fit", sheet::read(bytes).err().unwrap_or(0));
+    match sheet::read(bytes) {
+        Err(number) => tally.answered("program fit", number),
+        Ok(sheet) => {
+            tally.answered("program fit", 0);
+            let blank = sheet.tiles.iter().filter(|tile| tile.counts.is_empty()).count();
+            tally.add("tiles counted in a load", (sheet.tiles.len() - blank) as u64);
+            tally.add("blank tiles", blank as u64);
+            tally.add("sheets of blank tiles alone", u64::from(blank == sheet.tiles.len()));
+        }
+    }
     same("fit", bytes, fitted(bytes).into_bytes(), tally);
 }
 

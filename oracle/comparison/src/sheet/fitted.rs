@@ -13,21 +13,22 @@ pub fn fitted(bytes: &[u8]) -> String {
     let rust = answers::rust(sheet.weight);
     let s = sheet.palette.len();
     let mut text = format!("tiles {} subpalettes {s}\n", sheet.tiles.len());
-    let mut load = vec![0; s];
+    let (mut load, mut blank) = (vec![0; s], 0);
     for (i, tile) in sheet.tiles.iter().enumerate() {
-        let empty = tile.counts.is_empty();
-        let (sub, dist, next) = if empty {
+        let (sub, dist, next) = if tile.counts.is_empty() {
+            blank += 1;
             (0, 0.0, 0)
         } else {
             let fit = rust.best_fit(&sheet.palette, tile, &[0])[0];
+            load[fit.index] += 1;
             (fit.index, fit.dist, next_best(&sheet.palette, tile, sheet.weight, fit.index))
         };
-        load[sub] += 1;
         writeln!(text, "tile {i} sub {sub} dist {:08x} next {next}", f32::to_bits(dist)).unwrap();
     }
     for (i, tiles) in load.iter().enumerate() {
         writeln!(text, "load {i} {tiles}").unwrap();
     }
+    writeln!(text, "blank {blank}").unwrap();
     text
 }
 

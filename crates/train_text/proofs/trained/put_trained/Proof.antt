@@ -1,7 +1,7 @@
 -- `put_trained` meets its contract, by the refusal that its number of samples gets. Assumes nothing.
 use native.Mathlib.Omega.{arith}
 use Rattle.sheet_parts.proofs.Parts.{front-long}
-use Rattle.fit_tiles.proofs.Lengths.{refused-most}
+use Rattle.fit_lines.proofs.Lengths.{refused-most}
 use Rattle.train_text.proofs.Rules.{countable}
 use Rattle.train_text.proofs.Texts.{refused-text, taken, drawable, trained-writable, trained-text}
 use borrow.Author.Needs.{needs}
