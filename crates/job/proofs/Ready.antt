@@ -1,6 +1,6 @@
 -- An answer of 0 gives the records of Gives.antt, which this passes on with the laws. Assumes nothing.
 use Prim.Native.Nat.{ℕ, zero, suc, _+_, _*_, _≤_, _<_}
-use mathlib.Core.Path.{_≡_, refl, sym, _∙_}
+use mathlib.Core.Path.{_≡_, refl, sym, ap, _∙_}
 use mathlib.Core.Bool.{Bool, true, false, _&&_, true≢false}
 use mathlib.Core.List.{List}
 use native.Mathlib.Omega.{arith}
@@ -19,8 +19,9 @@ use Rattle.ieee.specs.Terms.{Within}
 use Rattle.ieee.proofs.Within.{neg-within}
 use Rattle.color.specs.Color.{Bounded}
 use Rattle.job.proofs.First.{none-first}
-use Rattle.job.specs.Rules.{Passed, answer, numbered}
-use Rattle.job.proofs.Passing.{all-pass}
+use Rattle.answer.specs.declared.Refusal.{Refusal}
+use Rattle.answer.specs.Rules.{Passed, answer, numbered}
+use Rattle.answer.proofs.Passing.{all-pass}
 use Rattle.job.specs.Job.{Job, tileSize, firstOf, sizeOf, countsPart, countsOf, mostSubpalettes, mostColours, mostTiles, mostTileColours, mostSamples, nought, two, sixteen}
 use Rattle.job.specs.Checks.{firstNot, tileSized, among, within, weightFits, tileTest, tileFits, tilesFit, countTest, countFits, partFits, tileCountsFit, countsFit}
 use Rattle.job.specs.Checks.{componentFits, firstBad, componentsFit, sampleTest, sampleFits, samplesFit, sizeRules, shapeRules, tables, plainRules, sampledRules, plainAnswer, sampledAnswer}
@@ -43,9 +44,9 @@ sizes-ready size s c t (y, p) =
       cells = mul-le-mul few cap;
     }
 
-pub sizes-of : (size s c t a : ℕ) → a ≡ answer (sizeRules size s c t) → a ≡ 0 → InRange size s c t
+pub sizes-of : (size s c t : ℕ) (a : Refusal) → a ≡ answer (sizeRules size s c t) → a .number ≡ 0 → InRange size s c t
 unfolding numbered
-sizes-of size s c t a e z = sizes-ready size s c t (all-pass (sizeRules size s c t) refl (sym e ∙ z))
+sizes-of size s c t a e z = sizes-ready size s c t (all-pass (sizeRules size s c t) refl (sym (ap (λ (x : Refusal). x .number) e) ∙ z))
 
 no-less : (a b : ℕ) → 0 * a < 0 * b * 1 → ⊥
 no-less a b h = omega arith
@@ -169,7 +170,7 @@ ready-of J p q r v =
       full = λ t l. counts-full (J .size) (countsOf J t) (part t l) (length (countsOf J t)) (omega arith);
     }
 
-pub plain-ready : (J : Job) (palette : List Float) (room : Bool) → plainAnswer J palette room ≡ 0 → Plain J palette room
+pub plain-ready : (J : Job) (palette : List Float) (room : Bool) → plainAnswer J palette room .number ≡ 0 → Plain J palette room
 unfolding plainAnswer numbered
 plain-ready J palette room e =
     let p = all-pass (plainRules J palette room) refl e in
@@ -193,7 +194,7 @@ module _ (tiles : List ℕ) (t : ℕ) (samples : List ℕ) (n : ℕ) (F : sample
   sample-place : getD samples (2 * i + 1) 0 < sizeOf tiles (getD samples (2 * i) 0)
   sample-place = ltb-true _ _ (and-r (ltb (getD samples (2 * i) 0) t) (ltb (getD samples (2 * i + 1) 0) (sizeOf tiles (getD samples (2 * i) 0))) sample-fits)
 
-pub sampled-ready : (J : Job) (n : ℕ) (samples : List ℕ) (room : Bool) → sampledAnswer J n samples room ≡ 0 → Sampled J n samples room
+pub sampled-ready : (J : Job) (n : ℕ) (samples : List ℕ) (room : Bool) → sampledAnswer J n samples room .number ≡ 0 → Sampled J n samples room
 unfolding sampledAnswer numbered
 sampled-ready J n samples room e =
     let p = all-pass (sampledRules J n samples room) refl e in

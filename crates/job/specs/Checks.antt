@@ -1,12 +1,13 @@
 -- The rules that a job is held to, in their order. Definitions only. Assumes nothing.
-use Prim.Native.Nat.{ℕ, zero, suc, _+_, _*_}
+use Prim.Native.Nat.{ℕ, zero, suc, _+_, _*_, _/_}
 use mathlib.Core.Bool.{Bool, cond, _&&_}
 use mathlib.Core.List.{List, [], _∷_, _++_}
 use lib.Dec.{eqb, ltb, leb}
 use lib.ListN.{length, getD}
 use lib.Ieee.{Float, nan, lt, le, neg}
 use Rattle.lists.specs.Every.{every, sum}
-use Rattle.job.specs.Rules.{Rule, rule, answer}
+use Rattle.answer.specs.declared.Refusal.{Refusal}
+use Rattle.answer.specs.Rules.{Rule, ruleAt, rule, answer}
 use Rattle.job.specs.Job.{Job, tileSize, firstOf, sizeOf, countsPart, mostSubpalettes, mostColours, mostTiles, mostTileColours, mostSamples, nought, two, sixteen}
 
 -- ---- numbers
@@ -68,6 +69,10 @@ firstBad m xs = firstNot (componentFits m xs) (length xs)
 abbrev pub componentsFit : Float → List Float → Bool
 componentsFit m xs = eqb (firstBad m xs) (length xs)
 
+-- colours of three components each, none of which may pass the limit: the first colour that has one is named, counted from `base`
+abbrev pub colourRule : ℕ → ℕ → Float → List Float → Rule
+colourRule number base m xs = ruleAt number (base + firstBad m xs / 3) (componentsFit m xs)
+
 -- ---- samples: a tile, and a colour by its place in that tile
 unfoldable pub sampleTest : List ℕ → ℕ → ℕ → ℕ → Bool
 sampleTest tiles t tile place = ltb tile t && ltb place (sizeOf tiles tile)
@@ -104,13 +109,13 @@ sampledFormRules size s c t n tiles colours counts samples room =
     ++ (rule 2 (leb n mostSamples)
     ∷ (shapeRules t tiles colours counts ++ (rule 3 (eqb samples (2 * n)) ∷ rule 3 room ∷ rule 1 (leb 1 n) ∷ [])))
 
--- 7 of a call without samples: the palette is among the job's colours
-abbrev pub boundRules : List Float → List Float → List Rule
-boundRules palette colours = rule 7 (componentsFit two palette) ∷ rule 7 (componentsFit two colours) ∷ []
+-- 7 of a call without samples: the palette's `cells` colours are among the job's, and come before those of the tiles
+abbrev pub boundRules : ℕ → List Float → List Float → List Rule
+boundRules cells palette colours = colourRule 7 0 two palette ∷ colourRule 7 cells two colours ∷ []
 
 -- 7 and 8 of a call with samples
 abbrev pub placeRules : ℕ → List ℕ → List Float → ℕ → List ℕ → List Rule
-placeRules t tiles colours n samples = rule 7 (componentsFit two colours) ∷ rule 8 (samplesFit tiles t samples n) ∷ []
+placeRules t tiles colours n samples = colourRule 7 0 two colours ∷ rule 8 (samplesFit tiles t samples n) ∷ []
 
 -- ---- the rules of a call
 abbrev pub tables : Job → List Rule
@@ -118,16 +123,17 @@ tables J = tableRules (J .size) (J .T) (J .weight) (J .tiles) (J .counts)
 
 abbrev pub plainRules : Job → List Float → Bool → List Rule
 plainRules J palette room =
-    formRules (J .size) (J .S) (J .C) (J .T) (J .tiles) (J .colours) (J .counts) (length palette) room ++ (tables J ++ boundRules palette (J .colours))
+    formRules (J .size) (J .S) (J .C) (J .T) (J .tiles) (J .colours) (J .counts) (length palette) room
+    ++ (tables J ++ boundRules (J .S * J .C) palette (J .colours))
 
 abbrev pub sampledRules : Job → ℕ → List ℕ → Bool → List Rule
 sampledRules J n samples room =
     sampledFormRules (J .size) (J .S) (J .C) (J .T) n (J .tiles) (J .colours) (J .counts) (length samples) room
     ++ (tables J ++ placeRules (J .T) (J .tiles) (J .colours) n samples)
 
--- the number that a call without samples, and one with n samples, gets before its own rules
-unfoldable pub plainAnswer : Job → List Float → Bool → ℕ
+-- what a call without samples, and one with n samples, is answered before its own rules
+unfoldable pub plainAnswer : Job → List Float → Bool → Refusal
 plainAnswer J palette room = answer (plainRules J palette room)
 
-unfoldable pub sampledAnswer : Job → ℕ → List ℕ → Bool → ℕ
+unfoldable pub sampledAnswer : Job → ℕ → List ℕ → Bool → Refusal
 sampledAnswer J n samples room = answer (sampledRules J n samples room)

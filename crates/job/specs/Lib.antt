@@ -1,4 +1,4 @@
-pub mod Rules
 pub mod Job
 pub mod Checks
 pub mod Gives
+pub mod Bad

@@ -1,10 +1,13 @@
 // A job's sizes by value, its tiles as parts of what is lent, and the test of its components. Assumes nothing.
 ghost use mathlib.Core.Path.{_≡_};
-ghost use Prim.Native.Nat.{_+_, _*_, _<_};
+ghost use mathlib.Core.List.{[], _∷_};
+ghost use Prim.Native.Nat.{_+_, _*_, _<_, _≤_};
 ghost use lib.Dec.{eqb};
 ghost use lib.ListN.{length};
-ghost use Rattle.job.specs.Job.{sizesOf, firstOf, sizeOf, coloursPart, countsPart, Inside};
-ghost use Rattle.job.specs.Checks.{within, firstBad};
+ghost use Rattle.answer.specs.Rules.{answer};
+ghost use Rattle.job.specs.Job.{sizesOf, firstOf, sizeOf, coloursPart, countsPart, Inside, mostSubpalettes, mostColours};
+ghost use Rattle.job.specs.Checks.{within, firstBad, colourRule};
+use answer::Refusal;
 
 // The numbers of a call, by value: how many pixels a tile has at most, subpalettes, colours in each, tiles, samples (0 where none are
 // lent), and the weight of brightness.
@@ -106,4 +109,19 @@ pub fn first_bad(xs: &[f32], limit: f32) -> usize
         i += 1;
     }
     i
+}
+
+// `number` and the first colour with a component that is not within the limit, counted from `base`; or nothing.
+pub fn check_colours(number: u32, base: usize, xs: &[f32], limit: f32) -> Refusal
+    requires { ⌜ base ≤ mostSubpalettes * mostColours ⌝ }
+    ensures { λ r. ⌜ r ≡ answer (colourRule number base limit (now (xs .entry)) ∷ []) ⌝ }
+{
+    let bad = first_bad(xs, limit);
+    if bad != xs.len() {
+        return Refusal {
+            number,
+            index: base + bad / 3,
+        };
+    }
+    answer::DONE
 }

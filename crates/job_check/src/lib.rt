@@ -3,46 +3,48 @@
 ghost use mathlib.Core.Path.{_≡_};
 ghost use Prim.Native.Nat.{_*_};
 ghost use lib.ListN.{length};
-ghost use Rattle.job.specs.Rules.{answer};
+ghost use Rattle.answer.specs.Rules.{answer};
 ghost use Rattle.job.specs.Checks.{tableRules, placeRules, formRules, plainAnswer, sampledFormRules, sampledAnswer};
 ghost use Rattle.job.specs.Job.{jobOf};
+use answer::Refusal;
 use job::Sizes;
 
 const MOST_TILE_COLOURS: usize = 16384;
 
 // Numbers 4 to 6, of a job whose slices have their lengths.
-pub fn check_tables(z: Sizes, tiles: &[u32], counts: &[u32]) -> u32
+pub fn check_tables(z: Sizes, tiles: &[u32], counts: &[u32]) -> Refusal
     requires { ⌜ length (now tiles) ≡ 2 * z .t ⌝ }
     ensures { λ r. ⌜ r ≡ answer (tableRules (z .size) (z .t) (z .weight) (now (tiles .entry)) (now (counts .entry))) ⌝ }
 {
     if !job_limits::weight_fits(z.weight) {
-        return 4;
+        return answer::WEIGHT;
     }
     let total = counts.len();
     if total > MOST_TILE_COLOURS {
-        return 5;
+        return answer::TILES;
     }
     if !job_tables::tiles_fit(z.size, tiles, z.t, total) {
-        return 5;
+        return answer::TILES;
     }
     if !job_tables::counts_fit(z.size, tiles, z.t, counts) {
-        return 6;
+        return answer::COUNTS;
     }
-    0
+    answer::DONE
 }
 
 // Numbers 7 and 8 of a call with n samples.
-pub fn check_places(z: Sizes, tiles: &[u32], colours: &[f32], samples: &[u32]) -> u32
+pub fn check_places(z: Sizes, tiles: &[u32], colours: &[f32], samples: &[u32]) -> Refusal
     requires { ⌜ (length (now tiles) ≡ 2 * z .t) × (length (now samples) ≡ 2 * z .n) ⌝ }
     ensures { λ r. ⌜ r ≡ answer (placeRules (z .t) (now (tiles .entry)) (now (colours .entry)) (z .n) (now (samples .entry))) ⌝ }
 {
-    if job::first_bad(colours, job::MOST_COMPONENT) != colours.len() {
-        return 7;
+    let a = job::check_colours(7, 0, colours, job::MOST_COMPONENT);
+    if a.number != 0 {
+        return a;
     }
     if !job_tables::samples_fit(tiles, z.t, samples, z.n) {
-        return 8;
+        return answer::SAMPLES;
     }
-    0
+    answer::DONE
 }
 
 // Numbers 2 and 3 of a call without samples. `room` says whether the call's own slices have their lengths.
@@ -53,27 +55,27 @@ fn check_form(
     counts: &[u32],
     palette: usize,
     room: bool,
-) -> u32
+) -> Refusal
     ensures { λ r. ⌜ r ≡ answer (formRules (z .size) (z .s) (z .c) (z .t) (now (tiles .entry)) (now (colours .entry)) (now (counts .entry)) palette room) ⌝ }
 {
     let a = job_limits::check_sizes(z);
-    if a != 0 {
+    if a.number != 0 {
         return a;
     }
     let b = job_limits::check_shapes(z, tiles, colours, counts);
-    if b != 0 {
+    if b.number != 0 {
         return b;
     }
     if palette != 3 * (z.s * z.c) {
-        return 3;
+        return answer::LENGTHS;
     }
     if !room {
-        return 3;
+        return answer::LENGTHS;
     }
-    0
+    answer::DONE
 }
 
-// 0, or the number of the first rule that a call without samples breaks.
+// The first rule that a call without samples breaks, or nothing.
 pub fn check_job(
     z: Sizes,
     tiles: &[u32],
@@ -81,18 +83,18 @@ pub fn check_job(
     counts: &[u32],
     palette: &[f32],
     room: bool,
-) -> u32
+) -> Refusal
     ensures { λ r. ⌜ r ≡ plainAnswer (jobOf z (now (tiles .entry)) (now (colours .entry)) (now (counts .entry))) (now (palette .entry)) room ⌝ }
 {
     let a = check_form(z, tiles, colours, counts, palette.len(), room);
-    if a != 0 {
+    if a.number != 0 {
         return a;
     }
     let b = check_tables(z, tiles, counts);
-    if b != 0 {
+    if b.number != 0 {
         return b;
     }
-    job_limits::check_bounds(palette, colours)
+    job_limits::check_bounds(z.s * z.c, palette, colours)
 }
 
 const MOST_SAMPLES: usize = 16384;
@@ -105,33 +107,33 @@ fn check_sampled_form(
     counts: &[u32],
     samples: usize,
     room: bool,
-) -> u32
+) -> Refusal
     ensures { λ r. ⌜ r ≡ answer (sampledFormRules (z .size) (z .s) (z .c) (z .t) (z .n) (now (tiles .entry)) (now (colours .entry)) (now (counts .entry)) samples room) ⌝ }
 {
     let a = job_limits::check_sizes(z);
-    if a != 0 {
+    if a.number != 0 {
         return a;
     }
     if z.n > MOST_SAMPLES {
-        return 2;
+        return answer::SIZES;
     }
     let b = job_limits::check_shapes(z, tiles, colours, counts);
-    if b != 0 {
+    if b.number != 0 {
         return b;
     }
     if samples != 2 * z.n {
-        return 3;
+        return answer::LENGTHS;
     }
     if !room {
-        return 3;
+        return answer::LENGTHS;
     }
     if z.n == 0 {
-        return 1;
+        return answer::NO_SAMPLES;
     }
-    0
+    answer::DONE
 }
 
-// 0, or the number of the first rule that a job with n samples breaks.
+// The first rule that a job with n samples breaks, or nothing.
 pub fn check_sampled(
     z: Sizes,
     tiles: &[u32],
@@ -139,15 +141,15 @@ pub fn check_sampled(
     counts: &[u32],
     samples: &[u32],
     room: bool,
-) -> u32
+) -> Refusal
     ensures { λ r. ⌜ r ≡ sampledAnswer (jobOf z (now (tiles .entry)) (now (colours .entry)) (now (counts .entry))) (z .n) (now (samples .entry)) room ⌝ }
 {
     let a = check_sampled_form(z, tiles, colours, counts, samples.len(), room);
-    if a != 0 {
+    if a.number != 0 {
         return a;
     }
     let b = check_tables(z, tiles, counts);
-    if b != 0 {
+    if b.number != 0 {
         return b;
     }
     check_places(z, tiles, colours, samples)

@@ -1,10 +1,11 @@
 // The numbers of a job that have limits of their own, and which number its sizes, its slices' lengths and its components give.
 // What a stranger wrote is taken: no product in it can wrap.
 ghost use mathlib.Core.Path.{_≡_};
-ghost use Prim.Native.Nat.{_≤_};
-ghost use Rattle.job.specs.Rules.{answer};
+ghost use Prim.Native.Nat.{_*_, _≤_};
+ghost use Rattle.answer.specs.Rules.{answer};
 ghost use Rattle.job.specs.Checks.{tileSized, among, weightFits, sizeRules, shapeRules, boundRules};
-ghost use Rattle.job.specs.Job.{mostTiles};
+ghost use Rattle.job.specs.Job.{mostTiles, mostSubpalettes, mostColours};
+use answer::Refusal;
 use job::Sizes;
 
 const MOST_SUBPALETTES: usize = 16;
@@ -42,47 +43,46 @@ pub fn weight_fits(w: f32) -> bool
 }
 
 // The tests of number 2 that every call shares.
-pub fn check_sizes(z: Sizes) -> u32
+pub fn check_sizes(z: Sizes) -> Refusal
     ensures { λ r. ⌜ r ≡ answer (sizeRules (z .size) (z .s) (z .c) (z .t)) ⌝ }
 {
     if !is_tile_size(z.size) {
-        return 2;
+        return answer::SIZES;
     }
     if !is_among(z.s, MOST_SUBPALETTES) {
-        return 2;
+        return answer::SIZES;
     }
     if !is_among(z.c, MOST_COLOURS) {
-        return 2;
+        return answer::SIZES;
     }
     if !is_among(z.t, MOST_TILES) {
-        return 2;
+        return answer::SIZES;
     }
-    0
+    answer::DONE
 }
 
 // Number 3 for the slices that every call has: two numbers a tile, three a colour.
-pub fn check_shapes(z: Sizes, tiles: &[u32], colours: &[f32], counts: &[u32]) -> u32
+pub fn check_shapes(z: Sizes, tiles: &[u32], colours: &[f32], counts: &[u32]) -> Refusal
     requires { ⌜ z .t ≤ mostTiles ⌝ }
     ensures { λ r. ⌜ r ≡ answer (shapeRules (z .t) (now (tiles .entry)) (now (colours .entry)) (now (counts .entry))) ⌝ }
 {
     if tiles.len() != 2 * z.t {
-        return 3;
+        return answer::LENGTHS;
     }
     if colours.len() != 3 * counts.len() {
-        return 3;
+        return answer::LENGTHS;
     }
-    0
+    answer::DONE
 }
 
-// Number 7 of a call without samples.
-pub fn check_bounds(palette: &[f32], colours: &[f32]) -> u32
-    ensures { λ r. ⌜ r ≡ answer (boundRules (now (palette .entry)) (now (colours .entry))) ⌝ }
+// Number 7 of a call without samples: the palette's `cells` colours, then those of the tiles.
+pub fn check_bounds(cells: usize, palette: &[f32], colours: &[f32]) -> Refusal
+    requires { ⌜ cells ≤ mostSubpalettes * mostColours ⌝ }
+    ensures { λ r. ⌜ r ≡ answer (boundRules cells (now (palette .entry)) (now (colours .entry))) ⌝ }
 {
-    if job::first_bad(palette, job::MOST_COMPONENT) != palette.len() {
-        return 7;
+    let a = job::check_colours(7, 0, palette, job::MOST_COMPONENT);
+    if a.number != 0 {
+        return a;
     }
-    if job::first_bad(colours, job::MOST_COMPONENT) != colours.len() {
-        return 7;
-    }
-    0
+    job::check_colours(7, cells, colours, job::MOST_COMPONENT)
 }

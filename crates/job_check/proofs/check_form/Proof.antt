@@ -13,16 +13,16 @@ check-sizes-requires c κs = search needs
 
 returns : tie.Need-returns
 returns c =
-    let after-check-sizes = c .before in let start = after-check-sizes .before .before .before .before in
+    let after-check-sizes = c .before .before in let start = after-check-sizes .before .before .before .before in
     let a = start .args in let J = jobOf (a .z) (now (a .tiles)) (now (a .colours)) (now (a .counts)) in
     form-sizes J (a .room) (a .palette) _ (after-check-sizes .check-sizes .ensures) (c .if1 .taken)
 
 check-shapes-requires : tie.Need-check-shapes-requires
-check-shapes-requires c κs = sizes-of _ _ _ _ _ (c .before .check-sizes .ensures) (c .if1 .left) .tiles
+check-shapes-requires c κs = sizes-of _ _ _ _ _ (c .before .before .check-sizes .ensures) (c .if1 .left) .tiles
 
 returns-2 : tie.Need-returns-2
 returns-2 c =
-    let after-check-shapes = c .before in let after-if1 = after-check-shapes .before in let after-check-sizes = after-if1 .before in
+    let after-check-shapes = c .before .before in let after-if1 = after-check-shapes .before in let after-check-sizes = after-if1 .before .before in
     let start = after-check-sizes .before .before .before .before in
     let a = start .args in let J = jobOf (a .z) (now (a .tiles)) (now (a .colours)) (now (a .counts)) in
     form-shapes J (a .room) _
@@ -30,26 +30,26 @@ returns-2 c =
 
 mul-if3 : tie.Need-mul-if3
 mul-if3 c =
-    let after-if1 = c .before .before .before in let after-check-sizes = after-if1 .before in
+    let after-if1 = c .before .before .before .before in let after-check-sizes = after-if1 .before .before in
     omega (arith, sizes-of _ _ _ _ _ (after-check-sizes .check-sizes .ensures) (after-if1 .if1 .left) .cells)
 
 mul-if3-2 : tie.Need-mul-if3-2
 mul-if3-2 c =
-    let after-if1 = c .before .before .before in let after-check-sizes = after-if1 .before in
+    let after-if1 = c .before .before .before .before in let after-check-sizes = after-if1 .before .before in
     omega (arith, sizes-of _ _ _ _ _ (after-check-sizes .check-sizes .ensures) (after-if1 .if1 .left) .cells)
 
 returns-3 : tie.Need-returns-3
 returns-3 c =
-    let after-if2 = c .before .before in let after-check-shapes = after-if2 .before in let after-if1 = after-check-shapes .before in
-    let after-check-sizes = after-if1 .before in let start = after-check-sizes .before .before .before .before in
+    let after-if2 = c .before .before in let after-check-shapes = after-if2 .before .before in let after-if1 = after-check-shapes .before in
+    let after-check-sizes = after-if1 .before .before in let start = after-check-sizes .before .before .before .before in
     let a = start .args in let J = jobOf (a .z) (now (a .tiles)) (now (a .colours)) (now (a .counts)) in
     form-palette J (a .room) _
     (after-check-sizes .check-sizes .ensures) (after-if1 .if1 .left) _ (after-check-shapes .check-shapes .ensures) (after-if2 .if2 .left) (a .palette) (c .if3 .taken)
 
 returns-4 : tie.Need-returns-4
 returns-4 c =
-    let after-if3 = c .before in let after-if2 = after-if3 .before .before in let after-check-shapes = after-if2 .before in
-    let after-if1 = after-check-shapes .before in let after-check-sizes = after-if1 .before in
+    let after-if3 = c .before in let after-if2 = after-if3 .before .before in let after-check-shapes = after-if2 .before .before in
+    let after-if1 = after-check-shapes .before in let after-check-sizes = after-if1 .before .before in
     let start = after-check-sizes .before .before .before .before in
     let a = start .args in let J = jobOf (a .z) (now (a .tiles)) (now (a .colours)) (now (a .counts)) in
     form-room J (a .room) _
@@ -58,8 +58,8 @@ returns-4 c =
 
 returns-5 : tie.Need-returns-5
 returns-5 c =
-    let after-if3 = c .before in let after-if2 = after-if3 .before .before in let after-check-shapes = after-if2 .before in
-    let after-if1 = after-check-shapes .before in let after-check-sizes = after-if1 .before in
+    let after-if3 = c .before in let after-if2 = after-if3 .before .before in let after-check-shapes = after-if2 .before .before in
+    let after-if1 = after-check-shapes .before in let after-check-sizes = after-if1 .before .before in
     let start = after-check-sizes .before .before .before .before in
     let a = start .args in let J = jobOf (a .z) (now (a .tiles)) (now (a .colours)) (now (a .counts)) in
     form-passes J (a .room) _

@@ -1,26 +1,24 @@
 -- `job_limits::check_bounds` meets its contract, return by return. Assumes nothing.
-use mathlib.Core.Path.{sym, _∙_}
-use borrow.Author.Tests.{eq-eqb, ne-eqb}
-use Rattle.job.proofs.Passing.{fails, skips, none}
+use mathlib.Core.Path.{refl}
+use Rattle.answer.specs.Rules.{numbered}
+use Rattle.answer.proofs.Passing.{stops, goes}
 use borrow.Author.Needs.{needs}
 use Rattle.job_limits.proofs.check_bounds.Statement.{statement}
 use Rattle.job_limits.proofs.check_bounds.Tie as tie
 
-first-bad-requires : tie.Need-first-bad-requires
-first-bad-requires c κs = search needs
+check-colours-requires : tie.Need-check-colours-requires
+check-colours-requires c κs = search needs
 
 returns : tie.Need-returns
-returns c = fails _ _ _ (ne-eqb _ _ (λ z. c .if1 .taken (c .before .first-bad .ensures ∙ z)))
+unfolding numbered
+returns c = stops _ _ _ refl (c .before .before .check-colours .ensures) (c .if1 .taken)
 
-first-bad-requires-2 : tie.Need-first-bad-requires-2
-first-bad-requires-2 c κs = search needs
+check-colours-requires-2 : tie.Need-check-colours-requires-2
+check-colours-requires-2 c κs = search needs
 
 returns-2 : tie.Need-returns-2
-returns-2 c = skips _ _ _ _ (eq-eqb _ _ (sym (c .before .before .before .first-bad .ensures) ∙ c .before .before .if1 .left)) (fails _ _ _ (ne-eqb _ _ (λ z. c .if2 .taken (c .before .first-bad2 .ensures ∙ z))))
-
-returns-3 : tie.Need-returns-3
-returns-3 c = skips _ _ _ _ (eq-eqb _ _ (sym (c .before .before .before .first-bad .ensures) ∙ c .before .before .if1 .left)) (skips _ _ _ _ (eq-eqb _ _ (sym (c .before .first-bad2 .ensures) ∙ c .if2 .left)) none)
+unfolding numbered
+returns-2 c = goes _ _ _ _ refl (c .before .before .before .check-colours .ensures) (c .before .if1 .left) (c .check-colours2 .ensures)
 
 pub check-bounds-spec : {M : Type 1} → statement M
-check-bounds-spec =
-    tie.close (tie.spec first-bad-requires returns first-bad-requires-2 returns-2 returns-3)
+check-bounds-spec = tie.close (tie.spec check-colours-requires returns check-colours-requires-2 returns-2)

@@ -1,0 +1,4 @@
+pub mod Passing
+pub mod Places
+pub mod Outcomes
+pub mod Words

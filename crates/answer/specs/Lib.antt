@@ -1,0 +1,4 @@
+pub mod Rules
+pub mod Names
+pub mod Outcome
+pub mod Words
