@@ -1,3 +1,2 @@
 mod Answers
 pub mod Reading
-pub mod Only

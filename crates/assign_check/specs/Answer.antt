@@ -1,9 +1,10 @@
--- The number that the call `assign` gets, from a job, a palette and the lengths of both lent slices. Definitions only. Assumes nothing.
+-- What the call `assign` is answered, from a job, a palette and the lengths of both lent slices. Definitions only. Assumes nothing.
 use Prim.Native.Nat.{ℕ}
 use mathlib.Core.Bool.{Bool, _&&_}
 use mathlib.Core.List.{List}
 use lib.Dec.{eqb}
 use lib.Ieee.{Float}
+use Rattle.answer.specs.declared.Refusal.{Refusal}
 use Rattle.job.specs.Job.{Job}
 use Rattle.job.specs.Checks.{plainAnswer}
 
@@ -11,5 +12,5 @@ use Rattle.job.specs.Checks.{plainAnswer}
 unfoldable pub roomFor : ℕ → ℕ → ℕ → Bool
 roomFor t hints out = eqb hints t && eqb out t
 
-abbrev pub answerFor : Job → List Float → ℕ → ℕ → ℕ
+abbrev pub answerFor : Job → List Float → ℕ → ℕ → Refusal
 answerFor J palette hints out = plainAnswer J palette (roomFor (J .T) hints out)

@@ -1,4 +1,5 @@
-// Which number the call `assign` gets.
+// What the call `assign` is answered.
+use answer::Refusal;
 use job::Sizes;
 ghost use mathlib.Core.Path.{_≡_};
 ghost use Rattle.job.specs.Job.{jobOf};
@@ -14,7 +15,7 @@ fn has_room(t: usize, hints: usize, out: usize) -> bool
     false
 }
 
-// 0, or the number of the first rule that the call breaks, given the lengths of both lent slices.
+// The first rule that the call breaks, or nothing, given the lengths of both lent slices.
 pub fn check_assign(
     z: Sizes,
     tiles: &[u32],
@@ -23,7 +24,7 @@ pub fn check_assign(
     palette: &[f32],
     hints: usize,
     out: usize,
-) -> u32
+) -> Refusal
     ensures { λ r. ⌜ r ≡ answerFor (jobOf z (now (tiles .entry)) (now (colours .entry)) (now (counts .entry))) (now (palette .entry)) hints out ⌝ }
 {
     let room = has_room(z.t, hints, out);

@@ -1,6 +1,6 @@
 -- A job and a palette that passed the checks of a call without samples can be asked for fits; with one tile, of that tile. Assumes nothing.
 use Prim.Native.Nat.{ℕ}
-use mathlib.Core.Path.{_≡_, sym, _∙_}
+use mathlib.Core.Path.{_≡_, subst, _∙_}
 use mathlib.Core.Bool.{Bool}
 use mathlib.Core.List.{List}
 use native.Mathlib.Nat.{le-refl}
@@ -9,6 +9,7 @@ use lib.Dec.{eqb}
 use lib.Ieee.{Float}
 use lib.ListN.{length}
 use borrow.Author.Tests.{eqb-true}
+use Rattle.answer.specs.declared.Refusal.{Refusal}
 use Rattle.color.proofs.Sizes.{bounded-wider}
 use Rattle.job.specs.Job.{Job}
 use Rattle.job.specs.Gives.{Plain}
@@ -30,9 +31,9 @@ shown J palette room P =
     }
 
 -- what an answer of 0 to a call with one tile gives
-module _ (J : Job) (palette : List Float) (n : ℕ) (a : ℕ) (e : a ≡ oneAnswer J palette n) (z : a ≡ 0) where
-  answered : oneAnswer J palette n ≡ 0
-  answered = sym e ∙ z
+module _ (J : Job) (palette : List Float) (n : ℕ) (a : Refusal) (e : a ≡ oneAnswer J palette n) (z : a .number ≡ 0) where
+  answered : oneAnswer J palette n .number ≡ 0
+  answered = subst (λ (x : Refusal). x .number ≡ 0) e z
 
   pub one-paired : (hints : List ℕ) → length hints ≡ n → Paired J palette (J .S) (J .C) hints 0
   one-paired hints l =

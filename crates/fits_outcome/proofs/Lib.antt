@@ -1,3 +1,2 @@
 pub mod Singles
 pub mod Pairs
-pub mod Only

@@ -1,9 +1,10 @@
 // The public call `best_two`, over a job of one tile and its palette.
-// It first asks for the number of the first rule broken, over shared slices, so that a refusal writes nothing.
+// It first asks for the first rule broken, over shared slices, so that a refusal writes nothing.
 use job::Sizes;
 ghost use mathlib.Core.Path.{_≡_};
 ghost use Rattle.job.specs.Job.{jobOf};
-ghost use Rattle.fits_outcome.specs.Pairs.{pairOutcome, pairDef};
+ghost use Rattle.answer.specs.Outcome.{outcome};
+ghost use Rattle.fits_outcome.specs.Pairs.{pairDef};
 use fits_outcome::Pair;
 
 // The subpalette that fits the one tile of a job best and its distance, and the next best with its own, the best itself and infinity where
@@ -16,11 +17,11 @@ pub fn best_two(
     palette: &[f32],
     hints: &mut [u32],
 ) -> Pair
-    ensures { λ r. ⌜ pairOutcome r (now (hints .exit)) ≡ pairDef (jobOf z (now (tiles .entry)) (now (colours .entry)) (now (counts .entry))) (now (palette .entry)) (now (hints .entry)) ⌝ }
+    ensures { λ r. ⌜ outcome r (now (hints .exit)) ≡ pairDef (jobOf z (now (tiles .entry)) (now (colours .entry)) (now (counts .entry))) (now (palette .entry)) (now (hints .entry)) ⌝ }
 {
-    let number = fits_check::check_one(z, tiles, colours, counts, palette, hints.len());
-    if number != 0 {
-        return Pair::Refused(number);
+    let refusal = fits_check::check_one(z, tiles, colours, counts, palette, hints.len());
+    if refusal.number != 0 {
+        return Pair::Refused(refusal);
     }
     Pair::Best(palette_tile::tile_two(z, tiles, colours, counts, palette, z.s, z.c, hints, 0))
 }

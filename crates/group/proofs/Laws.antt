@@ -4,33 +4,35 @@ use mathlib.Core.Path.{_≡_, refl, sym, _∙_, ap}
 use mathlib.Core.Bool.{Bool, true, false, cond}
 use native.Mathlib.Omega.{arith}
 use lib.Dec.{ltb}
-use borrow.Author.Tests.{ltb-false, eq-eqb, ne-eqb}
-use Rattle.group_refusal.specs.Refusal.{Pixels, EntryRoom, firstOf, fault, refusalWhere, refusal}
+use borrow.Author.Tests.{ltb-false}
+use Rattle.answer.specs.declared.Refusal.{Refusal}
+use Rattle.answer.specs.Rules.{refusal}
+use Rattle.answer.specs.Outcome.{outcome}
+use Rattle.answer.proofs.Outcomes.{was-refused, was-done}
+use Rattle.group_refusal.specs.Refusal.{Pixels, EntryRoom, firstOf, fault, refusalWhere, groupAnswer}
 use Rattle.group.specs.declared.Grouped.the-variants.{Done, Refused}
 use Rattle.group.specs.Turn.{Filled, filled}
 use Rattle.group.specs.Entries.{fillTo}
-use Rattle.group.specs.Group.{outcome, grouping}
+use Rattle.group.specs.Group.{grouping}
 
-accept : (a b : Bool) (v : ℕ) → cond a 2 (cond b v 3) ≡ 0 → (a ≡ false) × (b ≡ true)
+accept : (a b : Bool) (v : Refusal) → cond a (refusal 2 0) (cond b v (refusal 3 0)) .number ≡ 0 → (a ≡ false) × (b ≡ true)
 accept true b v e = absurd (omega arith)
 accept false true v e = (refl, refl)
 accept false false v e = absurd (omega arith)
 
 -- what is not refused fits
-pub accepted : (size : ℕ) (q : Pixels) (fits : Bool) (r : ℕ) → r ≡ refusalWhere size q fits → r ≡ 0 → (q .p ≤ size) × (fits ≡ true)
+pub accepted : (size : ℕ) (q : Pixels) (fits : Bool) (r : Refusal) → r ≡ refusalWhere size q fits → r .number ≡ 0 → (q .p ≤ size) × (fits ≡ true)
 unfolding refusalWhere
 accepted size q fits r e z =
-    let a = accept (ltb size (q .p)) fits (firstOf (fault (q .bytes) (q .oklab) (q .zero)) 0 (q .p)) (sym e ∙ z) in
+    let a = accept (ltb size (q .p)) fits (firstOf (fault (q .bytes) (q .oklab) (q .zero)) 0 (q .p)) (ap (λ (x : Refusal). x .number) (sym e) ∙ z) in
     (ltb-false size (q .p) (a .0), a .1)
 
 module _ (size : ℕ) (q : Pixels) (m : EntryRoom) where
   -- a refusal writes nothing
-  pub stop : (r : ℕ) → r ≡ refusal size q m → (r ≡ 0 → ⊥) → outcome (Refused r) m ≡ grouping size q m
+  pub stop : (r : Refusal) → r ≡ groupAnswer size q m → (r .number ≡ 0 → ⊥) → outcome (Refused r) m ≡ grouping size q m
   unfolding grouping
-  stop r e n = rw (← e, ne-eqb r 0 n)
+  stop r e n = was-refused r _ e _ Refused m n
 
-  pub done : (r n : ℕ) (after : EntryRoom) → r ≡ refusal size q m → r ≡ 0 → filled n after ≡ fillTo q (q .p) m → outcome (Done n) after ≡ grouping size q m
+  pub done : (r : Refusal) (n : ℕ) (after : EntryRoom) → r ≡ groupAnswer size q m → r .number ≡ 0 → filled n after ≡ fillTo q (q .p) m → outcome (Done n) after ≡ grouping size q m
   unfolding grouping fillTo
-  done r n after e z f =
-      rw (← e, eq-eqb r 0 z)
-      (ap (λ (g : Filled). outcome (Done (g .entries)) (g .memory)) f)
+  done r n after e z f = was-done r _ e _ Refused m z _ (ap (λ (g : Filled). outcome (Done (g .entries)) (g .memory)) f)

@@ -1,14 +1,16 @@
 // Grouping, from `extract` of the Rust: the kept pixels of a tile become entries, one for each colour, with a count of their pixels.
 // What the first pass did not refuse, a second one fills into the room that the caller lends.
+use answer::Refusal;
 ghost use mathlib.Core.Path.{_≡_};
 ghost use mathlib.Core.Bool.{true};
 ghost use Prim.Native.Nat.{_*_, _≤_, _<_};
 ghost use lib.ListN.{length};
+ghost use Rattle.answer.specs.Outcome.{outcome};
 ghost use Rattle.group_refusal.specs.Refusal.{entryRoom, given, sized};
 ghost use Rattle.job.specs.Job.{tileSize};
 ghost use Rattle.group.specs.Turn.{seek, filled, turn, PixelRoom};
 ghost use Rattle.group.specs.Entries.{fillTo};
-ghost use Rattle.group.specs.Group.{outcome, grouping};
+ghost use Rattle.group.specs.Group.{grouping};
 
 // The first of n entries that has the bytes x, or n.
 fn position(n: usize, entry_bytes: &[u8], x: group_pixels::Rgba) -> usize
@@ -91,10 +93,10 @@ fn fill(
     n
 }
 
-// The number of entries written, or the number of the refusal.
+// The number of entries written, or the refusal.
 pub enum Grouped {
     Done(usize),
-    Refused(u32),
+    Refused(Refusal),
 }
 
 // Groups p pixels, four bytes and three numbers of Oklab each, into the lent room: 4p bytes, 3p numbers, p counts, p indexes.
@@ -111,7 +113,7 @@ pub fn group(
     ensures { λ r. ⌜ outcome r (entryRoom (now («entry_bytes» .exit)) (now («entry_oklab» .exit)) (now («entry_counts» .exit)) (now (index .exit)))
         ≡ grouping tileSize (given p (now (pixels .entry)) (now (oklab .entry)) zero) (entryRoom (now («entry_bytes» .entry)) (now («entry_oklab» .entry)) (now («entry_counts» .entry)) (now (index .entry))) ⌝ }
 {
-    let number = group_refusal::refuses(
+    let e = group_refusal::refuses(
         job::TILE_SIZE,
         p,
         pixels,
@@ -122,8 +124,8 @@ pub fn group(
         entry_counts.len(),
         index.len(),
     );
-    if number != 0 {
-        return Grouped::Refused(number);
+    if e.number != 0 {
+        return Grouped::Refused(e);
     }
     Grouped::Done(fill(
         p,

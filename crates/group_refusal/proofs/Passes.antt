@@ -5,20 +5,22 @@ use mathlib.Core.Bool.{Bool, true, false, _&&_}
 use lib.Dec.{eqb}
 use borrow.Author.Tests.{eqb-true, lt-ltb, le-ltb}
 use Rattle.lists.proofs.Tests.{and-l, and-r}
+use Rattle.answer.specs.declared.Refusal.{Refusal}
+use Rattle.answer.specs.Rules.{refusal}
 use Rattle.group_refusal.specs.Faults.{firstOf, fault}
 use Rattle.group_refusal.specs.Refusal.{Pixels, lengthsFit, refusalWhere}
 
 -- ---- the refusal
 module _ (size : ℕ) (q : Pixels) (fits : Bool) where
-  pub too-many : size < q .p → 2 ≡ refusalWhere size q fits
+  pub too-many : size < q .p → refusal 2 0 ≡ refusalWhere size q fits
   unfolding refusalWhere
   too-many h = rw (lt-ltb size (q .p) h)
 
-  pub misfit : q .p ≤ size → fits ≡ false → 3 ≡ refusalWhere size q fits
+  pub misfit : q .p ≤ size → fits ≡ false → refusal 3 0 ≡ refusalWhere size q fits
   unfolding refusalWhere
   misfit h e = rw (le-ltb size (q .p) h, e)
 
-  pub fitting : q .p ≤ size → fits ≡ true → (v : ℕ) → v ≡ firstOf (fault (q .bytes) (q .oklab) (q .zero)) 0 (q .p) → v ≡ refusalWhere size q fits
+  pub fitting : q .p ≤ size → fits ≡ true → (v : Refusal) → v ≡ firstOf (fault (q .bytes) (q .oklab) (q .zero)) 0 (q .p) → v ≡ refusalWhere size q fits
   unfolding refusalWhere
   fitting h e v f = rw (le-ltb size (q .p) h, e) f
 

@@ -1,11 +1,18 @@
--- What grouping refuses, for tiles of at most `size` pixels: 2, 3, then pixel by pixel 7 before 14. Definitions only. Assumes nothing.
-use Prim.Native.Nat.{ℕ, _*_}
-use mathlib.Core.Bool.{Bool, _&&_, cond}
-use mathlib.Core.List.{List}
+-- What grouping refuses, for tiles of at most `size` pixels: 2, 3, then pixel by pixel 7, with the pixel's index, before 14.
+-- Definitions only. Assumes nothing.
+use Prim.Native.Nat.{ℕ, _*_, _<_}
+use mathlib.Core.Path.{_≡_}
+use mathlib.Core.Bool.{Bool, true, false, _&&_, cond}
+use mathlib.Core.List.{List, [], _∷_}
 use lib.Dec.{eqb, ltb}
 use lib.ListN.{length}
 use lib.Ieee.{Float}
+use Rattle.answer.specs.declared.Refusal.{Refusal}
+use Rattle.answer.specs.Names.{Table}
+use Rattle.answer.specs.Rules.{refusal}
+use Rattle.color.specs.Color.{colourAt}
 use Rattle.group_pixels.specs.declared.Zero.{Zero}
+use Rattle.group_pixels.specs.Pixel.{rgbaAt, kept, inGamut}
 unfoldable pub use Rattle.group_refusal.specs.Faults.{some, firstOf, fault}
 
 -- what a call is given to read: p pixels, each four bytes and an Oklab colour, and colour zero where there is one
@@ -38,9 +45,21 @@ lengthsFit p bytes oklab entryBytes entryOklab counts index =
 abbrev pub sized : Pixels → EntryRoom → Bool
 sized q m = lengthsFit (q .p) (length (q .bytes)) (length (q .oklab)) (length (m .bytes)) (length (m .oklab)) (length (m .counts)) (length (m .index))
 
--- 0, or the number of the refusal: 2, 3, then pixel by pixel
-unfoldable pub refusalWhere : ℕ → Pixels → Bool → ℕ
-refusalWhere size q fits = cond (ltb size (q .p)) 2 (cond fits (firstOf (fault (q .bytes) (q .oklab) (q .zero)) 0 (q .p)) 3)
+-- nothing, or the refusal: 2, 3, then pixel by pixel
+unfoldable pub refusalWhere : ℕ → Pixels → Bool → Refusal
+refusalWhere size q fits = cond (ltb size (q .p)) (refusal 2 0) (cond fits (firstOf (fault (q .bytes) (q .oklab) (q .zero)) 0 (q .p)) (refusal 3 0))
 
-abbrev pub refusal : ℕ → Pixels → EntryRoom → ℕ
-refusal size q m = refusalWhere size q (sized q m)
+abbrev pub groupAnswer : ℕ → Pixels → EntryRoom → Refusal
+groupAnswer size q m = refusalWhere size q (sized q m)
+
+-- ---- the index
+-- pixel k is kept and out of range, and nothing is wrong with those before it
+pub record FirstOut (q : Pixels) (k : ℕ) : Type 0 where
+  pub there : k < q .p
+  pub is-kept : kept (q .zero) (rgbaAt (q .bytes) k) ≡ true
+  pub out : inGamut (colourAt (q .oklab) k) ≡ false
+  pub none-before : (i : ℕ) → i < k → fault (q .bytes) (q .oklab) (q .zero) i .number ≡ 0
+
+-- 7 names such a pixel, and any other number none
+abbrev pub pixelNames : Pixels → Table
+pixelNames q = (7, FirstOut q) ∷ []

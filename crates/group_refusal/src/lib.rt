@@ -1,5 +1,6 @@
-// The first pass of grouping, over shared slices and the lengths of lent ones: 0, or the number of the refusal. So a refusal writes nothing.
+// The first pass of grouping, over shared slices and the lengths of lent ones: nothing, or the refusal. So a refusal writes nothing.
 // A pixel's fault is an Oklab out of range, or another one than an earlier pixel's of the same bytes.
+use answer::Refusal;
 ghost use mathlib.Core.Path.{_≡_};
 ghost use Prim.Native.Nat.{_*_, _<_};
 ghost use lib.ListN.{length};
@@ -22,37 +23,40 @@ fn clashes(pixels: &[u8], oklab: &[f32], zero: group_pixels::Zero, k: usize) -> 
     false
 }
 
-// 0, or what is wrong with pixel k: 7 for its Oklab, 14 for an earlier pixel's.
-fn fault(pixels: &[u8], oklab: &[f32], zero: group_pixels::Zero, k: usize) -> u32
+// What is wrong with pixel k: 7 and its index for its Oklab, 14 for an earlier pixel's.
+fn fault(pixels: &[u8], oklab: &[f32], zero: group_pixels::Zero, k: usize) -> Refusal
     requires { ⌜ There (now pixels) (now oklab) k × Real (now pixels) (now oklab) zero k ⌝ }
     ensures { λ r. ⌜ r ≡ fault (now (pixels .entry)) (now (oklab .entry)) zero k ⌝ }
 {
     if !group_pixels::is_kept(zero, group_pixels::rgba_at(pixels, k)) {
-        return 0;
+        return answer::DONE;
     }
     if !group_pixels::in_gamut(color::colour(oklab, k)) {
-        return 7;
+        return Refusal {
+            number: 7,
+            index: k,
+        };
     }
     if clashes(pixels, oklab, zero, k) {
-        return 14;
+        return answer::SAME_COLOUR;
     }
-    0
+    answer::DONE
 }
 
-// The first pixel's fault, or 0.
-pub fn first_fault(p: usize, pixels: &[u8], oklab: &[f32], zero: group_pixels::Zero) -> u32
+// The fault of the first pixel that has one, or nothing.
+pub fn first_fault(p: usize, pixels: &[u8], oklab: &[f32], zero: group_pixels::Zero) -> Refusal
     requires { ⌜ (length (now pixels) ≡ 4 * p) × (length (now oklab) ≡ 3 * p) ⌝ }
     ensures { λ r. ⌜ r ≡ firstOf (fault (now (pixels .entry)) (now (oklab .entry)) zero) 0 p ⌝ }
 {
     let mut k = 0usize;
     while k < p {
-        let n = fault(pixels, oklab, zero, k);
-        if n != 0 {
-            return n;
+        let e = fault(pixels, oklab, zero, k);
+        if e.number != 0 {
+            return e;
         }
         k += 1;
     }
-    0
+    answer::DONE
 }
 
 // Whether every slice has the length that p implies.
@@ -86,7 +90,7 @@ fn is_sized(
     index == p
 }
 
-// 0 where these pixels can be grouped in room of these lengths, else the number of the refusal.
+// Nothing where these pixels can be grouped in room of these lengths, else the refusal.
 pub fn refuses(
     size: usize,
     p: usize,
@@ -97,12 +101,12 @@ pub fn refuses(
     entry_oklab: usize,
     entry_counts: usize,
     index: usize,
-) -> u32
+) -> Refusal
     requires { ⌜ size < 4294967296 ⌝ }
     ensures { λ r. ⌜ r ≡ refusalWhere size (given p (now (pixels .entry)) (now (oklab .entry)) zero) (lengthsFit p (length (now (pixels .entry))) (length (now (oklab .entry))) «entry_bytes» «entry_oklab» «entry_counts» index) ⌝ }
 {
     if p > size {
-        return 2;
+        return answer::SIZES;
     }
     if !is_sized(
         p,
@@ -113,7 +117,7 @@ pub fn refuses(
         entry_counts,
         index,
     ) {
-        return 3;
+        return answer::LENGTHS;
     }
     first_fault(p, pixels, oklab, zero)
 }

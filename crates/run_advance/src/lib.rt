@@ -1,14 +1,10 @@
 // The public call that makes a run's draws: at most an allotment, none past a stop.
 use job::Sizes;
+use run_stages::Advanced;
 ghost use mathlib.Core.Path.{_≡_};
+ghost use Rattle.answer.specs.Outcome.{outcome};
 ghost use Rattle.quantizer.specs.Course.{courseOf};
-ghost use Rattle.run_stages.specs.Calls.{memory, outcome, advanceCall};
-
-// The number, 0 or that of the first rule that is broken, and the draws made.
-pub struct Advanced {
-    pub number: u32,
-    pub draws: u64,
-}
+ghost use Rattle.run_stages.specs.Calls.{memory, advanceCall};
 
 // A refusal makes no draw and writes nothing.
 pub fn advance(
@@ -24,12 +20,11 @@ pub fn advance(
     words: &mut [u64],
     allotment: u64,
 ) -> Advanced
-    ensures { λ x. ⌜ outcome (x .number) (x .draws)
-        (memory (now (order .exit)) (now (hints .exit)) (now (palette .exit)) (now (least .exit)) (now (words .exit)))
+    ensures { λ x. ⌜ outcome x (memory (now (order .exit)) (now (hints .exit)) (now (palette .exit)) (now (least .exit)) (now (words .exit)))
         ≡ advanceCall (courseOf z (now (tiles .entry)) (now (colours .entry)) (now (counts .entry)) (now (samples .entry)))
         (memory (now (order .entry)) (now (hints .entry)) (now (palette .entry)) (now (least .entry)) (now (words .entry))) allotment ⌝ }
 {
-    let number = run_check::refuses_advance(
+    let refusal = run_check::refuses_advance(
         z,
         tiles,
         colours,
@@ -41,8 +36,8 @@ pub fn advance(
         least,
         words,
     );
-    if number != 0 {
-        return Advanced { number, draws: 0 };
+    if refusal.number != 0 {
+        return Advanced { refusal, draws: 0 };
     }
     let draws = run_steps::advance_work(
         z,
@@ -57,5 +52,8 @@ pub fn advance(
         words,
         allotment,
     );
-    Advanced { number: 0, draws }
+    Advanced {
+        refusal: answer::DONE,
+        draws,
+    }
 }

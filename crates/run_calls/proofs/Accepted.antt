@@ -1,5 +1,5 @@
 -- What each call's checks come to: a job that passed, memory of the right lengths that is fit, and the right moment. Assumes nothing.
-use mathlib.Core.Path.{_≡_, refl, sym, subst}
+use mathlib.Core.Path.{_≡_, refl, subst}
 use mathlib.Core.Bool.{Bool, true, false}
 use mathlib.Core.Logic.{_⊎_, inl, inr}
 use Prim.Native.Nat.{_*_, _≤_}
@@ -7,8 +7,8 @@ use lib.ListN.{length, getD}
 use lib.Dec.{eqb}
 use borrow.Author.Tests.{eq-eqb, ne-eqb, eqb-true, eqb-false, lt-ltb, ltb-true}
 use Rattle.lists.proofs.Tests.{and-l, and-r}
-use Rattle.job.specs.Rules.{Passed}
-use Rattle.job.proofs.Passing.{pass-all}
+use Rattle.answer.specs.Rules.{Passed}
+use Rattle.answer.proofs.Passing.{passed-number}
 use Rattle.job.specs.Checks.{sampledAnswer}
 use Rattle.job.specs.Gives.{Sampled}
 use Rattle.job.proofs.Ready.{sampled-ready}
@@ -88,7 +88,7 @@ module _ (K : Course) (S1 : 1 ≤ K .job .S) (C1 : 1 ≤ K .job .C) where
 module _ (K : Course) where
   -- the job's rules say what a job with samples has to be
   pub job-passed : (room : Bool) → Passed (jobRules K room) → Sampled (K .job) (K .n) (K .samples) room
-  job-passed room p = sampled-ready (K .job) (K .n) (K .samples) room (unfold sampledAnswer in sym (pass-all (jobRules K room) p))
+  job-passed room p = sampled-ready (K .job) (K .n) (K .samples) room (unfold sampledAnswer in passed-number (jobRules K room) p)
 
   pub in-room : (room : Bool) → Passed (jobRules K room) → (room ≡ true) × Passed (jobRules K true)
   in-room room p = let e = job-passed room p .roomy in (e, subst (λ (b : Bool). Passed (jobRules K b)) e p)

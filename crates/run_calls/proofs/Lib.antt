@@ -5,11 +5,11 @@ pub mod Whilsts
 pub mod Presence
 pub mod Follow
 pub mod Next
-pub mod Rules
 pub mod Words
 pub mod Made
 pub mod Cases
 pub mod Answers
+pub mod Indexes
 pub mod Settling
 pub mod Place
 pub mod Sound

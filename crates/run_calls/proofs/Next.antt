@@ -9,15 +9,20 @@ use native.Mathlib.Omega.{arith}
 use lib.ListN.{length, getD}
 use lib.Dec.{eqb}
 use lib.Ieee.{Float}
-use borrow.Author.Tests.{eq-eqb, ne-eqb, eqb-true}
+use borrow.Author.Tests.{eqb-true}
 use Rattle.lists.proofs.Tests.{or-case}
+use Rattle.answer.specs.declared.Refusal.{Refusal}
+use Rattle.answer.specs.Rules.{nothing}
+use Rattle.answer.specs.Outcome.{Outcome, outcome, decided}
+use Rattle.answer.proofs.Outcomes.{decided-done}
 use Rattle.color.proofs.Sizes.{bounded-wider}
 use Rattle.job.specs.Job.{two}
 use Rattle.job.proofs.Ready.{two-within, components-within}
 use Rattle.quantizer.specs.Course.{Course, b}
 use Rattle.run_stages.specs.State.{State, draws, stops}
 use Rattle.run_stages.specs.Stages.{advance, drawsOf, start, handIn}
-use Rattle.run_stages.specs.Calls.{Memory, stateOf, memoryOf, Outcome, outcome, answered, coloursRoom, startAnswer, advanceAnswer, handInAnswer, resultAnswer, startCall, advanceCall, handInCall}
+use Rattle.run_stages.specs.declared.Advanced.{Advanced}
+use Rattle.run_stages.specs.Calls.{Memory, stateOf, memoryOf, advanced, coloursRoom, startAnswer, advanceAnswer, handInAnswer, resultAnswer, startCall, advanceCall, handInCall}
 use Rattle.run_calls.proofs.Cases.{by-test}
 use Rattle.run_calls.proofs.Split.{advance-add, draws-add}
 use Rattle.run_calls.proofs.Place.{made-at-3, made-at-end}
@@ -33,28 +38,29 @@ pub held-state : (s : State) → stateOf (memoryOf s) ≡ s
 unfolding stateOf memoryOf
 held-state s = refl
 
--- ---- an outcome by its number
-pub done : (e : ℕ) (m : Memory) (drew : ℕ) (s : State) → e ≡ 0 → answered e m drew s ≡ outcome 0 drew (memoryOf s)
-unfolding answered
-done e m drew s h = rw (eq-eqb e 0 h)
-
-pub refused : (e : ℕ) (m : Memory) (drew : ℕ) (s : State) → e ≢ 0 → answered e m drew s ≡ outcome e 0 m
-unfolding answered
-refused e m drew s h = rw (ne-eqb e 0 h)
-
--- ---- the state after an accepted call
+-- ---- an accepted call, and the state after it
 module _ (K : Course) (m : Memory) where
-  pub started-state : (seed : ℕ) → startAnswer K m ≡ 0 → stateOf (startCall K m seed .after) ≡ start K seed (m .hints)
+  pub start-done : (seed : ℕ) → startAnswer K m .number ≡ 0 → startCall K m seed ≡ outcome nothing (memoryOf (start K seed (m .hints)))
   unfolding startCall
-  started-state seed h = ap (λ (x : Outcome). stateOf (x .after)) (done (startAnswer K m) m 0 (start K seed (m .hints)) h) ∙ held-state (start K seed (m .hints))
+  start-done seed h = decided-done (startAnswer K m) _ _ m h
 
-  pub advanced-state : (a : ℕ) → advanceAnswer K m ≡ 0 → stateOf (advanceCall K m a .after) ≡ advance K a (stateOf m)
+  pub advance-done : (a : ℕ) → advanceAnswer K m .number ≡ 0
+      → advanceCall K m a ≡ outcome (advanced nothing (drawsOf K a (stateOf m))) (memoryOf (advance K a (stateOf m)))
   unfolding advanceCall
-  advanced-state a h = ap (λ (x : Outcome). stateOf (x .after)) (done (advanceAnswer K m) m (drawsOf K a (stateOf m)) (advance K a (stateOf m)) h) ∙ held-state (advance K a (stateOf m))
+  advance-done a h = decided-done (advanceAnswer K m) _ _ m h
 
-  pub handed-state : (reduced : List Float) → handInAnswer K m reduced ≡ 0 → stateOf (handInCall K m reduced .after) ≡ handIn K reduced (stateOf m)
+  pub handIn-done : (reduced : List Float) → handInAnswer K m reduced .number ≡ 0 → handInCall K m reduced ≡ outcome nothing (memoryOf (handIn K reduced (stateOf m)))
   unfolding handInCall
-  handed-state reduced h = ap (λ (x : Outcome). stateOf (x .after)) (done (handInAnswer K m reduced) m 0 (handIn K reduced (stateOf m)) h) ∙ held-state (handIn K reduced (stateOf m))
+  handIn-done reduced h = decided-done (handInAnswer K m reduced) _ _ m h
+
+  pub started-state : (seed : ℕ) → startAnswer K m .number ≡ 0 → stateOf (startCall K m seed .after) ≡ start K seed (m .hints)
+  started-state seed h = ap (λ (x : Outcome Refusal Memory). stateOf (x .after)) (start-done seed h) ∙ held-state (start K seed (m .hints))
+
+  pub advanced-state : (a : ℕ) → advanceAnswer K m .number ≡ 0 → stateOf (advanceCall K m a .after) ≡ advance K a (stateOf m)
+  advanced-state a h = ap (λ (x : Outcome Advanced Memory). stateOf (x .after)) (advance-done a h) ∙ held-state (advance K a (stateOf m))
+
+  pub handed-state : (reduced : List Float) → handInAnswer K m reduced .number ≡ 0 → stateOf (handInCall K m reduced .after) ≡ handIn K reduced (stateOf m)
+  handed-state reduced h = ap (λ (x : Outcome Refusal Memory). stateOf (x .after)) (handIn-done reduced h) ∙ held-state (handIn K reduced (stateOf m))
 
 -- at a stop no draw is due, and the stage is no 2
 pub quiet-at : (k : ℕ) → stops k ≡ true → (draws k ≡ false) × (k ≤ 6) × (k ≢ 2)
@@ -66,60 +72,59 @@ quiet-at k e =
     known : (j : ℕ) → k ≡ j → draws j ≡ false → j ≤ 6 → j ≢ 2 → (draws k ≡ false) × (k ≤ 6) × (k ≢ 2)
     known j q d l n = rw q (d, l, n)
 
+-- what an accepted advance comes to, from its draws and the memory that it leaves
+abbrev pub made : ℕ → Memory → Outcome Advanced Memory
+made n m = outcome (advanced nothing n) m
+
 module _ (K : Course) where
   -- ---- what a call leaves is accepted
-  pub start-leaves : (m : Memory) (seed : ℕ) → startAnswer K m ≡ 0 → Accepted K (startCall K m seed .after)
-  unfolding startCall
+  pub start-leaves : (m : Memory) (seed : ℕ) → startAnswer K m .number ≡ 0 → Accepted K (startCall K m seed .after)
   start-leaves m seed h =
       let o = start-opened K m h in
-      subst (λ (x : Outcome). Accepted K (x .after)) (sym (done (startAnswer K m) m 0 (start K seed (m .hints)) h))
+      subst (λ (x : Outcome Refusal Memory). Accepted K (x .after)) (sym (start-done K m seed h))
       (holds K (start K seed (m .hints)) (o .0) (start-fit K true (job-passed K true (o .0)) seed (m .hints) (o .1 .hints)))
 
-  pub advance-leaves : (m : Memory) (a : ℕ) → advanceAnswer K m ≡ 0 → Accepted K (advanceCall K m a .after)
-  unfolding advanceCall
+  pub advance-leaves : (m : Memory) (a : ℕ) → advanceAnswer K m .number ≡ 0 → Accepted K (advanceCall K m a .after)
   advance-leaves m a h =
       let A = advance-opened K m h .0 in
-      subst (λ (x : Outcome). Accepted K (x .after)) (sym (done (advanceAnswer K m) m (drawsOf K a (stateOf m)) (advance K a (stateOf m)) h))
+      subst (λ (x : Outcome Advanced Memory). Accepted K (x .after)) (sym (advance-done K m a h))
       (holds K (advance K a (stateOf m)) (A .passed) (advance-fit K true (job-passed K true (A .passed)) a (stateOf m) (A .fit)))
 
-  pub handIn-leaves : (m : Memory) (reduced : List Float) → handInAnswer K m reduced ≡ 0 → Accepted K (handInCall K m reduced .after)
-  unfolding handInCall coloursRoom
+  pub handIn-leaves : (m : Memory) (reduced : List Float) → handInAnswer K m reduced .number ≡ 0 → Accepted K (handInCall K m reduced .after)
+  unfolding coloursRoom
   handIn-leaves m reduced h =
       let o = handIn-opened K m reduced h in
       let A = o .0 in
       let q = quiet-at (stateOf m .rec .stage) (o .1) in
       let H : Held K reduced = record { size = eqb-true (length reduced) (3 * (K .job .S * K .job .C)) (o .2); bound = bounded-wider reduced 2 4 (omega arith) (components-within two reduced 2 two-within (o .3)) } in
-      subst (λ (x : Outcome). Accepted K (x .after)) (sym (done (handInAnswer K m reduced) m 0 (handIn K reduced (stateOf m)) h))
+      subst (λ (x : Outcome Refusal Memory). Accepted K (x .after)) (sym (handIn-done K m reduced h))
       (holds K (handIn K reduced (stateOf m)) (A .passed) (handIn-fit K true (job-passed K true (A .passed)) reduced (stateOf m) H (A .fit) (q .0) (q .1) (q .2)))
 
   -- ---- two allotments, with no stop between, and their sum
-  pub advance-split : (m : Memory) (a c : ℕ) → advanceAnswer K m ≡ 0 → draws (advance K a (stateOf m) .rec .stage) ≡ true
+  pub advance-split : (m : Memory) (a c : ℕ) → advanceAnswer K m .number ≡ 0 → draws (advance K a (stateOf m) .rec .stage) ≡ true
       → advanceCall K m (a + c)
-      ≡ outcome 0 (advanceCall K m a .drew + advanceCall K (advanceCall K m a .after) c .drew) (advanceCall K (advanceCall K m a .after) c .after)
+      ≡ made (advanceCall K m a .answer .draws + advanceCall K (advanceCall K m a .after) c .answer .draws) (advanceCall K (advanceCall K m a .after) c .after)
   advance-split m a c h d =
       let s = stateOf m in
-      let first = called a m h in
-      let again : advanceAnswer K (memoryOf (advance K a s)) ≡ 0 =
-      advance-closed K (memoryOf (advance K a s)) (subst (λ (x : Outcome). Accepted K (x .after)) first (advance-leaves m a h)) (rw (held-state (advance K a s)) d) in
-      let second = called c (memoryOf (advance K a s)) again in
-      called (a + c) m h
-      ∙ ap (λ (z : State). outcome 0 (drawsOf K (a + c) s) (memoryOf z)) (advance-add K a c s)
-      ∙ ap (λ (k : ℕ). outcome 0 k (memoryOf (advance K c (advance K a s)))) (draws-add K a c s)
-      ∙ sym (joined first (second ∙ ap (λ (z : State). outcome 0 (drawsOf K c z) (memoryOf (advance K c z))) (held-state (advance K a s))))
+      let first = advance-done K m a h in
+      let again : advanceAnswer K (memoryOf (advance K a s)) .number ≡ 0 =
+      advance-closed K (memoryOf (advance K a s)) (subst (λ (x : Outcome Advanced Memory). Accepted K (x .after)) first (advance-leaves m a h)) (rw (held-state (advance K a s)) d) in
+      let second = advance-done K (memoryOf (advance K a s)) c again in
+      advance-done K m (a + c) h
+      ∙ ap (λ (z : State). made (drawsOf K (a + c) s) (memoryOf z)) (advance-add K a c s)
+      ∙ ap (λ (k : ℕ). made k (memoryOf (advance K c (advance K a s)))) (draws-add K a c s)
+      ∙ sym (joined first (second ∙ ap (λ (z : State). made (drawsOf K c z) (memoryOf (advance K c z))) (held-state (advance K a s))))
     where
-      called : (x : ℕ) (z : Memory) → advanceAnswer K z ≡ 0 → advanceCall K z x ≡ outcome 0 (drawsOf K x (stateOf z)) (memoryOf (advance K x (stateOf z)))
-      called x z e = unfold advanceCall in done (advanceAnswer K z) z (drawsOf K x (stateOf z)) (advance K x (stateOf z)) e
-
-      joined : {x : Outcome} {i j : ℕ} {n k : Memory} → x ≡ outcome 0 i n → advanceCall K n c ≡ outcome 0 j k
-          → outcome 0 (x .drew + advanceCall K (x .after) c .drew) (advanceCall K (x .after) c .after) ≡ outcome 0 (i + j) k
+      joined : {x : Outcome Advanced Memory} {i j : ℕ} {n k : Memory} → x ≡ made i n → advanceCall K n c ≡ made j k
+          → made (x .answer .draws + advanceCall K (x .after) c .answer .draws) (advanceCall K (x .after) c .after) ≡ made (i + j) k
       joined {x} {i} {j} {n} {k} p q =
-          ap (λ (y : Outcome). outcome 0 (y .drew + advanceCall K (y .after) c .drew) (advanceCall K (y .after) c .after)) p
-          ∙ ap (λ (y : Outcome). outcome 0 (i + y .drew) (y .after)) q
+          ap (λ (y : Outcome Advanced Memory). made (y .answer .draws + advanceCall K (y .after) c .answer .draws) (advanceCall K (y .after) c .after)) p
+          ∙ ap (λ (y : Outcome Advanced Memory). made (i + y .answer .draws) (y .after)) q
 
   -- ---- the draws reported, refused calls too
-  pub call-draws : (m : Memory) (a : ℕ) → getD (advanceCall K m a .after .words) 4 0 ≡ getD (m .words) 4 0 + advanceCall K m a .drew
-  unfolding advanceCall answered memoryOf stateOf
-  call-draws m a = by-test (λ (x : Outcome). getD (x .after .words) 4 0 ≡ getD (m .words) 4 0 + x .drew) (eqb (advanceAnswer K m) 0) (λ _. advance-made K a (stateOf m)) (λ _. omega arith)
+  pub call-draws : (m : Memory) (a : ℕ) → getD (advanceCall K m a .after .words) 4 0 ≡ getD (m .words) 4 0 + advanceCall K m a .answer .draws
+  unfolding advanceCall decided memoryOf stateOf
+  call-draws m a = by-test (λ (x : Outcome Advanced Memory). getD (x .after .words) 4 0 ≡ getD (m .words) 4 0 + x .answer .draws) (eqb (advanceAnswer K m .number) 0) (λ _. advance-made K a (stateOf m)) (λ _. omega arith)
 
   -- ---- what a run has made, by its record
   pub accepted-made-at-3 : (m : Memory) → Accepted K m → getD (m .words) 1 0 ≡ 3 → getD (m .words) 4 0 ≡ (K .job .S + K .job .C + 8) * b K
@@ -134,15 +139,15 @@ module _ (K : Course) where
       let D = job-passed K true (A .passed) in
       made-at-end K (D .ready .sizes .subs) (D .ready .sizes .some) (stateOf m) (A .fit .rests .place) l
 
-  pub result-made : (m : Memory) (out : List Float) → resultAnswer K m out ≡ 0 → getD (m .words) 4 0 ≡ (K .job .S + K .job .C + 18) * b K
+  pub result-made : (m : Memory) (out : List Float) → resultAnswer K m out .number ≡ 0 → getD (m .words) 4 0 ≡ (K .job .S + K .job .C + 18) * b K
   result-made m out h =
       let o = result-opened K m out h in
       accepted-made-at-end m (o .0) (let e : getD (m .words) 1 0 ≡ 7 = unfold stateOf in eqb-true (getD (m .words) 1 0) 7 (o .1) in omega arith)
 
   -- fewer than ten samples: the start goes straight to the stop for reduction
-  pub start-straight : b K ≡ 0 → (m : Memory) (seed : ℕ) → startAnswer K m ≡ 0 → getD (startCall K m seed .after .words) 1 0 ≡ 3
-  unfolding startCall memoryOf
+  pub start-straight : b K ≡ 0 → (m : Memory) (seed : ℕ) → startAnswer K m .number ≡ 0 → getD (startCall K m seed .after .words) 1 0 ≡ 3
+  unfolding memoryOf
   start-straight z m seed h =
       let D = job-passed K true (start-opened K m h .0) in
-      ap (λ (x : Outcome). getD (x .after .words) 1 0) (done (startAnswer K m) m 0 (start K seed (m .hints)) h)
+      ap (λ (x : Outcome Refusal Memory). getD (x .after .words) 1 0) (start-done K m seed h)
       ∙ straight K (D .ready .sizes .subs) (D .ready .sizes .some) z seed (m .hints)

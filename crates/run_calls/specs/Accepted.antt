@@ -3,7 +3,7 @@ use mathlib.Core.Path.{_≡_}
 use mathlib.Core.Bool.{true}
 use Prim.Native.Nat.{_*_}
 use lib.ListN.{length}
-use Rattle.job.specs.Rules.{Passed}
+use Rattle.answer.specs.Rules.{Passed}
 use Rattle.quantizer.specs.Course.{Course}
 use Rattle.run_stages.specs.Calls.{Memory, stateOf, jobRules}
 use Rattle.run_calls.specs.Fit.{Fit}

@@ -3,3 +3,4 @@ pub mod HandIns
 pub mod Sound
 pub mod Fit
 pub mod Accepted
+pub mod Names

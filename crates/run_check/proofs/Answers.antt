@@ -1,16 +1,15 @@
 -- What the refusals answer that ask others: the first list of rules with a number decides. Assumes nothing.
-use Prim.Native.Nat.{ℕ, _+_}
-use mathlib.Core.Path.{_≡_, refl, sym, ap, _∙_}
+use Prim.Native.Nat.{ℕ}
+use mathlib.Core.Path.{_≡_, refl, sym, ap, subst, _∙_}
 use mathlib.Core.Bool.{Bool, true, false}
-use mathlib.Core.List.{List, [], _∷_, _++_}
+use mathlib.Core.List.{List, [], _++_}
 use lib.Dec.{eqb}
-use lib.Ieee.{Float}
-use lib.ListN.{length}
-use borrow.Author.Tests.{eqb-true, eqb-false, ne-eqb}
-use Rattle.job.specs.Rules.{Rule, rule, answer, numbered}
-use Rattle.job.proofs.Passing.{stops, goes, fails, all-pass}
+use borrow.Author.Tests.{eqb-true, eqb-false}
+use Rattle.answer.specs.declared.Refusal.{Refusal}
+use Rattle.answer.specs.Rules.{Rule, answer, numbered}
+use Rattle.answer.proofs.Passing.{stops, goes, all-pass}
 use Rattle.job.specs.Job.{Job}
-use Rattle.job.specs.Checks.{firstBad, componentsFit, sizeRules, sampledAnswer}
+use Rattle.job.specs.Checks.{sizeRules, sampledAnswer}
 use Rattle.job.proofs.Ready.{sizes-of, sampled-ready}
 use Rattle.quantizer.specs.Course.{course}
 use Rattle.run_stages.specs.declared.Record.{Record}
@@ -20,12 +19,8 @@ use Rattle.run_stages.specs.Calls.{Memory, recordOf, stateOf, jobRules}
 use Rattle.run_record.specs.Sized.{sized, Sized}
 use Rattle.run_check.specs.Room.{SameInRange, runAnswer}
 
--- a component is past its limit
-pub bound-fails : (k : ℕ) (m : Float) (xs : List Float) (rs : List Rule) (i : ℕ) → i ≡ firstBad m xs → (i ≡ length xs → ⊥) → k ≡ answer (rule k (componentsFit m xs) ∷ rs)
-bound-fails k m xs rs i e h = fails k (componentsFit m xs) rs (rw (← e) (ne-eqb i (length xs) h))
-
 -- the rules read only the sizes of a course, and the lent memory
-held-rules : (J : Job) (n : ℕ) (samples : List ℕ) (m : Memory) (r : Record) → r ≡ recordOf (m .words) → (b : ℕ)
+held-rules : (J : Job) (n : ℕ) (samples : List ℕ) (m : Memory) (r : Record) → r ≡ recordOf (m .words) → (b : Refusal)
     → b ≡ answer (stateRules (sized (J .S) (J .C) n) (stateWith (m .order) [] (m .palette) (m .least) r)) → b ≡ answer (stateRules (course J n samples) (stateOf m))
 unfolding stateOf stageOf placeFits madeBy
 held-rules J n samples m r q b h = rw q at h
@@ -40,28 +35,28 @@ module _ (J : Job) (n : ℕ) (samples : List ℕ) where
   -- lengths matter only where the sizes are in their ranges
   pub room-free : (r p : Bool) (rest : List Rule) → SameInRange (J .S) (J .C) r p → answer (ruled r ++ rest) ≡ answer (ruled p ++ rest)
   unfolding numbered
-  room-free r p rest h = by (eqb (answer sizesOf) 0) refl
+  room-free r p rest h = by (eqb (answer sizesOf .number) 0) refl
     where
-      by : (z : Bool) → eqb (answer sizesOf) 0 ≡ z → answer (ruled r ++ rest) ≡ answer (ruled p ++ rest)
-      by true e = let Z = sizes-of (J .size) (J .S) (J .C) (J .T) (answer sizesOf) refl (eqb-true (answer sizesOf) 0 e) in
+      by : (z : Bool) → eqb (answer sizesOf .number) 0 ≡ z → answer (ruled r ++ rest) ≡ answer (ruled p ++ rest)
+      by true e = let Z = sizes-of (J .size) (J .S) (J .C) (J .T) (answer sizesOf) refl (eqb-true (answer sizesOf .number) 0 e) in
           ap (λ (x : Bool). answer (ruled x ++ rest)) (h (Z .few) (Z .cap))
-      by false e = sym (stops sizesOf _ (answer sizesOf) refl refl (eqb-false (answer sizesOf) 0 e)) ∙ stops sizesOf _ (answer sizesOf) refl refl (eqb-false (answer sizesOf) 0 e)
+      by false e = sym (stops sizesOf _ (answer sizesOf) refl refl (eqb-false (answer sizesOf .number) 0 e)) ∙ stops sizesOf _ (answer sizesOf) refl refl (eqb-false (answer sizesOf .number) 0 e)
 
   -- ---- the job
-  module _ (r : Bool) (a : ℕ) (e : a ≡ sampledAnswer J n samples r) where
-    job-stops : (a ≡ 0 → ⊥) → (rest : List Rule) → a ≡ answer (ruled r ++ rest)
+  module _ (r : Bool) (a : Refusal) (e : a ≡ sampledAnswer J n samples r) where
+    job-stops : (a .number ≡ 0 → ⊥) → (rest : List Rule) → a ≡ answer (ruled r ++ rest)
     unfolding sampledAnswer numbered
     job-stops h rest = stops (ruled r) rest a refl e h
 
-    job-goes : a ≡ 0 → (b : ℕ) (rest : List Rule) → b ≡ answer rest → b ≡ answer (ruled r ++ rest)
+    job-goes : a .number ≡ 0 → (b : Refusal) (rest : List Rule) → b ≡ answer rest → b ≡ answer (ruled r ++ rest)
     unfolding sampledAnswer numbered
     job-goes z b rest h = goes (ruled r) rest a b refl e z h
 
-    pub job-room : a ≡ 0 → r ≡ true
-    job-room z = sampled-ready J n samples r (sym e ∙ z) .roomy
+    pub job-room : a .number ≡ 0 → r ≡ true
+    job-room z = sampled-ready J n samples r (subst (λ (x : Refusal). x .number ≡ 0) e z) .roomy
 
-    pub job-sized : a ≡ 0 → Sized (J .S) (J .C) n
-    job-sized z = let R = sampled-ready J n samples r (sym e ∙ z) in
+    pub job-sized : a .number ≡ 0 → Sized (J .S) (J .C) n
+    job-sized z = let R = sampled-ready J n samples r (subst (λ (x : Refusal). x .number ≡ 0) e z) in
         record { subs = R .ready .sizes .subs; few = R .ready .sizes .few; some = R .ready .sizes .some; cap = R .ready .sizes .cap; short = R .few }
 
     pub job-whole : (p : Bool) → SameInRange (J .S) (J .C) r p → a ≡ answer (ruled p)
@@ -69,27 +64,27 @@ module _ (J : Job) (n : ℕ) (samples : List ℕ) where
     job-whole p h = e ∙ room-free r p [] h
 
   -- ---- the job, then what a run holds
-  module _ (m : Memory) (r : Bool) (a : ℕ) (e : a ≡ sampledAnswer J n samples r) where
-    pub held-stops : (a ≡ 0 → ⊥) → a ≡ runAnswer (course J n samples) m r
+  module _ (m : Memory) (r : Bool) (a : Refusal) (e : a ≡ sampledAnswer J n samples r) where
+    pub held-stops : (a .number ≡ 0 → ⊥) → a ≡ runAnswer (course J n samples) m r
     unfolding runAnswer
     held-stops h = job-stops r a e h (stateRules (course J n samples) (stateOf m))
 
-    pub held-goes : a ≡ 0 → (w : Record) → w ≡ recordOf (m .words) → (b : ℕ) → b ≡ answer (stateRules (sized (J .S) (J .C) n) (stateWith (m .order) [] (m .palette) (m .least) w))
+    pub held-goes : a .number ≡ 0 → (w : Record) → w ≡ recordOf (m .words) → (b : Refusal) → b ≡ answer (stateRules (sized (J .S) (J .C) n) (stateWith (m .order) [] (m .palette) (m .least) w))
         → b ≡ runAnswer (course J n samples) m r
     unfolding runAnswer
     held-goes z w q b h = job-goes r a e z b (stateRules (course J n samples) (stateOf m)) (held-rules J n samples m w q b h)
 
   -- ---- then the call's own rules
-  module _ (m : Memory) (r : Bool) (a : ℕ) (e : a ≡ runAnswer (course J n samples) m r) where
-    pub run-room : a ≡ 0 → r ≡ true
+  module _ (m : Memory) (r : Bool) (a : Refusal) (e : a ≡ runAnswer (course J n samples) m r) where
+    pub run-room : a .number ≡ 0 → r ≡ true
     unfolding runAnswer numbered
-    run-room z = all-pass (ruled r ++ stateRules (course J n samples) (stateOf m)) refl (sym e ∙ z) .1 .1 .1 .1 .1 .1 .1 .1 .0
+    run-room z = all-pass (ruled r ++ stateRules (course J n samples) (stateOf m)) refl (subst (λ (x : Refusal). x .number ≡ 0) e z) .1 .1 .1 .1 .1 .1 .1 .1 .0
 
     module _ (p : Bool) (h : SameInRange (J .S) (J .C) r p) (own : List Rule) where
-      pub run-stops : (a ≡ 0 → ⊥) → a ≡ answer (ruled p ++ (stateRules (course J n samples) (stateOf m) ++ own))
+      pub run-stops : (a .number ≡ 0 → ⊥) → a ≡ answer (ruled p ++ (stateRules (course J n samples) (stateOf m) ++ own))
       unfolding runAnswer numbered
       run-stops k = stops (ruled r ++ stateRules (course J n samples) (stateOf m)) own a refl e k ∙ room-free r p (stateRules (course J n samples) (stateOf m) ++ own) h
 
-      pub run-goes : a ≡ 0 → (b : ℕ) → b ≡ answer own → b ≡ answer (ruled p ++ (stateRules (course J n samples) (stateOf m) ++ own))
+      pub run-goes : a .number ≡ 0 → (b : Refusal) → b ≡ answer own → b ≡ answer (ruled p ++ (stateRules (course J n samples) (stateOf m) ++ own))
       unfolding runAnswer numbered
       run-goes z b f = goes (ruled r ++ stateRules (course J n samples) (stateOf m)) own a b refl e z f ∙ room-free r p (stateRules (course J n samples) (stateOf m) ++ own) h

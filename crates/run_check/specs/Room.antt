@@ -8,7 +8,8 @@ use lib.ListN.{length}
 use Rattle.job.specs.Job.{mostSubpalettes, mostColours}
 use Rattle.job.specs.declared.Sizes.{Sizes}
 use Rattle.quantizer.specs.Course.{courseOf, Course}
-use Rattle.job.specs.Rules.{answer}
+use Rattle.answer.specs.declared.Refusal.{Refusal}
+use Rattle.answer.specs.Rules.{answer}
 use Rattle.run_stages.specs.Record.{stateRules}
 use Rattle.run_stages.specs.Calls.{Memory, stateOf, jobRules}
 
@@ -25,6 +26,6 @@ pub record Lends (s c : ℕ) (r p : Bool) (words : List ℕ) : Type 0 where
   pub same : SameInRange s c r p
   pub six : r ≡ true → length words ≡ 6
 
--- the number that a call of a run gets before its own rules
-unfoldable pub runAnswer : Course → Memory → Bool → ℕ
+-- what a call of a run is answered before its own rules
+unfoldable pub runAnswer : Course → Memory → Bool → Refusal
 runAnswer K m room = answer (jobRules K room ++ stateRules K (stateOf m))

@@ -1,5 +1,6 @@
-// Which number a call of a run gets: the job's, the record's, the working colours', the order's, the moment's, the reduced colours'.
+// What a call of a run is answered: the job's, the record's, the working colours', the order's, the moment's, the reduced colours'.
 // Every check takes what a stranger wrote: no sum or product in it can wrap.
+use answer::Refusal;
 use job::Sizes;
 use run_stages::Record;
 ghost use mathlib.Core.Path.{_≡_};
@@ -89,13 +90,13 @@ fn check_run(
     least: &[f32],
     words: &[u64],
     room: bool,
-) -> u32
+) -> Refusal
     requires { ⌜ (room ≡ true → length (now words) ≡ 6) ⌝ }
     ensures { λ r. ⌜ r ≡ runAnswer (courseOf z (now (tiles .entry)) (now (colours .entry)) (now (counts .entry)) (now (samples .entry)))
         (memory (now (order .entry)) (now (hints .entry)) (now (palette .entry)) (now (least .entry)) (now (words .entry))) room ⌝ }
 {
     let a = job_check::check_sampled(z, tiles, colours, counts, samples, room);
-    if a != 0 {
+    if a.number != 0 {
         return a;
     }
     let r = run_record::record_of(words);
@@ -115,7 +116,7 @@ pub fn refuses_start(
     palette: &[f32],
     least: &[f32],
     words: &[u64],
-) -> u32
+) -> Refusal
     ensures { λ r. ⌜ r ≡ startAnswer (courseOf z (now (tiles .entry)) (now (colours .entry)) (now (counts .entry)) (now (samples .entry)))
         (memory (now (order .entry)) (now (hints .entry)) (now (palette .entry)) (now (least .entry)) (now (words .entry))) ⌝ }
 {
@@ -134,7 +135,7 @@ pub fn refuses_advance(
     palette: &[f32],
     least: &[f32],
     words: &[u64],
-) -> u32
+) -> Refusal
     ensures { λ r. ⌜ r ≡ advanceAnswer (courseOf z (now (tiles .entry)) (now (colours .entry)) (now (counts .entry)) (now (samples .entry)))
         (memory (now (order .entry)) (now (hints .entry)) (now (palette .entry)) (now (least .entry)) (now (words .entry))) ⌝ }
 {
@@ -152,13 +153,13 @@ pub fn refuses_advance(
         words,
         room,
     );
-    if a != 0 {
+    if a.number != 0 {
         return a;
     }
     if !run_record::makes_draws(words[1]) {
-        return 11;
+        return answer::MOMENT;
     }
-    0
+    answer::DONE
 }
 
 pub fn refuses_hand_in(
@@ -173,7 +174,7 @@ pub fn refuses_hand_in(
     least: &[f32],
     words: &[u64],
     reduced: &[f32],
-) -> u32
+) -> Refusal
     ensures { λ r. ⌜ r ≡ handInAnswer (courseOf z (now (tiles .entry)) (now (colours .entry)) (now (counts .entry)) (now (samples .entry)))
         (memory (now (order .entry)) (now (hints .entry)) (now (palette .entry)) (now (least .entry)) (now (words .entry))) (now (reduced .entry)) ⌝ }
 {
@@ -191,16 +192,13 @@ pub fn refuses_hand_in(
         words,
         room,
     );
-    if a != 0 {
+    if a.number != 0 {
         return a;
     }
     if !run_record::is_stop(words[1]) {
-        return 11;
+        return answer::MOMENT;
     }
-    if job::first_bad(reduced, job::MOST_COMPONENT) != reduced.len() {
-        return 7;
-    }
-    0
+    job::check_colours(17, 0, reduced, job::MOST_COMPONENT)
 }
 
 pub fn refuses_result(
@@ -215,7 +213,7 @@ pub fn refuses_result(
     least: &[f32],
     words: &[u64],
     out: &[f32],
-) -> u32
+) -> Refusal
     ensures { λ r. ⌜ r ≡ resultAnswer (courseOf z (now (tiles .entry)) (now (colours .entry)) (now (counts .entry)) (now (samples .entry)))
         (memory (now (order .entry)) (now (hints .entry)) (now (palette .entry)) (now (least .entry)) (now (words .entry))) (now (out .entry)) ⌝ }
 {
@@ -233,11 +231,11 @@ pub fn refuses_result(
         words,
         room,
     );
-    if a != 0 {
+    if a.number != 0 {
         return a;
     }
     if !run_cycle::is_finished(words[1]) {
-        return 11;
+        return answer::MOMENT;
     }
-    0
+    answer::DONE
 }

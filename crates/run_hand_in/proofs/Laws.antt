@@ -1,6 +1,6 @@
 -- What each step of a hand-in asks and leaves, and what the call leaves, refused or not. Assumes nothing.
 use Prim.Native.Nat.{ℕ, _*_, _≤_}
-use mathlib.Core.Path.{_≡_, refl, sym, ap, subst⁻¹, _∙_}
+use mathlib.Core.Path.{_≡_, refl, sym, ap, subst, subst⁻¹, _∙_}
 use mathlib.Core.Logic.{_≢_, _⊎_, inl, inr}
 use mathlib.Core.Bool.{true, false}
 use mathlib.Core.List.{List}
@@ -9,6 +9,10 @@ use lib.Dec.{eqb}
 use lib.Ieee.{Float}
 use lib.ListN.{length}
 use borrow.Author.Tests.{eq-eqb, ne-eqb, eqb-true}
+use Rattle.answer.specs.declared.Refusal.{Refusal}
+use Rattle.answer.specs.Rules.{nothing}
+use Rattle.answer.specs.Outcome.{outcome}
+use Rattle.answer.proofs.Outcomes.{was-refused, was-done}
 use Rattle.color.proofs.Sizes.{bounded-wider}
 use Rattle.job.specs.Job.{two}
 use Rattle.job.proofs.Ready.{two-within, components-within}
@@ -16,14 +20,13 @@ use Rattle.quantizer.specs.Course.{Course, b}
 use Rattle.run_stages.specs.declared.Record.{Record}
 use Rattle.run_stages.specs.State.{State, stateWith, placed, beside}
 use Rattle.run_stages.specs.Stages.{finishRound, settle, refinedOnce, handIn}
-use Rattle.run_stages.specs.Calls.{Memory, memory, recordOf, wordsOf, stateOf, memoryOf, outcome, coloursRoom, handInAnswer, handInCall}
+use Rattle.run_stages.specs.Calls.{Memory, memory, recordOf, wordsOf, stateOf, memoryOf, coloursRoom, handInAnswer, handInCall}
 use Rattle.run_calls.proofs.Cases.{decide}
 use Rattle.run_calls.specs.Place.{Placed}
 use Rattle.run_calls.proofs.Place.{final-placed, made-at-3}
 use Rattle.run_calls.proofs.Settling.{settle-done, settle-more, finish-placed}
 use Rattle.run_calls.proofs.Accepted.{job-passed}
 use Rattle.run_calls.proofs.Answers.{handIn-opened}
-use Rattle.run_calls.proofs.Next as next
 use Rattle.run_refine.specs.Refines.{refinedTimes, hintsTimes, finalDraws, Handed}
 
 -- ---- what follows a stop
@@ -60,27 +63,30 @@ module _ (K : Course) (o h : List ℕ) (p l : List Float) (r : Record) (A : Hand
   last-on a k x er = rw (ne-eqb (r .stage) 3 a, ne-eqb (r .stage) 5 k, er)
 
 -- ---- the call
-module _ (K : Course) (m : Memory) (reduced : List Float) (a : ℕ) (e : a ≡ handInAnswer K m reduced) where
-  pub refused : (a ≡ 0 → ⊥) → outcome a 0 m ≡ handInCall K m reduced
+module _ (K : Course) (m : Memory) (reduced : List Float) (a : Refusal) (e : a ≡ handInAnswer K m reduced) where
+  pub refused : (a .number ≡ 0 → ⊥) → outcome a m ≡ handInCall K m reduced
   unfolding handInCall
-  refused h = rw (← e) (sym (next.refused a m 0 (handIn K reduced (stateOf m)) h))
+  refused h = was-refused a (handInAnswer K m reduced) e (outcome nothing (memoryOf (handIn K reduced (stateOf m)))) (λ x. x) m h
 
-  module _ (z : a ≡ 0) where
+  module _ (z : a .number ≡ 0) where
+    answered : handInAnswer K m reduced .number ≡ 0
+    answered = subst (λ (x : Refusal). x .number ≡ 0) e z
+
     sized : length reduced ≡ 3 * (K .job .S * K .job .C)
     unfolding coloursRoom
-    sized = eqb-true (length reduced) (3 * (K .job .S * K .job .C)) (handIn-opened K m reduced (sym e ∙ z) .2)
+    sized = eqb-true (length reduced) (3 * (K .job .S * K .job .C)) (handIn-opened K m reduced answered .2)
 
     pub same-room : length (m .palette) ≡ length reduced
-    same-room = handIn-opened K m reduced (sym e ∙ z) .0 .roomy .palette ∙ sym sized
+    same-room = handIn-opened K m reduced answered .0 .roomy .palette ∙ sym sized
 
     pub six : length (m .words) ≡ 6
-    six = handIn-opened K m reduced (sym e ∙ z) .0 .roomy .words
+    six = handIn-opened K m reduced answered .0 .roomy .words
 
     module _ (p : List Float) (ep : p ≡ reduced) (r : Record) (er : r ≡ recordOf (m .words)) where
       pub handed : Handed K (stateWith (m .order) (m .hints) p (m .least) r)
       unfolding stateOf
       handed =
-          let o = handIn-opened K m reduced (sym e ∙ z) in
+          let o = handIn-opened K m reduced answered in
           let D = job-passed K true (o .0 .passed) in
           record {
             refinable = record {
@@ -98,9 +104,9 @@ module _ (K : Course) (m : Memory) (reduced : List Float) (a : ℕ) (e : a ≡ h
       same-call = rw (ep, er)
 
       pub accepted : (h2 : List ℕ) (p2 : List Float) (x : Record) → stateWith (m .order) h2 p2 (m .least) x ≡ handIn K p (stateWith (m .order) (m .hints) p (m .least) r) → (w2 : List ℕ) → w2 ≡ wordsOf x
-          → outcome 0 0 (memory (m .order) h2 p2 (m .least) w2) ≡ handInCall K m reduced
+          → outcome nothing (memory (m .order) h2 p2 (m .least) w2) ≡ handInCall K m reduced
       unfolding handInCall memoryOf
       accepted h2 p2 x f w2 ew =
-          ap (λ (w : List ℕ). outcome 0 0 (memory (m .order) h2 p2 (m .least) w)) ew
-          ∙ ap (λ (s : State). outcome 0 0 (memoryOf s)) (f ∙ same-call)
-          ∙ sym (next.done (handInAnswer K m reduced) m 0 (handIn K reduced (stateOf m)) (sym e ∙ z))
+          was-done a (handInAnswer K m reduced) e (outcome nothing (memoryOf (handIn K reduced (stateOf m)))) (λ y. y) m z
+          (outcome nothing (memory (m .order) h2 p2 (m .least) w2))
+          (ap (λ (w : List ℕ). outcome nothing (memory (m .order) h2 p2 (m .least) w)) ew ∙ ap (λ (s : State). outcome nothing (memoryOf s)) (f ∙ same-call))

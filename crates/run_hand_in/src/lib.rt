@@ -1,12 +1,14 @@
 // The public call that hands in reduced colours at a stop: they become the palette, and what follows that needs no draw is done.
 // The order, the second palette and the samples are not read; they are there to be checked, and named in what is promised.
+use answer::Refusal;
 use job::Sizes;
 use run_stages::Record;
 ghost use mathlib.Core.Path.{_≡_};
+ghost use Rattle.answer.specs.Outcome.{outcome};
 ghost use Rattle.quantizer.specs.Course.{courseOf};
 ghost use Rattle.run_stages.specs.State.{stateWith};
 ghost use Rattle.run_stages.specs.Stages.{handIn};
-ghost use Rattle.run_stages.specs.Calls.{memory, outcome, handInCall};
+ghost use Rattle.run_stages.specs.Calls.{memory, handInCall};
 ghost use Rattle.run_refine.specs.Refines.{Handed};
 
 // What follows a stop, with the colours handed in as the palette.
@@ -37,7 +39,7 @@ fn after_stop(
     run_record::placed(r, 7, 0, 0)
 }
 
-// 0, or the number of the first rule that is broken; then all memory stays as it is.
+// Nothing, or the first rule that is broken; then all memory stays as it is.
 pub fn hand_in(
     z: Sizes,
     tiles: &[u32],
@@ -50,12 +52,12 @@ pub fn hand_in(
     least: &[f32],
     words: &mut [u64],
     reduced: &[f32],
-) -> u32
-    ensures { λ r. ⌜ outcome r 0 (memory (now (order .entry)) (now (hints .exit)) (now (palette .exit)) (now (least .entry)) (now (words .exit)))
+) -> Refusal
+    ensures { λ r. ⌜ outcome r (memory (now (order .entry)) (now (hints .exit)) (now (palette .exit)) (now (least .entry)) (now (words .exit)))
         ≡ handInCall (courseOf z (now (tiles .entry)) (now (colours .entry)) (now (counts .entry)) (now (samples .entry)))
         (memory (now (order .entry)) (now (hints .entry)) (now (palette .entry)) (now (least .entry)) (now (words .entry))) (now (reduced .entry)) ⌝ }
 {
-    let a = run_check::refuses_hand_in(
+    let refusal = run_check::refuses_hand_in(
         z,
         tiles,
         colours,
@@ -68,8 +70,8 @@ pub fn hand_in(
         words,
         reduced,
     );
-    if a != 0 {
-        return a;
+    if refusal.number != 0 {
+        return refusal;
     }
     run_memory::copy(reduced, palette);
     let r = run_record::record_of(words);
@@ -86,5 +88,5 @@ pub fn hand_in(
         r,
     );
     run_memory::write_record(words, next);
-    0
+    answer::DONE
 }

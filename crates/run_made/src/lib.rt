@@ -1,9 +1,10 @@
 // The record's rules: its place, the draws made that the place implies, its error.
 // They take what a stranger wrote: no sum or product in them can wrap.
+use answer::Refusal;
 use run_stages::Record;
 ghost use mathlib.Core.Path.{_≡_};
 ghost use mathlib.Core.Bool.{true};
-ghost use Rattle.job.specs.Rules.{answer};
+ghost use Rattle.answer.specs.Rules.{answer};
 ghost use Rattle.run_stages.specs.Record.{placeFits, madeBy, recordRules};
 ghost use Rattle.run_record.specs.Sized.{sized, Sized};
 
@@ -20,19 +21,19 @@ fn made_by(s: usize, c: usize, n: usize, stage: u64, rounds: u64, left: u64) -> 
     line.before + rounds * b + (line.each - left)
 }
 
-// Number 10, or 0.
-pub fn check_record(s: usize, c: usize, n: usize, r: Record) -> u32
+// Number 10, or nothing.
+pub fn check_record(s: usize, c: usize, n: usize, r: Record) -> Refusal
     requires { ⌜ Sized s c n ⌝ }
     ensures { λ x. ⌜ x ≡ answer (recordRules (sized s c n) r) ⌝ }
 {
     if !run_place::place_fits(s, c, n, r.stage, r.rounds, r.left) {
-        return 10;
+        return answer::RECORD;
     }
     if r.made != made_by(s, c, n, r.stage, r.rounds, r.left) {
-        return 10;
+        return answer::RECORD;
     }
     if !run_place::error_fits(r.stage, r.error) {
-        return 10;
+        return answer::RECORD;
     }
-    0
+    answer::DONE
 }

@@ -1,24 +1,30 @@
 -- What a result that is refused, and one that is not, leaves. Assumes nothing.
-use Prim.Native.Nat.{ℕ, _*_}
-use mathlib.Core.Path.{_≡_, sym, _∙_}
+use Prim.Native.Nat.{_*_}
+use mathlib.Core.Path.{_≡_, sym, ap, subst, _∙_}
 use mathlib.Core.List.{List}
 use lib.Ieee.{Float}
 use lib.ListN.{length}
-use borrow.Author.Tests.{eq-eqb, ne-eqb, eqb-true}
+use borrow.Author.Tests.{eqb-true}
+use Rattle.answer.specs.declared.Refusal.{Refusal}
+use Rattle.answer.specs.Rules.{nothing}
+use Rattle.answer.specs.Outcome.{outcome}
+use Rattle.answer.proofs.Outcomes.{was-refused, was-done}
 use Rattle.quantizer.specs.Course.{Course}
-use Rattle.run_stages.specs.Calls.{Memory, copiedTo, coloursRoom, resultAnswer, resultCall}
+use Rattle.run_stages.specs.Calls.{Memory, coloursRoom, resultAnswer, resultCall}
 use Rattle.run_calls.proofs.Answers.{result-opened}
 
-module _ (K : Course) (m : Memory) (out : List Float) (a : ℕ) (e : a ≡ resultAnswer K m out) where
-  pub refused : (a ≡ 0 → ⊥) → copiedTo a out ≡ resultCall K m out
+module _ (K : Course) (m : Memory) (out : List Float) (a : Refusal) (e : a ≡ resultAnswer K m out) where
+  pub refused : (a .number ≡ 0 → ⊥) → outcome a out ≡ resultCall K m out
   unfolding resultCall
-  refused h = rw (← e, ne-eqb a 0 h)
+  refused h = was-refused a (resultAnswer K m out) e (outcome nothing (m .palette)) (λ x. x) out h
 
-  module _ (z : a ≡ 0) where
+  module _ (z : a .number ≡ 0) where
     pub same-room : length out ≡ length (m .palette)
     unfolding coloursRoom
-    same-room = let o = result-opened K m out (sym e ∙ z) in eqb-true (length out) (3 * (K .job .S * K .job .C)) (o .2) ∙ sym (o .0 .roomy .palette)
+    same-room =
+        let o = result-opened K m out (subst (λ (x : Refusal). x .number ≡ 0) e z) in
+        eqb-true (length out) (3 * (K .job .S * K .job .C)) (o .2) ∙ sym (o .0 .roomy .palette)
 
-    pub copied : (after : List Float) → after ≡ m .palette → copiedTo 0 after ≡ resultCall K m out
+    pub copied : (after : List Float) → after ≡ m .palette → outcome nothing after ≡ resultCall K m out
     unfolding resultCall
-    copied after h = rw (← e, eq-eqb a 0 z, h)
+    copied after h = was-done a (resultAnswer K m out) e (outcome nothing (m .palette)) (λ x. x) out z (outcome nothing after) (ap (outcome nothing) h)

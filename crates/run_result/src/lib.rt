@@ -1,10 +1,12 @@
 // The public call that copies the colours of a finished run.
+use answer::Refusal;
 use job::Sizes;
 ghost use mathlib.Core.Path.{_≡_};
+ghost use Rattle.answer.specs.Outcome.{outcome};
 ghost use Rattle.quantizer.specs.Course.{courseOf};
-ghost use Rattle.run_stages.specs.Calls.{memory, copiedTo, resultCall};
+ghost use Rattle.run_stages.specs.Calls.{memory, resultCall};
 
-// 0, or the number of the first rule that is broken; then `out` stays as it is.
+// Nothing, or the first rule that is broken; then `out` stays as it is.
 pub fn result(
     z: Sizes,
     tiles: &[u32],
@@ -17,12 +19,12 @@ pub fn result(
     least: &[f32],
     words: &[u64],
     out: &mut [f32],
-) -> u32
-    ensures { λ r. ⌜ copiedTo r (now (out .exit))
+) -> Refusal
+    ensures { λ r. ⌜ outcome r (now (out .exit))
         ≡ resultCall (courseOf z (now (tiles .entry)) (now (colours .entry)) (now (counts .entry)) (now (samples .entry)))
         (memory (now (order .entry)) (now (hints .entry)) (now (palette .entry)) (now (least .entry)) (now (words .entry))) (now (out .entry)) ⌝ }
 {
-    let a = run_check::refuses_result(
+    let refusal = run_check::refuses_result(
         z,
         tiles,
         colours,
@@ -35,9 +37,9 @@ pub fn result(
         words,
         out,
     );
-    if a != 0 {
-        return a;
+    if refusal.number != 0 {
+        return refusal;
     }
     run_memory::copy(palette, out);
-    0
+    answer::DONE
 }

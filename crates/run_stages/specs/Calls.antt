@@ -1,14 +1,17 @@
--- The four calls of a run over the memory lent to them: number, draws reported, and the memory after. Definitions only. Assumes nothing.
+-- The four calls of a run over the memory lent to them: what each answers, and the memory after. Definitions only. Assumes nothing.
 use Prim.Native.Nat.{ℕ, _*_}
-use mathlib.Core.Bool.{Bool, cond, _&&_}
+use mathlib.Core.Bool.{Bool, _&&_}
 use mathlib.Core.List.{List, [], _∷_, _++_}
 use lib.Dec.{eqb}
 use lib.ListN.{length, getD}
 use lib.Ieee.{Float}
 use Rattle.job.specs.Job.{Job, two}
-use Rattle.job.specs.Rules.{Rule, rule, answer}
-use Rattle.job.specs.Checks.{componentsFit, sampledRules}
+use Rattle.answer.specs.declared.Refusal.{Refusal}
+use Rattle.answer.specs.Rules.{nothing, Rule, rule, answer}
+use Rattle.answer.specs.Outcome.{Outcome, outcome, decided}
+use Rattle.job.specs.Checks.{colourRule, sampledRules}
 use Rattle.quantizer.specs.Course.{Course}
+use Rattle.run_stages.specs.declared.Advanced.{Advanced}
 use Rattle.run_stages.specs.declared.Record.{Record}
 use Rattle.run_stages.specs.State.{State, stateWith, draws, stops}
 use Rattle.run_stages.specs.Stages.{advance, drawsOf, start, handIn}
@@ -39,25 +42,9 @@ stateOf m = stateWith (m .order) (m .hints) (m .palette) (m .least) (recordOf (m
 unfoldable pub memoryOf : State → Memory
 memoryOf s = memory (s .order) (s .hints) (s .palette) (s .least) (wordsOf (s .rec))
 
--- ---- an outcome. Every number but 0 reports no draw and changes nothing
-pub record Outcome : Type 0 where
-  pub number : ℕ
-  pub drew : ℕ
-  pub after : Memory
-
-abbrev pub outcome : ℕ → ℕ → Memory → Outcome
-outcome number drew after = record { number = number; drew = drew; after = after }
-
-unfoldable pub answered : ℕ → Memory → ℕ → State → Outcome
-answered e m drew s = cond (eqb e 0) (outcome 0 drew (memoryOf s)) (outcome e 0 m)
-
--- of a call that writes only what is lent for the colours
-pub record Copied : Type 0 where
-  pub number : ℕ
-  pub out : List Float
-
-abbrev pub copiedTo : ℕ → List Float → Copied
-copiedTo number out = record { number = number; out = out }
+-- what an advance answers: the draws that it made, none where it is refused
+abbrev pub advanced : Refusal → ℕ → Advanced
+advanced e n = record { refusal = e; draws = n }
 
 module _ (K : Course) where
   open Job (K .job) using (S, C, T)
@@ -78,27 +65,41 @@ module _ (K : Course) where
   abbrev pub runRules : Memory → Bool → Bool → List Rule
   runRules m room moment = jobRules room ++ (stateRules K (stateOf m) ++ (rule 11 moment ∷ []))
 
-  unfoldable pub startAnswer : Memory → ℕ
-  startAnswer m = answer (jobRules (memoryRoom m))
+  abbrev pub startRules : Memory → List Rule
+  startRules m = jobRules (memoryRoom m)
 
-  unfoldable pub advanceAnswer : Memory → ℕ
-  advanceAnswer m = answer (runRules m (memoryRoom m) (draws (stateOf m .rec .stage)))
+  abbrev pub advanceRules : Memory → List Rule
+  advanceRules m = runRules m (memoryRoom m) (draws (stateOf m .rec .stage))
 
-  unfoldable pub handInAnswer : Memory → List Float → ℕ
-  handInAnswer m reduced = answer (runRules m (memoryRoom m && coloursRoom reduced) (stops (stateOf m .rec .stage)) ++ (rule 7 (componentsFit two reduced) ∷ []))
+  abbrev pub handInRules : Memory → List Float → List Rule
+  handInRules m reduced = runRules m (memoryRoom m && coloursRoom reduced) (stops (stateOf m .rec .stage)) ++ (colourRule 17 0 two reduced ∷ [])
 
-  unfoldable pub resultAnswer : Memory → List Float → ℕ
-  resultAnswer m out = answer (runRules m (memoryRoom m && coloursRoom out) (eqb (stateOf m .rec .stage) 7))
+  abbrev pub resultRules : Memory → List Float → List Rule
+  resultRules m out = runRules m (memoryRoom m && coloursRoom out) (eqb (stateOf m .rec .stage) 7)
 
-  -- ---- the calls
-  unfoldable pub startCall : Memory → ℕ → Outcome
-  startCall m seed = answered (startAnswer m) m 0 (start K seed (m .hints))
+  unfoldable pub startAnswer : Memory → Refusal
+  startAnswer m = answer (startRules m)
 
-  unfoldable pub advanceCall : Memory → ℕ → Outcome
-  advanceCall m a = answered (advanceAnswer m) m (drawsOf K a (stateOf m)) (advance K a (stateOf m))
+  unfoldable pub advanceAnswer : Memory → Refusal
+  advanceAnswer m = answer (advanceRules m)
 
-  unfoldable pub handInCall : Memory → List Float → Outcome
-  handInCall m reduced = answered (handInAnswer m reduced) m 0 (handIn K reduced (stateOf m))
+  unfoldable pub handInAnswer : Memory → List Float → Refusal
+  handInAnswer m reduced = answer (handInRules m reduced)
 
-  unfoldable pub resultCall : Memory → List Float → Copied
-  resultCall m out = cond (eqb (resultAnswer m out) 0) (copiedTo 0 (m .palette)) (copiedTo (resultAnswer m out) out)
+  unfoldable pub resultAnswer : Memory → List Float → Refusal
+  resultAnswer m out = answer (resultRules m out)
+
+  -- ---- the calls. A refusal makes no draw and writes nothing
+  unfoldable pub startCall : Memory → ℕ → Outcome Refusal Memory
+  startCall m seed = decided (startAnswer m) (outcome nothing (memoryOf (start K seed (m .hints)))) (startAnswer m) m
+
+  unfoldable pub advanceCall : Memory → ℕ → Outcome Advanced Memory
+  advanceCall m a =
+      decided (advanceAnswer m) (outcome (advanced nothing (drawsOf K a (stateOf m))) (memoryOf (advance K a (stateOf m)))) (advanced (advanceAnswer m) 0) m
+
+  unfoldable pub handInCall : Memory → List Float → Outcome Refusal Memory
+  handInCall m reduced = decided (handInAnswer m reduced) (outcome nothing (memoryOf (handIn K reduced (stateOf m)))) (handInAnswer m reduced) m
+
+  -- the colours go to `out`, and nothing else is written
+  unfoldable pub resultCall : Memory → List Float → Outcome Refusal (List Float)
+  resultCall m out = decided (resultAnswer m out) (outcome nothing (m .palette)) (resultAnswer m out) out

@@ -21,8 +21,8 @@ sampled K (suc a) s = let rest = sampled K a (step K s) in cond (going s) (sampl
 
 -- calls on one job since its start from a seed, each accepted: the memory that the last one left, and all samples drawn until then
 pub data Run (K : Course) (seed : ℕ) : Memory → List ℕ → Type 0 where
-  started : (m : Memory) → startAnswer K m ≡ 0 → Run K seed (startCall K m seed .after) []
-  advanced : {m : Memory} {ds : List ℕ} → Run K seed m ds → (a : ℕ) → advanceAnswer K m ≡ 0
+  started : (m : Memory) → startAnswer K m .number ≡ 0 → Run K seed (startCall K m seed .after) []
+  advanced : {m : Memory} {ds : List ℕ} → Run K seed m ds → (a : ℕ) → advanceAnswer K m .number ≡ 0
       → Run K seed (advanceCall K m a .after) (ds ++ sampled K a (stateOf m))
-  handedIn : {m : Memory} {ds : List ℕ} → Run K seed m ds → (reduced : List Float) → handInAnswer K m reduced ≡ 0
+  handedIn : {m : Memory} {ds : List ℕ} → Run K seed m ds → (reduced : List Float) → handInAnswer K m reduced .number ≡ 0
       → Run K seed (handInCall K m reduced .after) ds

@@ -1,5 +1,5 @@
 -- The record's rules, words 1 to 5, and what else is asked of a run's memory. Definitions only. Assumes nothing.
-use Prim.Native.Nat.{ℕ, _+_, _-_, _*_}
+use Prim.Native.Nat.{ℕ, _+_, _-_, _*_, _/_}
 use mathlib.Core.Bool.{Bool, true, cond, _&&_}
 use mathlib.Core.List.{List, [], _∷_, _++_}
 use lib.Dec.{leb, ltb, eqb}
@@ -7,8 +7,8 @@ use lib.ListN.{length, getD}
 use lib.Ieee.{Float, binary32, ofBits}
 use Rattle.lists.specs.Every.{every}
 use Rattle.job.specs.Job.{Job}
-use Rattle.job.specs.Rules.{Rule, rule}
-use Rattle.job.specs.Checks.{componentsFit}
+use Rattle.answer.specs.Rules.{Rule, ruleAt, rule}
+use Rattle.job.specs.Checks.{firstBad, componentsFit, colourRule}
 use Rattle.quantizer.specs.Course.{Course, b}
 use Rattle.run_stages.specs.declared.Record.{Record}
 use Rattle.run_stages.specs.declared.Stage.{Stage}
@@ -32,6 +32,11 @@ errorFits stage error = cond (eqb stage 2) (ltb error 0x7f800000) (eqb error 0)
 -- the second palette is looked at in stage 2 alone
 unfoldable pub leastFits : ℕ → List Float → Bool
 leastFits stage least = cond (eqb stage 2) (componentsFit four least) true
+
+-- the working colours, the first palette's before those of the second, which go on counting from `cells`; of the first every place is looked at
+abbrev pub workingRules : ℕ → ℕ → List Float → List Float → List Rule
+workingRules cells stage palette least =
+    colourRule 16 0 four palette ∷ ruleAt 16 (cells + firstBad four least / 3) (leastFits stage least) ∷ []
 
 abbrev pub stageWith : ℕ → ℕ → ℕ → Stage
 stageWith rounds each before = record { rounds = rounds; each = each; before = before }
@@ -65,10 +70,8 @@ module _ (K : Course) where
       ∷ rule 10 (eqb (r .made) (madeBy (r .stage) (r .rounds) (r .left)))
       ∷ rule 10 (errorFits (r .stage) (r .error)) ∷ []
 
-  -- of the first palette every place is looked at
   abbrev pub stateRules : State → List Rule
   stateRules s =
       recordRules (s .rec)
-      ++ (rule 7 (componentsFit four (s .palette))
-      ∷ rule 7 (leastFits (s .rec .stage) (s .least))
-      ∷ rule 9 (orderFits (K .n) (s .order)) ∷ [])
+      ++ (workingRules (S * C) (s .rec .stage) (s .palette) (s .least)
+      ++ (rule 9 (orderFits (K .n) (s .order)) ∷ []))

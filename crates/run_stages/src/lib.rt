@@ -1,5 +1,12 @@
 // The run, stage by stage, its record and its four calls, as definitions: specs/ holds them. The functions stand in the crates above.
 // Here is only what they share.
+use answer::Refusal;
+
+// What an advance answers: the refusal, or nothing and the draws made.
+pub struct Advanced {
+    pub refusal: Refusal,
+    pub draws: u64,
+}
 
 // The record's six words by name: generator state, stage, rounds finished in the stage, draws left in the round, draws made,
 // and the bits of the least error.

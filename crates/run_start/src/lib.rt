@@ -1,10 +1,12 @@
 // The public call that starts a run: both palettes nought but for the samples' mean, the first order, and all that needs no draw.
+use answer::Refusal;
 use job::Sizes;
 ghost use mathlib.Core.Path.{_≡_};
+ghost use Rattle.answer.specs.Outcome.{outcome};
 ghost use Rattle.quantizer.specs.Course.{courseOf};
-ghost use Rattle.run_stages.specs.Calls.{memory, outcome, startCall};
+ghost use Rattle.run_stages.specs.Calls.{memory, startCall};
 
-// 0, or the number of the first rule that is broken; then all memory stays as it is.
+// Nothing, or the first rule that is broken; then all memory stays as it is.
 pub fn start(
     z: Sizes,
     seed: u64,
@@ -17,12 +19,12 @@ pub fn start(
     palette: &mut [f32],
     least: &mut [f32],
     words: &mut [u64],
-) -> u32
-    ensures { λ r. ⌜ outcome r 0 (memory (now (order .exit)) (now (hints .exit)) (now (palette .exit)) (now (least .exit)) (now (words .exit)))
+) -> Refusal
+    ensures { λ r. ⌜ outcome r (memory (now (order .exit)) (now (hints .exit)) (now (palette .exit)) (now (least .exit)) (now (words .exit)))
         ≡ startCall (courseOf z (now (tiles .entry)) (now (colours .entry)) (now (counts .entry)) (now (samples .entry)))
         (memory (now (order .entry)) (now (hints .entry)) (now (palette .entry)) (now (least .entry)) (now (words .entry))) seed ⌝ }
 {
-    let a = run_check::refuses_start(
+    let refusal = run_check::refuses_start(
         z,
         tiles,
         colours,
@@ -34,8 +36,8 @@ pub fn start(
         least,
         words,
     );
-    if a != 0 {
-        return a;
+    if refusal.number != 0 {
+        return refusal;
     }
     run_blank::blank(z, tiles, colours, counts, samples, palette, least);
     let r = run_blank::deal(order, seed);
@@ -52,5 +54,5 @@ pub fn start(
         r,
     );
     run_memory::write_record(words, next);
-    0
+    answer::DONE
 }

@@ -9,11 +9,12 @@ use lib.Ieee.{Float}
 use lib.ListN.{length}
 use borrow.Author.Tests.{ltb-true, ltb-false}
 use Rattle.lists.proofs.Tests.{and-l, and-r}
+use Rattle.answer.specs.Outcome.{outcome}
 use Rattle.quantizer.specs.Course.{Course}
 use Rattle.run_stages.specs.declared.Record.{Record}
 use Rattle.run_stages.specs.State.{State, stateWith, draws}
 use Rattle.run_stages.specs.Stages.{going, step, advance, drawsOf}
-use Rattle.run_stages.specs.Calls.{recordOf, wordsOf, memory, memoryOf, outcome}
+use Rattle.run_stages.specs.Calls.{recordOf, wordsOf, memory, memoryOf}
 use Rattle.run_calls.proofs.Cases.{decide}
 use Rattle.run_calls.proofs.Whilsts.{Far, far-start, far-step, far-stop, far-end}
 use Rattle.run_calls.specs.Fit.{Fit}
@@ -75,11 +76,11 @@ pub worked : (K : Course) (a : ℕ) (o h : List ℕ) (p l : List Float) (w : Lis
     → (m : ℕ) (o2 h2 : List ℕ) (p2 l2 : List Float) (r2 : Record) → Advancing K a (stateWith o h p l r) m (stateWith o2 h2 p2 l2 r2)
     → (t : Bool) → t ≡ (ltb m a && draws (r2 .stage)) → t ≡ false
     → (w2 : List ℕ) → w2 ≡ wordsOf r2
-    → outcome 0 m (memory o2 h2 p2 l2 w2) ≡ outcome 0 (drawsOf K a (stateWith o h p l (recordOf w))) (memoryOf (advance K a (stateWith o h p l (recordOf w))))
+    → outcome m (memory o2 h2 p2 l2 w2) ≡ outcome (drawsOf K a (stateWith o h p l (recordOf w))) (memoryOf (advance K a (stateWith o h p l (recordOf w))))
 unfolding memoryOf
 worked K a o h p l w r e m o2 h2 p2 l2 r2 A t f n w2 q =
     let z = ended A t f n in
-    subst (λ (x : Record). outcome 0 m (memory o2 h2 p2 l2 w2) ≡ outcome 0 (drawsOf K a (stateWith o h p l x)) (memoryOf (advance K a (stateWith o h p l x)))) e
-    (ap (λ (x : ℕ). outcome 0 x (memory o2 h2 p2 l2 w2)) (z .1)
-    ∙ ap (λ (x : List ℕ). outcome 0 (drawsOf K a (stateWith o h p l r)) (memory o2 h2 p2 l2 x)) q
-    ∙ ap (λ (x : State). outcome 0 (drawsOf K a (stateWith o h p l r)) (memoryOf x)) (z .0))
+    subst (λ (x : Record). outcome m (memory o2 h2 p2 l2 w2) ≡ outcome (drawsOf K a (stateWith o h p l x)) (memoryOf (advance K a (stateWith o h p l x)))) e
+    (ap (λ (x : ℕ). outcome x (memory o2 h2 p2 l2 w2)) (z .1)
+    ∙ ap (λ (x : List ℕ). outcome (drawsOf K a (stateWith o h p l r)) (memory o2 h2 p2 l2 x)) q
+    ∙ ap (λ (x : State). outcome (drawsOf K a (stateWith o h p l r)) (memoryOf x)) (z .0))

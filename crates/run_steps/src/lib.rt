@@ -3,10 +3,11 @@ use job::Sizes;
 use run_stages::Record;
 ghost use mathlib.Core.Path.{_≡_};
 ghost use lib.ListN.{length};
+ghost use Rattle.answer.specs.Outcome.{outcome};
 ghost use Rattle.quantizer.specs.Course.{courseOf};
 ghost use Rattle.run_stages.specs.State.{stateWith};
 ghost use Rattle.run_stages.specs.Stages.{step, advance, drawsOf};
-ghost use Rattle.run_stages.specs.Calls.{recordOf, memory, memoryOf, outcome};
+ghost use Rattle.run_stages.specs.Calls.{recordOf, memory, memoryOf};
 ghost use Rattle.run_steps.specs.Running.{Running, Ongoing};
 
 // One draw, and all that is then due.
@@ -57,8 +58,8 @@ pub fn advance_work(
     allotment: u64,
 ) -> u64
     requires { ⌜ Running (courseOf z (now tiles) (now colours) (now counts) (now samples)) (stateWith (now order) (now hints) (now palette) (now least) (recordOf (now words))) × (length (now words) ≡ 6) ⌝ }
-    ensures { λ x. ⌜ outcome 0 x (memory (now (order .exit)) (now (hints .exit)) (now (palette .exit)) (now (least .exit)) (now (words .exit)))
-        ≡ outcome 0
+    ensures { λ x. ⌜ outcome x (memory (now (order .exit)) (now (hints .exit)) (now (palette .exit)) (now (least .exit)) (now (words .exit)))
+        ≡ outcome
         (drawsOf (courseOf z (now (tiles .entry)) (now (colours .entry)) (now (counts .entry)) (now (samples .entry))) allotment
         (stateWith (now (order .entry)) (now (hints .entry)) (now (palette .entry)) (now (least .entry)) (recordOf (now (words .entry)))))
         (memoryOf

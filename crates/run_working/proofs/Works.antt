@@ -1,15 +1,17 @@
--- An order entry by entry, and the working colours by their first one past the limit. Assumes nothing.
-use Prim.Native.Nat.{ℕ, _+_, _≤_, _<_}
-use mathlib.Core.Path.{_≡_, refl, sym, ap}
-use mathlib.Core.Bool.{Bool, true, false}
-use mathlib.Core.List.{List}
-use lib.Dec.{eqb}
+-- An order entry by entry, and what the second palette answers. Assumes nothing.
+use Prim.Native.Nat.{ℕ, _+_, _/_, _≤_, _<_}
+use mathlib.Core.Path.{_≡_, refl, sym}
+use mathlib.Core.Bool.{true, false}
+use mathlib.Core.List.{List, [], _∷_}
 use lib.Ieee.{Float}
 use lib.ListN.{length, getD}
 use borrow.Author.Tests.{eq-eqb, ne-eqb, lt-ltb, le-ltb}
 use Rattle.lists.specs.Every.{every}
 use Rattle.lists.proofs.Loops.{every-fails, every-more}
-use Rattle.job.specs.Checks.{firstBad, componentsFit}
+use Rattle.answer.specs.declared.Refusal.{Refusal}
+use Rattle.answer.specs.Rules.{nothing, Rule, ruleAt, answer}
+use Rattle.answer.proofs.Passing.{skips, none}
+use Rattle.job.specs.Checks.{firstBad, colourRule}
 use Rattle.run_stages.specs.Record.{four, entryFits, orderFits, leastFits}
 
 -- ---- an order, entry by entry
@@ -22,14 +24,15 @@ module _ (n : ℕ) (order : List ℕ) (i w : ℕ) (e : w ≡ getD order i 0) whe
   unfolding entryFits
   order-more h a = every-more (entryFits n order) i true a (sym (lt-ltb (getD order i 0) n (rw e at h))) refl
 
--- ---- the working colours
-pub none-past : (xs : List Float) (i : ℕ) → i ≡ firstBad four xs → eqb i (length xs) ≡ componentsFit four xs
-none-past xs i e = ap (λ (k : ℕ). eqb k (length xs)) e
+-- ---- the second palette, which only stage 2 looks at
+module _ (cells stage : ℕ) (xs : List Float) where
+  abbrev leastRule : Rule
+  leastRule = ruleAt 16 (cells + firstBad four xs / 3) (leastFits stage xs)
 
-pub not-looked-at : (stage : ℕ) (xs : List Float) → (stage ≡ 2 → ⊥) → true ≡ leastFits stage xs
-unfolding leastFits
-not-looked-at stage xs h = rw (ne-eqb stage 2 h)
+  pub not-looked-at : (stage ≡ 2 → ⊥) → nothing ≡ answer (leastRule ∷ [])
+  unfolding leastFits
+  not-looked-at h = skips leastRule nothing [] (rw (ne-eqb stage 2 h)) none
 
-pub looked-at : (stage : ℕ) (xs : List Float) → stage ≡ 2 → (t : Bool) → t ≡ componentsFit four xs → t ≡ leastFits stage xs
-unfolding leastFits
-looked-at stage xs h t e = rw (eq-eqb stage 2 h) e
+  pub looked-at : stage ≡ 2 → (r : Refusal) → r ≡ answer (colourRule 16 cells four xs ∷ []) → r ≡ answer (leastRule ∷ [])
+  unfolding leastFits
+  looked-at h r e = rw (eq-eqb stage 2 h) e

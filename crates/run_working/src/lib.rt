@@ -1,7 +1,10 @@
 // The working colours and the order of a run, held to their limits: they are what a stranger wrote.
+use answer::Refusal;
 ghost use mathlib.Core.Path.{_≡_};
-ghost use Rattle.job.specs.Checks.{componentsFit};
-ghost use Rattle.run_stages.specs.Record.{four, orderFits, leastFits};
+ghost use Prim.Native.Nat.{_*_, _≤_};
+ghost use Rattle.answer.specs.Rules.{answer};
+ghost use Rattle.job.specs.Job.{mostSubpalettes, mostColours};
+ghost use Rattle.run_stages.specs.Record.{orderFits, workingRules};
 
 // The magnitude of a working component, at most.
 const MOST_WORKING: f32 = 4.0;
@@ -20,19 +23,17 @@ pub fn order_fits(n: usize, order: &[u32]) -> bool
     true
 }
 
-// Each component of a palette.
-pub fn palette_fits(palette: &[f32]) -> bool
-    ensures { λ r. ⌜ r ≡ componentsFit four (now (palette .entry)) ⌝ }
+// Number 16: the colours of the first palette, then in stage 2 those of the second, which go on counting from `cells`.
+pub fn check_working(cells: usize, stage: u64, palette: &[f32], least: &[f32]) -> Refusal
+    requires { ⌜ cells ≤ mostSubpalettes * mostColours ⌝ }
+    ensures { λ r. ⌜ r ≡ answer (workingRules cells stage (now (palette .entry)) (now (least .entry))) ⌝ }
 {
-    job::first_bad(palette, MOST_WORKING) == palette.len()
-}
-
-// The second palette, which only stage 2 looks at.
-pub fn least_fits(stage: u64, least: &[f32]) -> bool
-    ensures { λ r. ⌜ r ≡ leastFits stage (now (least .entry)) ⌝ }
-{
-    if stage != 2 {
-        return true;
+    let a = job::check_colours(16, 0, palette, MOST_WORKING);
+    if a.number != 0 {
+        return a;
     }
-    palette_fits(least)
+    if stage != 2 {
+        return answer::DONE;
+    }
+    job::check_colours(16, cells, least, MOST_WORKING)
 }

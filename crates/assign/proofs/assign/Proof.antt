@@ -8,10 +8,10 @@ check-assign-requires : tie.Need-check-assign-requires
 check-assign-requires c κs = search needs
 
 returns : tie.Need-returns
-returns c = stop _ _ _ _ (c .before .check-assign .ensures) (c .if1 .taken)
+returns c = stop _ _ _ _ (c .before .before .check-assign .ensures) (c .if1 .taken)
 
 assign-tiles-requires : tie.Need-assign-tiles-requires
-assign-tiles-requires c κs = can-assign _ _ _ _ (c .before .before .before .check-assign .ensures) (c .before .before .if1 .left)
+assign-tiles-requires c κs = can-assign _ _ _ _ (c .before .before .before .before .check-assign .ensures) (c .before .before .if1 .left)
 
 same-length : tie.Need-same-length
 same-length c = search needs
@@ -22,7 +22,7 @@ same-length-2 c = search needs
 returns-2 : tie.Need-returns-2
 returns-2 c =
     let after-assign-tiles = c .before .before .before .before in let past-if1 = after-assign-tiles .before .before .before in
-    let after-check-assign = past-if1 .before in
+    let after-check-assign = past-if1 .before .before in
     done _ _ _ _ (after-check-assign .check-assign .ensures) (past-if1 .if1 .left) _ (after-assign-tiles .assign-tiles .ensures)
 
 pub assign-spec : {M : Type 1} → statement M

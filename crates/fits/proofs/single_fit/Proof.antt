@@ -10,16 +10,16 @@ check-single-requires : tie.Need-check-single-requires
 check-single-requires c κs = search needs
 
 returns : tie.Need-returns
-returns c = single-refused _ _ _ _ (c .before .check-single .ensures) (c .if1 .taken)
+returns c = single-refused _ _ _ _ (c .before .before .check-single .ensures) (c .if1 .taken)
 
 tile-fit-requires : tie.Need-tile-fit-requires
-tile-fit-requires c κs = single-asked _ _ _ _ (c .before .before .check-single .ensures) (c .before .if1 .left) _ refl
+tile-fit-requires c κs = single-asked _ _ _ _ (c .before .before .before .check-single .ensures) (c .before .if1 .left) _ refl
 
 same-length : tie.Need-same-length
 same-length c = search needs
 
 returns-2 : tie.Need-returns-2
-returns-2 c = single-done _ _ _ _ (c .before .before .before .before .before .check-single .ensures) (c .before .before .before .before .if1 .left) _ _ (c .before .before .tile-fit .ensures .0) (c .before .before .tile-fit .ensures .1)
+returns-2 c = single-done _ _ _ _ (c .before .before .before .before .before .before .check-single .ensures) (c .before .before .before .before .if1 .left) _ _ (c .before .before .tile-fit .ensures .0) (c .before .before .tile-fit .ensures .1)
 
 pub single-fit-spec : {M : Type 1} → statement M
 single-fit-spec =

@@ -21,7 +21,9 @@ fault-requires : tie.Need-fault-requires Inv-loop μ-loop
 fault-requires c κs = (record { bytes-there = omega arith; oklab-there = omega arith }, c .before .loop .inv .2)
 
 returns : tie.Need-returns Inv-loop μ-loop
-returns c = first-found _ _ _ _ (c .before .before .before .loop .inv .1) (c .before .before .loop-test .taken) (c .before .fault .ensures) (c .if1 .taken)
+returns c =
+    let found = c .before .before in let turn = found .before in
+    first-found _ _ _ _ (turn .before .loop .inv .1) (turn .loop-test .taken) (found .fault .ensures) (c .if1 .taken)
 
 add-k : tie.Need-add-k Inv-loop μ-loop
 add-k c = search needs
@@ -30,11 +32,10 @@ loop-less : tie.Need-loop-less Inv-loop μ-loop
 loop-less c = search needs
 
 loop-again : tie.Need-loop-again Inv-loop μ-loop
-loop-again c = (
+loop-again c = let found = c .before .before in let turn = found .before in (
   search needs,
-  first-on _ _ _ _ (c .before .before .before .loop .inv .1) (c .before .before .loop-test .taken) (c .before .fault .ensures)
-      (c .if1 .left),
-  real-on _ _ _ _ _ (c .before .before .before .loop .inv .2) (c .before .fault .ensures) (c .if1 .left),
+  first-on _ _ _ _ (turn .before .loop .inv .1) (turn .loop-test .taken) (found .fault .ensures) (c .if1 .left),
+  real-on _ _ _ _ _ (turn .before .loop .inv .2) (found .fault .ensures) (c .if1 .left),
 )
 
 returns-2 : tie.Need-returns-2 Inv-loop μ-loop

@@ -3,7 +3,7 @@
 use mathlib.Core.Path.{refl}
 use denote.Ref.{now}
 use Rattle.quantizer.specs.Course.{courseOf}
-use Rattle.run_advance.proofs.Answered.{refused, work-asks, advanced}
+use Rattle.run_advance.proofs.Answered.{refused, work-asks, worked}
 use borrow.Author.Needs.{needs}
 use Rattle.run_advance.proofs.advance.Statement.{statement}
 use Rattle.run_advance.proofs.advance.Tie as tie
@@ -27,10 +27,10 @@ same-length-5 : tie.Need-same-length-5
 same-length-5 c = refl
 
 returns : tie.Need-returns
-returns c = refused _ _ _ _ _ _ _ (c .before .refuses-advance .ensures) _ (c .if1 .taken)
+returns c = refused _ _ _ _ _ _ _ (c .before .before .refuses-advance .ensures) _ (c .if1 .taken)
 
 advance-work-requires : tie.Need-advance-work-requires
-advance-work-requires c κs = work-asks _ _ _ _ _ _ _ (c .before .before .before .before .before .before .refuses-advance .ensures) (c .before .before .before .before .before .if1 .left)
+advance-work-requires c κs = work-asks _ _ _ _ _ _ _ (c .before .before .before .before .before .before .before .refuses-advance .ensures) (c .before .before .before .before .before .if1 .left)
 
 same-length-6 : tie.Need-same-length-6
 same-length-6 c = search needs
@@ -49,11 +49,11 @@ same-length-10 c = search needs
 
 returns-2 : tie.Need-returns-2
 returns-2 c =
-    let worked = c .before .before .before .before .before .before .before .before .before .before in
-    let passed = worked .before .before .before .before .before .before in
-    let a = passed .before .before .before .before .before .before .before .before .before .before .before .before .before .before .before .before .args in
-    advanced (courseOf (a .z) (now (a .tiles)) (now (a .colours)) (now (a .counts)) (now (a .samples))) (now (a .order)) (now (a .hints)) (now (a .palette))
-    (now (a .least)) (now (a .words)) _ (passed .before .refuses-advance .ensures) (a .allotment) (passed .if1 .left) _ (worked .advance-work .ensures)
+    let drew = c .before .before .before .before .before .before .before .before .before .before in
+    let passed = drew .before .before .before .before .before .before in
+    let a = passed .before .before .before .before .before .before .before .before .before .before .before .before .before .before .before .before .before .args in
+    worked (courseOf (a .z) (now (a .tiles)) (now (a .colours)) (now (a .counts)) (now (a .samples))) (now (a .order)) (now (a .hints)) (now (a .palette))
+    (now (a .least)) (now (a .words)) _ (passed .before .before .refuses-advance .ensures) (a .allotment) (passed .if1 .left) _ (drew .advance-work .ensures)
 
 pub advance-spec : {M : Type 1} → statement M
 advance-spec =

@@ -8,18 +8,18 @@ check-sampled-requires : tie.Need-check-sampled-requires
 check-sampled-requires c κs = search needs
 
 returns : tie.Need-returns
-returns c = held-stops _ _ _ _ _ _ (c .before .check-sampled .ensures) (c .if1 .taken)
+returns c = held-stops _ _ _ _ _ _ (c .before .before .check-sampled .ensures) (c .if1 .taken)
 
 record-of-requires : tie.Need-record-of-requires
 record-of-requires c κs =
-    let start = c .before .before .before .before .before .before .before .before .before .before .before in
-    start .pre (job-room _ _ _ _ _ (c .before .check-sampled .ensures) (c .if1 .left))
+    let start = c .before .before .before .before .before .before .before .before .before .before .before .before in
+    start .pre (job-room _ _ _ _ _ (c .before .before .check-sampled .ensures) (c .if1 .left))
 
 check-state-requires : tie.Need-check-state-requires
-check-state-requires c κs = job-sized _ _ _ _ _ (c .before .before .check-sampled .ensures) (c .before .if1 .left)
+check-state-requires c κs = job-sized _ _ _ _ _ (c .before .before .before .check-sampled .ensures) (c .before .if1 .left)
 
 returns-2 : tie.Need-returns-2
-returns-2 c = held-goes _ _ _ _ _ _ (c .before .before .before .check-sampled .ensures) (c .before .before .if1 .left) _ (c .before .record-of .ensures) _ (c .check-state .ensures)
+returns-2 c = held-goes _ _ _ _ _ _ (c .before .before .before .before .check-sampled .ensures) (c .before .before .if1 .left) _ (c .before .record-of .ensures) _ (c .check-state .ensures)
 
 pub check-run-spec : {M : Type 1} → statement M
 check-run-spec =

@@ -1,10 +1,8 @@
 -- `run_check::refuses_hand_in` meets its contract, return by return. Assumes nothing.
-use mathlib.Core.Path.{sym, _∙_}
 use native.Mathlib.Omega.{arith}
-use borrow.Author.Tests.{eq-eqb}
 use Rattle.run_stages.specs.Calls.{stateOf, memoryRoom, coloursRoom, handInAnswer}
-use Rattle.job.proofs.Passing.{refuses, passes, skips, none}
-use Rattle.run_check.proofs.Answers.{bound-fails, run-room, run-stops, run-goes}
+use Rattle.answer.proofs.Passing.{refuses, passes}
+use Rattle.run_check.proofs.Answers.{run-room, run-stops, run-goes}
 use borrow.Author.Needs.{needs}
 use Rattle.run_check.proofs.refuses_hand_in.Statement.{statement}
 use Rattle.run_check.proofs.refuses_hand_in.Tie as tie
@@ -17,10 +15,10 @@ check-run-requires c κs = c .wider-room .ensures .six
 
 returns : tie.Need-returns
 unfolding handInAnswer memoryRoom coloursRoom
-returns c = run-stops _ _ _ _ _ _ (c .before .check-run .ensures) _ (c .before .before .wider-room .ensures .same) _ (c .if1 .taken)
+returns c = run-stops _ _ _ _ _ _ (c .before .before .check-run .ensures) _ (c .before .before .before .wider-room .ensures .same) _ (c .if1 .taken)
 
 shared-slice-read-is-stop : tie.Need-shared-slice-read-is-stop
-shared-slice-read-is-stop c = let six = c .before .before .before .wider-room .ensures .six (run-room _ _ _ _ _ _ (c .before .before .check-run .ensures) (c .before .if1 .left)) in omega arith
+shared-slice-read-is-stop c = let six = c .before .before .before .before .wider-room .ensures .six (run-room _ _ _ _ _ _ (c .before .before .before .check-run .ensures) (c .before .if1 .left)) in omega arith
 
 is-stop-requires : tie.Need-is-stop-requires
 is-stop-requires c κs = search needs
@@ -28,31 +26,21 @@ is-stop-requires c κs = search needs
 returns-2 : tie.Need-returns-2
 unfolding handInAnswer memoryRoom coloursRoom stateOf
 returns-2 c =
-    let after-if1 = c .before .before .before in let after-check-run = after-if1 .before in let after-wider-room = after-check-run .before in
-    run-goes _ _ _ _ _ _ (after-check-run .check-run .ensures) _ (after-wider-room .wider-room .ensures .same) _ (after-if1 .if1 .left) _ (refuses _ _ _ _ (c .before .is-stop .ensures) (c .if2 .taken))
+    let after-if1 = c .before .before .before in let after-check-run = after-if1 .before .before in let after-wider-room = after-check-run .before in
+    run-goes _ _ _ _ _ _ (after-check-run .check-run .ensures) _ (after-wider-room .wider-room .ensures .same) _ (after-if1 .if1 .left) _ (refuses _ _ _ (c .before .is-stop .ensures) (c .if2 .taken))
 
-first-bad-requires : tie.Need-first-bad-requires
-first-bad-requires c κs = search needs
+check-colours-requires : tie.Need-check-colours-requires
+check-colours-requires c κs = search needs
 
 returns-3 : tie.Need-returns-3
 unfolding handInAnswer memoryRoom coloursRoom stateOf
 returns-3 c =
-    let after-is-stop = c .before .before .before in let after-if1 = after-is-stop .before .before in let after-check-run = after-if1 .before in
+    let after-is-stop = c .before .before in let after-if1 = after-is-stop .before .before in let after-check-run = after-if1 .before .before in
     let after-wider-room = after-check-run .before in
     run-goes _ _ _ _ _ _ (after-check-run .check-run .ensures) _ (after-wider-room .wider-room .ensures .same) _ (after-if1 .if1 .left) _
-    (passes _ _ _ _ _ (after-is-stop .is-stop .ensures) (c .before .before .if2 .left) (bound-fails _ _ _ _ _ (c .before .first-bad .ensures) (c .if3 .taken)))
-
-returns-4 : tie.Need-returns-4
-unfolding handInAnswer memoryRoom coloursRoom stateOf
-returns-4 c =
-    let after-is-stop = c .before .before .before in let after-if1 = after-is-stop .before .before in let after-check-run = after-if1 .before in
-    let after-wider-room = after-check-run .before in
-    run-goes _ _ _ _ _ _ (after-check-run .check-run .ensures) _ (after-wider-room .wider-room .ensures .same) _ (after-if1 .if1 .left) _
-    (passes _ _ _ _ _ (after-is-stop .is-stop .ensures) (c .before .before .if2 .left)
-    (skips _ _ _ _ (eq-eqb _ _ (sym (c .before .first-bad .ensures) ∙ c .if3 .left)) none))
+    (passes _ _ _ _ (after-is-stop .is-stop .ensures) (c .before .if2 .left) (c .check-colours .ensures))
 
 pub refuses-hand-in-spec : {M : Type 1} → statement M
 refuses-hand-in-spec =
     tie.close
-    (tie.spec wider-room-requires check-run-requires returns shared-slice-read-is-stop is-stop-requires returns-2 first-bad-requires returns-3
-    returns-4)
+    (tie.spec wider-room-requires check-run-requires returns shared-slice-read-is-stop is-stop-requires returns-2 check-colours-requires returns-3)

@@ -1,7 +1,7 @@
 -- `run_check::refuses_result` meets its contract, return by return. Assumes nothing.
 use native.Mathlib.Omega.{arith}
 use Rattle.run_stages.specs.Calls.{stateOf, memoryRoom, coloursRoom, resultAnswer}
-use Rattle.job.proofs.Passing.{refuses, passes, none}
+use Rattle.answer.proofs.Passing.{refuses, passes, none}
 use Rattle.run_check.proofs.Answers.{run-room, run-stops, run-goes}
 use borrow.Author.Needs.{needs}
 use Rattle.run_check.proofs.refuses_result.Statement.{statement}
@@ -15,10 +15,10 @@ check-run-requires c κs = c .wider-room .ensures .six
 
 returns : tie.Need-returns
 unfolding resultAnswer memoryRoom coloursRoom
-returns c = run-stops _ _ _ _ _ _ (c .before .check-run .ensures) _ (c .before .before .wider-room .ensures .same) _ (c .if1 .taken)
+returns c = run-stops _ _ _ _ _ _ (c .before .before .check-run .ensures) _ (c .before .before .before .wider-room .ensures .same) _ (c .if1 .taken)
 
 shared-slice-read-is-finished : tie.Need-shared-slice-read-is-finished
-shared-slice-read-is-finished c = let six = c .before .before .before .wider-room .ensures .six (run-room _ _ _ _ _ _ (c .before .before .check-run .ensures) (c .before .if1 .left)) in omega arith
+shared-slice-read-is-finished c = let six = c .before .before .before .before .wider-room .ensures .six (run-room _ _ _ _ _ _ (c .before .before .before .check-run .ensures) (c .before .if1 .left)) in omega arith
 
 is-finished-requires : tie.Need-is-finished-requires
 is-finished-requires c κs = tt
@@ -26,14 +26,14 @@ is-finished-requires c κs = tt
 returns-2 : tie.Need-returns-2
 unfolding resultAnswer memoryRoom coloursRoom stateOf
 returns-2 c =
-    let after-if1 = c .before .before .before in let after-check-run = after-if1 .before in let after-wider-room = after-check-run .before in
-    run-goes _ _ _ _ _ _ (after-check-run .check-run .ensures) _ (after-wider-room .wider-room .ensures .same) _ (after-if1 .if1 .left) _ (refuses _ _ _ _ (c .before .is-finished .ensures) (c .if2 .taken))
+    let after-if1 = c .before .before .before in let after-check-run = after-if1 .before .before in let after-wider-room = after-check-run .before in
+    run-goes _ _ _ _ _ _ (after-check-run .check-run .ensures) _ (after-wider-room .wider-room .ensures .same) _ (after-if1 .if1 .left) _ (refuses _ _ _ (c .before .is-finished .ensures) (c .if2 .taken))
 
 returns-3 : tie.Need-returns-3
 unfolding resultAnswer memoryRoom coloursRoom stateOf
 returns-3 c =
-    let after-if1 = c .before .before .before in let after-check-run = after-if1 .before in let after-wider-room = after-check-run .before in
-    run-goes _ _ _ _ _ _ (after-check-run .check-run .ensures) _ (after-wider-room .wider-room .ensures .same) _ (after-if1 .if1 .left) _ (passes _ _ _ _ _ (c .before .is-finished .ensures) (c .if2 .left) none)
+    let after-if1 = c .before .before .before in let after-check-run = after-if1 .before .before in let after-wider-room = after-check-run .before in
+    run-goes _ _ _ _ _ _ (after-check-run .check-run .ensures) _ (after-wider-room .wider-room .ensures .same) _ (after-if1 .if1 .left) _ (passes _ _ _ _ (c .before .is-finished .ensures) (c .if2 .left) none)
 
 pub refuses-result-spec : {M : Type 1} → statement M
 refuses-result-spec =

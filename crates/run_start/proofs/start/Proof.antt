@@ -23,27 +23,27 @@ same-length-5 : tie.Need-same-length-5
 same-length-5 c = search needs
 
 returns : tie.Need-returns
-returns c = refused _ _ _ _ (c .before .refuses-start .ensures) (c .if1 .taken)
+returns c = refused _ _ _ _ (c .before .before .refuses-start .ensures) (c .if1 .taken)
 
 blank-requires : tie.Need-blank-requires
-blank-requires c κs = can-blank _ _ 0 _ (c .before .before .before .refuses-start .ensures) (c .before .before .if1 .left)
+blank-requires c κs = can-blank _ _ 0 _ (c .before .before .before .before .refuses-start .ensures) (c .before .before .if1 .left)
 
 deal-requires : tie.Need-deal-requires
 deal-requires c κs =
-    let after-if1 = c .before .before .before .before .before .before .before .before in let after-refuses-start = after-if1 .before in
+    let after-if1 = c .before .before .before .before .before .before .before .before in let after-refuses-start = after-if1 .before .before in
     can-deal _ _ 0 _ (after-refuses-start .refuses-start .ensures) (after-if1 .if1 .left)
 
 set-out-requires : tie.Need-set-out-requires
 set-out-requires c κs =
     let after-deal = c .before .before .before .before .before .before in
     let after-blank = after-deal .before .before .before .before .before .before in let after-if1 = after-blank .before .before .before in
-    let after-refuses-start = after-if1 .before in
+    let after-refuses-start = after-if1 .before .before in
     beginning _ _ _ _ (after-refuses-start .refuses-start .ensures) (after-if1 .if1 .left) _ _ (after-blank .blank .ensures) _ _ (after-deal .deal .ensures)
 
 write-record-requires : tie.Need-write-record-requires
 write-record-requires c κs =
     let after-if1 = c .before .before .before .before .before .before .before .before .before .before .before .before .before .before .before .before .before .before .before .before .before .before .before in
-    let after-refuses-start = after-if1 .before in
+    let after-refuses-start = after-if1 .before .before in
     six _ _ 0 _ (after-refuses-start .refuses-start .ensures) (after-if1 .if1 .left)
 
 same-length-6 : tie.Need-same-length-6
@@ -66,7 +66,7 @@ returns-2 c =
     let after-set-out = c .before .before .before .before .before .before .before .before .before .before in
     let after-deal = after-set-out .before .before .before .before .before .before .before in
     let after-blank = after-deal .before .before .before .before .before .before in let after-if1 = after-blank .before .before .before in
-    let after-refuses-start = after-if1 .before in
+    let after-refuses-start = after-if1 .before .before in
     accepted _ _ _ _ (after-refuses-start .refuses-start .ensures) (after-if1 .if1 .left) _ _ (after-blank .blank .ensures) _ _ (after-deal .deal .ensures) _ _ _ _
     (after-set-out .set-out .ensures) _ (c .before .before .write-record .ensures)
 

@@ -1,6 +1,9 @@
 -- `run_state::check_state` meets its contract, return by return. Assumes nothing.
-use Rattle.job.proofs.Passing.{refuses, passes, none}
-use Rattle.run_state.proofs.States.{record-stops, record-goes}
+use Prim.Native.Nat.{_*_, _≤_}
+use mir.Facts.{fits-le, fits-lit}
+use native.Mathlib.Nat.{mul-le-mul}
+use Rattle.answer.proofs.Passing.{refuses, passes, none}
+use Rattle.run_state.proofs.States.{record-stops, working-stops, working-goes}
 use borrow.Author.Needs.{needs}
 use Rattle.run_state.proofs.check_state.Statement.{statement}
 use Rattle.run_state.proofs.check_state.Tie as tie
@@ -9,49 +12,41 @@ check-record-requires : tie.Need-check-record-requires
 check-record-requires c κs = search needs
 
 returns : tie.Need-returns
-returns c = record-stops _ _ _ _ (c .before .before .before .before .before .args .r) _ (c .before .check-record .ensures) (c .if1 .taken)
+returns c = record-stops _ _ _ _ (c .before .before .before .before .before .before .args .r) _ (c .before .before .check-record .ensures) (c .if1 .taken)
 
-palette-fits-requires : tie.Need-palette-fits-requires
-palette-fits-requires c κs = search needs
+-- sizes within their limits have few colours
+few-cells : (c : tie.Else1) → let a = c .before .before .before .before .before .before .args in a .s * a .c ≤ 256
+few-cells c = let sized = c .before .before .before .before .before .before .pre in mul-le-mul (sized .few) (sized .cap)
+
+mul-check-working : tie.Need-mul-check-working
+mul-check-working c = fits-le (few-cells c) (fits-lit {n = 256} tt)
+
+check-working-requires : tie.Need-check-working-requires
+check-working-requires c κs = few-cells c
 
 returns-2 : tie.Need-returns-2
 returns-2 c =
-    let after-check-record = c .before .before .before in let start = after-check-record .before .before .before .before in
-    record-goes _ _ _ _ (start .args .r) _ (after-check-record .check-record .ensures) (c .before .before .if1 .left) _ (refuses _ _ _ _ (c .before .palette-fits .ensures) (c .if2 .taken))
-
-least-fits-requires : tie.Need-least-fits-requires
-least-fits-requires c κs = search needs
-
-returns-3 : tie.Need-returns-3
-returns-3 c =
-    let after-palette-fits = c .before .before .before in let after-if1 = after-palette-fits .before in let after-check-record = after-if1 .before in
-    let start = after-check-record .before .before .before .before in
-    record-goes _ _ _ _ (start .args .r) _ (after-check-record .check-record .ensures) (after-if1 .if1 .left) _
-    (passes _ _ _ _ _ (after-palette-fits .palette-fits .ensures) (c .before .before .if2 .left) (refuses _ _ _ _ (c .before .least-fits .ensures) (c .if3 .taken)))
+    let after-if1 = c .before .before .before in let recorded = after-if1 .before .before in let start = recorded .before .before .before .before in
+    working-stops _ _ _ _ (start .args .r) _ (recorded .check-record .ensures) (after-if1 .if1 .left) _ (c .before .before .check-working .ensures) (c .if2 .taken)
 
 order-fits-requires : tie.Need-order-fits-requires
 order-fits-requires c κs = search needs
 
+returns-3 : tie.Need-returns-3
+returns-3 c =
+    let after-if2 = c .before .before in let worked = after-if2 .before .before in let after-if1 = worked .before in
+    let recorded = after-if1 .before .before in let start = recorded .before .before .before .before in
+    working-goes _ _ _ _ (start .args .r) _ (recorded .check-record .ensures) (after-if1 .if1 .left) _ (worked .check-working .ensures) (after-if2 .if2 .left) _
+    (refuses _ _ _ (c .before .order-fits .ensures) (c .if3 .taken))
+
 returns-4 : tie.Need-returns-4
 returns-4 c =
-    let after-least-fits = c .before .before .before in let after-if2 = after-least-fits .before in let after-palette-fits = after-if2 .before in
-    let after-if1 = after-palette-fits .before in let after-check-record = after-if1 .before in
-    let start = after-check-record .before .before .before .before in
-    record-goes _ _ _ _ (start .args .r) _ (after-check-record .check-record .ensures) (after-if1 .if1 .left) _
-    (passes _ _ _ _ _ (after-palette-fits .palette-fits .ensures) (after-if2 .if2 .left)
-    (passes _ _ _ _ _ (after-least-fits .least-fits .ensures) (c .before .before .if3 .left) (refuses _ _ _ _ (c .before .order-fits .ensures) (c .if4 .taken))))
-
-returns-5 : tie.Need-returns-5
-returns-5 c =
-    let after-least-fits = c .before .before .before in let after-if2 = after-least-fits .before in let after-palette-fits = after-if2 .before in
-    let after-if1 = after-palette-fits .before in let after-check-record = after-if1 .before in
-    let start = after-check-record .before .before .before .before in
-    record-goes _ _ _ _ (start .args .r) _ (after-check-record .check-record .ensures) (after-if1 .if1 .left) _
-    (passes _ _ _ _ _ (after-palette-fits .palette-fits .ensures) (after-if2 .if2 .left)
-    (passes _ _ _ _ _ (after-least-fits .least-fits .ensures) (c .before .before .if3 .left)
-    (passes _ _ _ _ _ (c .before .order-fits .ensures) (c .if4 .left) none)))
+    let after-if2 = c .before .before in let worked = after-if2 .before .before in let after-if1 = worked .before in
+    let recorded = after-if1 .before .before in let start = recorded .before .before .before .before in
+    working-goes _ _ _ _ (start .args .r) _ (recorded .check-record .ensures) (after-if1 .if1 .left) _ (worked .check-working .ensures) (after-if2 .if2 .left) _
+    (passes _ _ _ _ (c .before .order-fits .ensures) (c .if3 .left) none)
 
 pub check-state-spec : {M : Type 1} → statement M
 check-state-spec =
     tie.close
-    (tie.spec check-record-requires returns palette-fits-requires returns-2 least-fits-requires returns-3 order-fits-requires returns-4 returns-5)
+    (tie.spec check-record-requires returns mul-check-working check-working-requires returns-2 order-fits-requires returns-3 returns-4)
