@@ -4,11 +4,12 @@ use job::Sizes;
 ghost use mathlib.Core.Path.{_≡_};
 ghost use Prim.Native.Nat.{_≤_};
 ghost use lib.ListN.{length};
+ghost use Rattle.answer.specs.Outcome.{outcome};
 ghost use Rattle.io.specs.Counts.{Counts};
 ghost use Rattle.fit_lines.specs.Lines.{Stored};
 ghost use Rattle.fit_tiles.specs.Text.{fitText, mostText};
 ghost use Rattle.sheet_parts.specs.Front.{frontJob, frontPalette, Front};
-ghost use Rattle.fit_text.specs.Fit.{fitOutcome, fitDef};
+ghost use Rattle.fit_text.specs.Fit.{fitDef};
 
 // The bytes that any sheet's lines take, at most.
 pub const MOST_TEXT: usize = 44311;
@@ -42,7 +43,7 @@ fn put_job(
 
 // What `fit` prints for these bytes, into `out`, and how many bytes that is: none where `out` has too little room for any sheet.
 pub fn fit(bytes: &[u8], out: &mut [u8]) -> usize
-    ensures { λ r. ⌜ (fitOutcome r (now (out .exit)) ≡ fitDef (now (bytes .entry)) (now (out .entry))) × Counts r (now (out .exit)) ⌝ }
+    ensures { λ r. ⌜ (outcome r (now (out .exit)) ≡ fitDef (now (bytes .entry)) (now (out .entry))) × Counts r (now (out .exit)) ⌝ }
 {
     if out.len() < MOST_TEXT {
         return 0;
@@ -52,7 +53,7 @@ pub fn fit(bytes: &[u8], out: &mut [u8]) -> usize
     let mut counts = sheet_parts::counts_room();
     let mut palette = sheet_parts::palette_room();
     match sheet::read(bytes, &mut tiles, &mut colours, &mut counts, &mut palette) {
-        sheet::Reading::Refused(n) => fit_lines::put_refused(out, 0, n),
+        sheet::Reading::Refused(e) => fit_lines::put_refused(out, 0, e.number),
         sheet::Reading::Sheet(z) => put_job(z, &tiles, &colours, &counts, &palette, out),
     }
 }

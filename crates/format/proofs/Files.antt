@@ -11,6 +11,8 @@ use lib.Seq.{take-at, drop-at, length-take-le}
 use Rattle.bits.specs.Bits.{bitsOf, num, bits}
 use Rattle.bits.proofs.Numbers.{length-bitsOf, num-bitsOf, bitsOf-num}
 use Rattle.bits.proofs.Bytes.{length-bits}
+use Rattle.answer.specs.declared.Refusal.{Refusal}
+use Rattle.answer.specs.Rules.{refusal}
 use Rattle.format.specs.Format.{Res, fault, got, Format, Answer, refused, accepted, clear, ended, readOf, bytesOf, bytesFor, encode}
 use Rattle.format.proofs.Tests.{and-l, and-r, and-in}
 use Rattle.format.proofs.Lawful.{Lawful}
@@ -46,45 +48,45 @@ clear-zeros zero = tt
 clear-zeros (suc n) = clear-zeros n
 
 module _ {A : Type 0} where
-  cond-accepts : (t : Bool) (a : A) → T t → cond t (accepted a) (refused 13) ≡ accepted a
+  cond-accepts : (t : Bool) (a : A) → T t → cond t (accepted a) (refused (refusal 13 0)) ≡ accepted a
   cond-accepts true a h = refl
   cond-accepts false a h = absurd h
 
-  never : (n : ℕ) (a : A) → _≡_ {A = Answer A} (refused n) (accepted a) → ⊥
+  never : (n : Refusal) (a : A) → _≡_ {A = Answer A} (refused n) (accepted a) → ⊥
   never n a e = let z : _≡_ {A = ℕ} 0 1 = cc in omega arith
 
   accepted-same : (a b : A) → _≡_ {A = Answer A} (accepted a) (accepted b) → a ≡ b
   accepted-same a b e = cc
 
-  cond-accepted : (t : Bool) (a b : A) → cond t (accepted a) (refused 13) ≡ accepted b → T t × (a ≡ b)
+  cond-accepted : (t : Bool) (a b : A) → cond t (accepted a) (refused (refusal 13 0)) ≡ accepted b → T t × (a ≡ b)
   cond-accepted true a b e = (tt, accepted-same a b e)
-  cond-accepted false a b e = absurd (never 13 b e)
+  cond-accepted false a b e = absurd (never (refusal 13 0) b e)
 
-  pub ended-accepted : (x : Res A) (b : A) → ended x ≡ accepted b → (r : List Bool) × (x ≡ got b r) × (length r < 8) × T (clear r)
-  ended-accepted (fault n) b e = absurd (never n b e)
-  ended-accepted (got a r) b e =
+  pub ended-accepted : (blame : ℕ → ℕ → Refusal) (x : Res A) (b : A) → ended blame x ≡ accepted b → (r : List Bool) × (x ≡ got b r) × (length r < 8) × T (clear r)
+  ended-accepted blame (fault n i) b e = absurd (never (blame n i) b e)
+  ended-accepted blame (got a r) b e =
       let c = cond-accepted (ltb (length r) 8 && clear r) a b e in
       (r, ap (λ (o : A). got o r) (c .1), ltb→lt (length r) 8 (and-l (ltb (length r) 8) (clear r) (c .0)), and-r (ltb (length r) 8) (clear r) (c .0))
 
-module _ {A : Type 0} (F : Format A) (L : Lawful F) where
+module _ {A : Type 0} (blame : ℕ → ℕ → Refusal) (F : Format A) (L : Lawful F) where
   -- what is written is read back
-  pub decode-encode : (a : A) → T (F .good a) → readOf F (encode F a) ≡ accepted a
+  pub decode-encode : (a : A) → T (F .good a) → readOf blame F (encode F a) ≡ accepted a
   decode-encode a h =
       let p : List Bool = F .print a in
       let n : ℕ = bytesFor (length p) in
       let k : ℕ = 8 * n - length p in
       let e : length (p ++ replicate k false) ≡ 8 * n = length-append p (replicate k false) ∙ omega (arith, length-replicate k false) in
-      ap (λ (l : List Bool). ended (F .parse l)) (bits-bytesOf n (p ++ replicate k false) e)
-      ∙ ap ended (L .there a h (replicate k false))
+      ap (λ (l : List Bool). ended blame (F .parse l)) (bits-bytesOf n (p ++ replicate k false) e)
+      ∙ ap (ended blame) (L .there a h (replicate k false))
       ∙ cond-accepts (ltb (length (replicate k false)) 8 && clear (replicate k false)) a
       (and-in (ltb (length (replicate k false)) 8) (clear (replicate k false))
       (lt→ltb (length (replicate k false)) 8 (omega (arith, length-replicate k false)))
       (clear-zeros k))
 
   -- and what is read was written so
-  pub encode-decode : (s : List ℕ) (a : A) → T (areBytes s) → readOf F s ≡ accepted a → (encode F a ≡ s) × T (F .good a)
+  pub encode-decode : (s : List ℕ) (a : A) → T (areBytes s) → readOf blame F s ≡ accepted a → (encode F a ≡ s) × T (F .good a)
   encode-decode s a h e =
-      let (r, x, short, zeros) = ended-accepted (F .parse (bits s)) a e in
+      let (r, x, short, zeros) = ended-accepted blame (F .parse (bits s)) a e in
       let m = L .back (bits s) a r x in
       let len : length (F .print a) + length r ≡ 8 * length s = sym (length-append (F .print a) r) ∙ sym (ap length (m .0)) ∙ length-bits s in
       let n : bytesFor (length (F .print a)) ≡ length s = omega arith in

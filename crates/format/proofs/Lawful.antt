@@ -11,7 +11,7 @@ use lib.Seq.{take-at, drop-at, length-take-le}
 use borrow.Author.Tests.{le-leb}
 use Rattle.bits.specs.Bits.{bitsOf, num}
 use Rattle.bits.proofs.Numbers.{length-bitsOf, num-bitsOf, bitsOf-num, num-lt}
-use Rattle.format.specs.Format.{Res, fault, got, next, Format, field, checked, mapped, both, above, literal, isNil, none, printCons, goodCons, cons, times, counted}
+use Rattle.format.specs.Format.{Res, fault, got, next, past, Format, indexed, field, checked, mapped, both, above, literal, isNil, none, printCons, goodCons, cons, times, counted}
 use Rattle.format.proofs.Tests.{and-l, and-r, and-in}
 
 pub record Lawful {A : Type 0} (F : Format A) : Type 0 where
@@ -25,12 +25,12 @@ module _ {A : Type 0} where
   cond-yes true x y h = refl
   cond-yes false x y h = absurd h
 
-  never : (n : ℕ) (a : A) (r : List Bool) → _≡_ {A = Res A} (fault n) (got a r) → ⊥
-  never n a r e = let z : _≡_ {A = ℕ} 0 1 = cc in omega arith
+  never : (n i : ℕ) (a : A) (r : List Bool) → _≡_ {A = Res A} (fault n i) (got a r) → ⊥
+  never n i a r e = let z : _≡_ {A = ℕ} 0 1 = cc in omega arith
 
-  pub cond-got : (t : Bool) (x : Res A) (n : ℕ) (a : A) (r : List Bool) → cond t x (fault n) ≡ got a r → T t × (x ≡ got a r)
+  pub cond-got : (t : Bool) (x : Res A) (n : ℕ) (a : A) (r : List Bool) → cond t x (fault n 0) ≡ got a r → T t × (x ≡ got a r)
   cond-got true x n a r e = (tt, e)
-  cond-got false x n a r e = absurd (never n a r e)
+  cond-got false x n a r e = absurd (never n 0 a r e)
 
   pub same-value : (a b : A) (r q : List Bool) → _≡_ {A = Res A} (got a r) (got b q) → a ≡ b
   same-value a b r q e = cc
@@ -40,8 +40,13 @@ module _ {A : Type 0} where
 
   pub next-got : {B : Type 0} (x : Res B) (f : B → List Bool → Res A) (a : A) (r : List Bool) → next x f ≡ got a r
       → (b : B) × (q : List Bool) × (x ≡ got b q) × (f b q ≡ got a r)
-  next-got (fault n) f a r e = absurd (never n a r e)
+  next-got (fault n i) f a r e = absurd (never n i a r e)
   next-got (got b q) f a r e = (b, q, refl, e)
+
+  pub past-got : {B : Type 0} (k : ℕ) (x : Res B) (f : B → List Bool → Res A) (a : A) (r : List Bool) → next (past k x) f ≡ got a r
+      → (b : B) × (q : List Bool) × (x ≡ got b q) × (f b q ≡ got a r)
+  past-got k (fault n i) f a r e = absurd (never n (k + i) a r e)
+  past-got k (got b q) f a r e = (b, q, refl, e)
 
 -- ---- k bits
 pub field-lawful : (k : ℕ) → Lawful (field k)
@@ -49,7 +54,7 @@ field-lawful k = record { there = printed-read; back = read-printed }
   where
     printed-read : (v : ℕ) → T (ltb v (2 ^ k)) → (r : List Bool) → field k .parse (bitsOf k v ++ r) ≡ got v r
     printed-read v h r =
-        cond-yes (leb k (length (bitsOf k v ++ r))) (got (num (take k (bitsOf k v ++ r))) (drop k (bitsOf k v ++ r))) (fault 13)
+        cond-yes (leb k (length (bitsOf k v ++ r))) (got (num (take k (bitsOf k v ++ r))) (drop k (bitsOf k v ++ r))) (fault 13 0)
         (subst T (sym (le-leb k (length (bitsOf k v ++ r)) (omega (arith, length-append (bitsOf k v) r, length-bitsOf k v)))) tt)
         ∙ ap₂ got (ap num (take-at (bitsOf k v) r k (length-bitsOf k v)) ∙ num-bitsOf k v (ltb→lt v (2 ^ k) h)) (drop-at (bitsOf k v) r k (length-bitsOf k v))
 
@@ -63,18 +68,21 @@ field-lawful k = record { there = printed-read; back = read-printed }
           subst (λ (m : ℕ). T (ltb m (2 ^ k))) x (lt→ltb (num (take k l)) (2 ^ k) (num-lt k (take k l) n)),
         )
 
--- ---- a test, another type
+-- ---- a test, an index, another type
 module _ {A : Type 0} (n : ℕ) (t : A → Bool) (F : Format A) (L : Lawful F) where
   pub checked-lawful : Lawful (checked n t F)
   checked-lawful = record {
-    there = λ a h r. ap (λ (x : Res A). next x (λ b q. cond (t b) (got b q) (fault n))) (L .there a (and-l (F .good a) (t a) h) r) ∙ cond-yes (t a) (got a r) (fault n) (and-r (F .good a) (t a) h);
+    there = λ a h r. ap (λ (x : Res A). next x (λ b q. cond (t b) (got b q) (fault n 0))) (L .there a (and-l (F .good a) (t a) h) r) ∙ cond-yes (t a) (got a r) (fault n 0) (and-r (F .good a) (t a) h);
     back = λ l a r e.
-        let (b, q, x, y) = next-got (F .parse l) (λ b q. cond (t b) (got b q) (fault n)) a r e in
+        let (b, q, x, y) = next-got (F .parse l) (λ b q. cond (t b) (got b q) (fault n 0)) a r e in
         let c = cond-got (t b) (got b q) n a r y in
         let z : F .parse l ≡ got a r = x ∙ c .1 in
         let m = L .back l a r z in
         (m .0, and-in (F .good a) (t a) (m .1) (subst (λ (o : A). T (t o)) (same-value b a q r (c .1)) (c .0)));
   }
+
+pub indexed-lawful : {A : Type 0} (F : Format A) → Lawful F → Lawful (indexed F)
+indexed-lawful F L = record { there = L .there; back = L .back }
 
 module _ {A B : Type 0} (f : A → B) (g : B → A) (t : B → Bool) (F : Format A) (L : Lawful F)
     (fg : (b : B) → T (t b) → f (g b) ≡ b) (gf : (a : A) → T (F .good a) → g (f a) ≡ a) (tf : (a : A) → T (F .good a) → T (t (f a))) where
@@ -107,11 +115,11 @@ module _ {A B : Type 0} (F : Format A) (G : A → Format B) (L : Lawful F) (M : 
     there = λ x h r.
         let e = append-assoc (F .print (x .0)) (G (x .0) .print (x .1)) r in
         ap (both F G .parse) e
-        ∙ ap (λ (o : Res A). next o (λ a r. next (G a .parse r) (λ b q. got (a, b) q))) (L .there (x .0) (and-l (F .good (x .0)) (G (x .0) .good (x .1)) h) (G (x .0) .print (x .1) ++ r))
-        ∙ ap (λ (o : Res B). next o (λ b q. got (x .0, b) q)) (M (x .0) .there (x .1) (and-r (F .good (x .0)) (G (x .0) .good (x .1)) h) r);
+        ∙ ap (λ (o : Res A). next o (λ a r. next (past (F .counts a) (G a .parse r)) (λ b q. got (a, b) q))) (L .there (x .0) (and-l (F .good (x .0)) (G (x .0) .good (x .1)) h) (G (x .0) .print (x .1) ++ r))
+        ∙ ap (λ (o : Res B). next (past (F .counts (x .0)) o) (λ b q. got (x .0, b) q)) (M (x .0) .there (x .1) (and-r (F .good (x .0)) (G (x .0) .good (x .1)) h) r);
     back = λ l x r e.
-        let (a, q, u, v) = next-got (F .parse l) (λ a r. next (G a .parse r) (λ b q. got (a, b) q)) x r e in
-        let (b, p, w, y) = next-got (G a .parse q) (λ b q. got (a, b) q) x r v in
+        let (a, q, u, v) = next-got (F .parse l) (λ a r. next (past (F .counts a) (G a .parse r)) (λ b q. got (a, b) q)) x r e in
+        let (b, p, w, y) = past-got (F .counts a) (G a .parse q) (λ b q. got (a, b) q) x r v in
         let m = L .back l a q u in
         let n = M a .back q b p w in
         subst₂ (λ (o : A × B) (s : List Bool). (l ≡ both F G .print o ++ s) × T (both F G .good o)) (same-value (a, b) x p r y) (same-rest (a, b) x p r y) (
@@ -125,11 +133,11 @@ module _ {A : Type 0} (k v n : ℕ) (F : Format A) (L : Lawful F) where
   literal-lawful = record {
     there = λ a h r.
         ap (literal k v n F .parse) (append-assoc (bitsOf k v) (F .print a) r)
-        ∙ ap (λ (o : Res ℕ). next o (λ w r. cond (eqb w v) (F .parse r) (fault n))) (field-lawful k .there v (and-l (ltb v (2 ^ k)) (F .good a) h) (F .print a ++ r))
-        ∙ cond-yes (eqb v v) (F .parse (F .print a ++ r)) (fault n) (eqb-refl v)
+        ∙ ap (λ (o : Res ℕ). next o (λ w r. cond (eqb w v) (F .parse r) (fault n 0))) (field-lawful k .there v (and-l (ltb v (2 ^ k)) (F .good a) h) (F .print a ++ r))
+        ∙ cond-yes (eqb v v) (F .parse (F .print a ++ r)) (fault n 0) (eqb-refl v)
         ∙ L .there a (and-r (ltb v (2 ^ k)) (F .good a) h) r;
     back = λ l a r e.
-        let (w, q, u, x) = next-got (field k .parse l) (λ w r. cond (eqb w v) (F .parse r) (fault n)) a r e in
+        let (w, q, u, x) = next-got (field k .parse l) (λ w r. cond (eqb w v) (F .parse r) (fault n 0)) a r e in
         let c = cond-got (eqb w v) (F .parse q) n a r x in
         let m = field-lawful k .back l w q u in
         let o = L .back q a r (c .1) in
@@ -153,15 +161,15 @@ module _ {A : Type 0} (F : Format A) (G : A → Format (List A)) (L : Lawful F) 
   cons-there [] h r = absurd h
   cons-there (a ∷ s) h r =
       ap (cons F G .parse) (append-assoc (F .print a) (G a .print s) r)
-      ∙ ap (λ (o : Res A). next o (λ a r. next (G a .parse r) (λ s q. got (a ∷ s) q))) (L .there a (and-l (F .good a) (G a .good s) h) (G a .print s ++ r))
-      ∙ ap (λ (o : Res (List A)). next o (λ s q. got (a ∷ s) q)) (M a .there s (and-r (F .good a) (G a .good s) h) r)
+      ∙ ap (λ (o : Res A). next o (λ a r. next (past (F .counts a) (G a .parse r)) (λ s q. got (a ∷ s) q))) (L .there a (and-l (F .good a) (G a .good s) h) (G a .print s ++ r))
+      ∙ ap (λ (o : Res (List A)). next (past (F .counts a) o) (λ s q. got (a ∷ s) q)) (M a .there s (and-r (F .good a) (G a .good s) h) r)
 
   pub cons-lawful : Lawful (cons F G)
   cons-lawful = record {
     there = cons-there;
     back = λ l x r e.
-        let (a, q, u, v) = next-got (F .parse l) (λ a r. next (G a .parse r) (λ s q. got (a ∷ s) q)) x r e in
-        let (s, p, w, y) = next-got (G a .parse q) (λ s q. got (a ∷ s) q) x r v in
+        let (a, q, u, v) = next-got (F .parse l) (λ a r. next (past (F .counts a) (G a .parse r)) (λ s q. got (a ∷ s) q)) x r e in
+        let (s, p, w, y) = past-got (F .counts a) (G a .parse q) (λ s q. got (a ∷ s) q) x r v in
         let m = L .back l a q u in
         let n = M a .back q s p w in
         subst₂ (λ (o : List A) (t : List Bool). (l ≡ printCons F G o ++ t) × T (goodCons F G o)) (same-value (a ∷ s) x p r y) (same-rest (a ∷ s) x p r y) (

@@ -8,16 +8,17 @@ use lib.Dec.{T, leb, leb→le}
 use lib.ListN.{length, drop}
 use Rattle.bits.specs.Bits.{bits}
 use Rattle.bits.proofs.Bytes.{length-bits}
+use Rattle.answer.specs.declared.Refusal.{Refusal}
+use Rattle.answer.specs.Rules.{refusal}
 use Rattle.format.specs.Format.{got, both, times, Answer, refused, accepted, readOf}
 use Rattle.format.proofs.Lawful.{same-value, next-got}
 use Rattle.format.proofs.Files.{ended-accepted}
 use Rattle.format.proofs.Fixed.{both-first, both-second, times-fixed}
 use Rattle.format_pattern.specs.Pattern.{weighs}
-use Rattle.sheet_format.specs.Sheet.{edition1, component, Header, Sheet, Parts, whole, tile, header, rest, sheet, readSheet}
+use Rattle.sheet_format.specs.Sheet.{edition1, component, Header, Sheet, Parts, faultOf, whole, tile, header, rest, sheet, readSheet}
 use Rattle.sheet_format.proofs.Headed.{header-fixed, header-sized, header-long}
 use Rattle.sheet_format.specs.Lists.{total}
-use Rattle.sheet_check.specs.declared.Checked.{Checked}
-use Rattle.sheet_check.specs.declared.Checked.the-variants.{Refused, Sound}
+use Rattle.sheet_check.specs.declared.Checked.the-variants.{Sound}
 use Rattle.sheet_check.specs.Steps.{checkedOf}
 use Rattle.sheet_check.proofs.Whole.{sound-not, sound-is}
 use Rattle.sheet_fill.specs.Fill.{Reads, listOf, listAt}
@@ -36,16 +37,16 @@ pub record Accepted (s : List ℕ) (a b t w : ℕ) : Type 0 where
       ≡ accepted (whole ((a, (b, (t, w))), (listAt (times (3 * (a * b)) component) s 86, listAt (times t (tile edition1)) s (86 + 3 * (a * b) * 32))))
 
 -- ---- answers, taken apart
-refused-not : (n : ℕ) (x : Sheet) → _≡_ {A = Answer Sheet} (refused n) (accepted x) → ⊥
-refused-not n x e = let z : _≡_ {A = ℕ} 0 1 = cc in omega arith
+refused-not : (e : Refusal) (x : Sheet) → _≡_ {A = Answer Sheet} (refused e) (accepted x) → ⊥
+refused-not e x f = let z : _≡_ {A = ℕ} 0 1 = cc in omega arith
 
 -- the limit, and the reading within it
-pub within-limit : (s : List ℕ) (x : Sheet) → readSheet edition1 s ≡ accepted x → (length s ≤ 65536) × (readOf (sheet edition1) s ≡ accepted x)
+pub within-limit : (s : List ℕ) (x : Sheet) → readSheet edition1 s ≡ accepted x → (length s ≤ 65536) × (readOf faultOf (sheet edition1) s ≡ accepted x)
 within-limit s x e = by (leb (length s) 65536) refl e
   where
-    by : (b : Bool) → leb (length s) 65536 ≡ b → cond b (readOf (sheet edition1) s) (refused 13) ≡ accepted x → (length s ≤ 65536) × (readOf (sheet edition1) s ≡ accepted x)
+    by : (b : Bool) → leb (length s) 65536 ≡ b → cond b (readOf faultOf (sheet edition1) s) (refused (refusal 13 0)) ≡ accepted x → (length s ≤ 65536) × (readOf faultOf (sheet edition1) s ≡ accepted x)
     by true f g = (leb→le (length s) 65536 (subst T (sym f) tt), g)
-    by false f g = absurd (refused-not 13 x g)
+    by false f g = absurd (refused-not (refusal 13 0) x g)
 
 module _ (s : List ℕ) where
   abbrev behind : Header → Parts → List Bool → Type 0
@@ -87,7 +88,7 @@ module _ (s : List ℕ) where
       by (accepted x) f g =
           let k = sound-is a b t w (x .subs) (x .each) (x .tiles) (x .weight) g in
           let m = within-limit s x f in
-          let (r, y, short, zeros) = ended-accepted (sheet edition1 .parse (bits s)) x (m .1) in
+          let (r, y, short, zeros) = ended-accepted faultOf (sheet edition1 .parse (bits s)) x (m .1) in
           let (z, q, u, v) = next-got (both (header edition1) (λ h. rest edition1 (3 * (h .0 * h .1 .0)) (h .1 .1 .0)) .parse (bits s)) (λ y r. got (whole y) r) x r y in
           let same : whole z ≡ x = same-value (whole z) x q r v in
           let A = says z q (m .0) (f ∙ ap accepted (sym same)) u in

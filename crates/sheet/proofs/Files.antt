@@ -9,7 +9,11 @@ use lib.Pow.{areBytes}
 use lib.ListN.{length, getD, take, drop, set, replicate, length-append, length-drop, length-replicate, length-set}
 use lib.Seq.{sets, length-sets, length-take-le}
 use lib.Ieee.{Float}
-use borrow.Author.Tests.{le-leb, lt-leb, eq-eqb, ne-eqb}
+use borrow.Author.Tests.{le-leb, lt-leb}
+use Rattle.answer.specs.declared.Refusal.{Refusal}
+use Rattle.answer.specs.Rules.{refusal}
+use Rattle.answer.specs.Outcome.{Outcome, outcome}
+use Rattle.answer.proofs.Outcomes.{was-refused, was-done}
 use Rattle.bits.specs.Bits.{bitsOf, bits}
 use Rattle.bits.proofs.Numbers.{num-lt}
 use Rattle.bits.proofs.Bytes.{bits-set}
@@ -26,8 +30,9 @@ use Rattle.sheet_pack.specs.Packed.{sheetOf, sheetBits}
 use Rattle.sheet_pack.proofs.Prints.{sheet-size, sheet-print}
 use Rattle.sheet_room.specs.Room.{placeFor}
 use Rattle.sheet_room.proofs.Places.{unplaced}
+use Rattle.sheet.specs.declared.Writing.{Writing}
 use Rattle.sheet.specs.declared.Writing.the-variants.{Refused, Bytes}
-use Rattle.sheet.specs.Sheets.{WriteOutcome, writeOutcome, storedIn, writeDef}
+use Rattle.sheet.specs.Sheets.{storedIn, writeDef}
 
 -- each element is a byte, as a slice of bytes has it
 abbrev Bytewise : List ℕ → Type 0
@@ -108,58 +113,67 @@ module _ (J : Job) (R : Ready J) (palette : List Float) (L : Lent (J .S) (J .C) 
 
 -- ---- the answer
 module _ (file old : List ℕ) where
-  large : 65536 < length file → writeOutcome (Refused 13) old ≡ storedIn file old
+  abbrev in-place : Outcome Writing (List ℕ)
+  in-place = outcome (Bytes (length file)) (sets old 0 file)
+
+  abbrev no-room : Outcome Writing (List ℕ)
+  no-room = outcome (Refused (refusal 3 0)) old
+
+  abbrev too-long : Outcome Writing (List ℕ)
+  too-long = outcome (Refused (refusal 13 0)) old
+
+  large : 65536 < length file → too-long ≡ storedIn file old
   unfolding storedIn
-  large h =
-      sym (ap (λ (b : Bool). cond b (cond (leb (length file) (length old)) (writeOutcome (Bytes (length file)) (sets old 0 file)) (writeOutcome (Refused 3) old)) (writeOutcome (Refused 13) old)) (lt-leb (length file) 65536 h))
+  large h = sym (ap (λ (b : Bool). cond b (cond (leb (length file) (length old)) in-place no-room) too-long) (lt-leb (length file) 65536 h))
 
-  within : length file ≤ 65536 → storedIn file old ≡ cond (leb (length file) (length old)) (writeOutcome (Bytes (length file)) (sets old 0 file)) (writeOutcome (Refused 3) old)
+  within : length file ≤ 65536 → storedIn file old ≡ cond (leb (length file) (length old)) in-place no-room
   unfolding storedIn
-  within h =
-      ap (λ (b : Bool). cond b (cond (leb (length file) (length old)) (writeOutcome (Bytes (length file)) (sets old 0 file)) (writeOutcome (Refused 3) old)) (writeOutcome (Refused 13) old)) (le-leb (length file) 65536 h)
+  within h = ap (λ (b : Bool). cond b (cond (leb (length file) (length old)) in-place no-room) too-long) (le-leb (length file) 65536 h)
 
-  roomless : length file ≤ 65536 → length old < length file → writeOutcome (Refused 3) old ≡ storedIn file old
-  roomless h l = sym (within h ∙ ap (λ (b : Bool). cond b (writeOutcome (Bytes (length file)) (sets old 0 file)) (writeOutcome (Refused 3) old)) (lt-leb (length file) (length old) l))
+  roomless : length file ≤ 65536 → length old < length file → no-room ≡ storedIn file old
+  roomless h l = sym (within h ∙ ap (λ (b : Bool). cond b in-place no-room) (lt-leb (length file) (length old) l))
 
-  stored : (n : ℕ) (new : List ℕ) → length file ≤ 65536 → length file ≤ length old → n ≡ length file → new ≡ sets old 0 file → writeOutcome (Bytes n) new ≡ storedIn file old
-  stored n new h l en e =
-      ap₂ {C = WriteOutcome} (λ i v. writeOutcome (Bytes i) v) en e
-      ∙ sym (within h ∙ ap (λ (b : Bool). cond b (writeOutcome (Bytes (length file)) (sets old 0 file)) (writeOutcome (Refused 3) old)) (le-leb (length file) (length old) l))
+  -- a file that has its place is stored
+  pub stored-in-place : length file ≤ 65536 → length file ≤ length old → storedIn file old ≡ in-place
+  stored-in-place h l = within h ∙ ap (λ (b : Bool). cond b in-place no-room) (le-leb (length file) (length old) l)
 
-module _ (J : Job) (palette : List Float) (old : List ℕ) (a : ℕ) (e : a ≡ plainAnswer J palette true) where
-  pub job-refused : (a ≡ 0 → ⊥) → writeOutcome (Refused a) old ≡ writeDef J palette old
+  stored : (n : ℕ) (new : List ℕ) → length file ≤ 65536 → length file ≤ length old → n ≡ length file → new ≡ sets old 0 file → outcome (Bytes n) new ≡ storedIn file old
+  stored n new h l en e = ap₂ {C = Outcome Writing (List ℕ)} (λ i v. outcome (Bytes i) v) en e ∙ sym (stored-in-place h l)
+
+module _ (J : Job) (palette : List Float) (old : List ℕ) (r : Refusal) (e : r ≡ plainAnswer J palette true) where
+  abbrev file : List ℕ
+  file = encode (sheet edition1) (sheetOf J palette)
+
+  -- the job's own refusals come first
+  pub job-refused : (r .number ≡ 0 → ⊥) → outcome (Refused r) old ≡ writeDef J palette old
   unfolding writeDef
-  job-refused z =
-      ap (λ (i : ℕ). writeOutcome (Refused i) old) e
-      ∙ sym (ap (λ (b : Bool). cond b (storedIn (encode (sheet edition1) (sheetOf J palette)) old) (writeOutcome (Refused (plainAnswer J palette true)) old)) (ne-eqb (plainAnswer J palette true) 0 (λ k. z (e ∙ k))))
+  job-refused z = was-refused r (plainAnswer J palette true) e (storedIn file old) (λ x. Refused x) old z
 
-  module _ (z : a ≡ 0) where
+  module _ (z : r .number ≡ 0) where
     pub passed : Plain J palette true
-    passed = plain-ready J palette true (sym e ∙ z)
+    passed = plain-ready J palette true (subst (λ (x : Refusal). x .number ≡ 0) e z)
 
-    by-file : storedIn (encode (sheet edition1) (sheetOf J palette)) old ≡ writeDef J palette old
+    by-file : (x : Outcome Writing (List ℕ)) → x ≡ storedIn file old → x ≡ writeDef J palette old
     unfolding writeDef
-    by-file =
-        sym (ap (λ (b : Bool). cond b (storedIn (encode (sheet edition1) (sheetOf J palette)) old) (writeOutcome (Refused (plainAnswer J palette true)) old)) (eq-eqb (plainAnswer J palette true) 0 (sym e ∙ z)))
+    by-file x f = was-done r (plainAnswer J palette true) e (storedIn file old) (λ x. Refused x) old z x f
 
     module _ (n k : ℕ) (en : n ≡ sizeOf edition1 (J .S) (J .C) (J .T) (length (J .counts))) (ek : k ≡ bytesFor n) where
-      file-is : k ≡ length (encode (sheet edition1) (sheetOf J palette))
+      file-is : k ≡ length file
       file-is = ek ∙ ap bytesFor en ∙ sym (file-long J (passed .ready) palette (passed .lent))
 
-      too-large : 65536 < k → writeOutcome (Refused 13) old ≡ writeDef J palette old
-      too-large h = large (encode (sheet edition1) (sheetOf J palette)) old (subst (λ (i : ℕ). 65536 < i) file-is h) ∙ by-file
+      too-large : 65536 < k → outcome (Refused (refusal 13 0)) old ≡ writeDef J palette old
+      too-large h = by-file _ (large file old (subst (λ (i : ℕ). 65536 < i) file-is h))
 
-      roomless-place : k ≤ 65536 → length old < k → writeOutcome (Refused 3) old ≡ writeDef J palette old
-      roomless-place h l =
-          roomless (encode (sheet edition1) (sheetOf J palette)) old (subst (λ (i : ℕ). i ≤ 65536) file-is h) (subst (λ (i : ℕ). length old < i) file-is l) ∙ by-file
+      roomless-place : k ≤ 65536 → length old < k → outcome (Refused (refusal 3 0)) old ≡ writeDef J palette old
+      roomless-place h l = by-file _ (roomless file old (subst (λ (i : ℕ). i ≤ 65536) file-is h) (subst (λ (i : ℕ). length old < i) file-is l))
 
-      pub no-place : (r : ℕ) → r ≡ placeFor k (length old) → (r ≡ 0 → ⊥) → writeOutcome (Refused r) old ≡ writeDef J palette old
-      no-place r er h = unplaced k (length old) r er (λ i. writeOutcome (Refused i) old ≡ writeDef J palette old) h too-large roomless-place
+      pub no-place : (y : Refusal) → y ≡ placeFor k (length old) → (y .number ≡ 0 → ⊥) → outcome (Refused y) old ≡ writeDef J palette old
+      no-place y ey h = unplaced k (length old) y ey (λ x. outcome (Refused x) old ≡ writeDef J palette old) h too-large roomless-place
 
       pub file-written : (new : List ℕ) → k ≤ 65536 → k ≤ length old → Bytewise old → Bytewise new → length new ≡ length old
           → bits new ≡ sets (bits old) 0 (sheetBits edition1 (sheetOf J palette) ++ replicate (8 * bytesFor n - n) false)
-          → writeOutcome (Bytes k) new ≡ writeDef J palette old
+          → outcome (Bytes k) new ≡ writeDef J palette old
       file-written new h l ho hn ln f =
-          stored (encode (sheet edition1) (sheetOf J palette)) old k new (subst (λ (i : ℕ). i ≤ 65536) file-is h) (subst (λ (i : ℕ). i ≤ length old) file-is l) file-is
-          (file-stored J (passed .ready) palette (passed .lent) old new n en ho hn ln (omega arith) f)
-          ∙ by-file
+          by-file _
+          (stored file old k new (subst (λ (i : ℕ). i ≤ 65536) file-is h) (subst (λ (i : ℕ). i ≤ length old) file-is l) file-is
+          (file-stored J (passed .ready) palette (passed .lent) old new n en ho hn ln (omega arith) f))

@@ -6,4 +6,3 @@ pub mod Kept
 pub mod Floats
 pub mod Inverse
 pub mod Accepted
-pub mod Only

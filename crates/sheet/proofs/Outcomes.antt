@@ -9,6 +9,9 @@ use lib.Seq.{sets}
 use lib.Ieee.{Float, binary32, ofBits}
 use borrow.Author.Tests.{leb-true, not-true, not-false}
 use Rattle.lists.proofs.Tests.{and-l, and-r}
+use Rattle.answer.specs.declared.Refusal.{Refusal}
+use Rattle.answer.specs.Rules.{refusal}
+use Rattle.answer.specs.Outcome.{Outcome, outcome}
 use Rattle.format.specs.Format.{times, Answer, refused, accepted}
 use Rattle.job.specs.declared.Sizes.{Sizes}
 use Rattle.job.specs.Job.{sizesOf}
@@ -19,8 +22,9 @@ use Rattle.sheet_check.specs.declared.Checked.the-variants.{Refused}
 use Rattle.sheet_check.specs.Steps.{checkedOf}
 use Rattle.sheet_check.proofs.Whole.{sound-not}
 use Rattle.sheet_fill.specs.Fill.{listAt}
+use Rattle.sheet.specs.declared.Reading.{Reading}
 use Rattle.sheet.specs.declared.Reading.the-variants as reading
-use Rattle.sheet.specs.Sheets.{Room, room, ReadOutcome, readOutcome, roomy, readInto, readDef}
+use Rattle.sheet.specs.Sheets.{Room, room, roomy, readInto, readDef}
 use Rattle.sheet.proofs.Accepted.{Accepted}
 
 -- what room there is
@@ -44,34 +48,34 @@ roomy-says tiles colours counts palette r e h =
     }
 
 module _ (s : List ℕ) (h : Room) (r : Bool) (e : r ≡ roomy (length (h .tiles)) (length (h .colours)) (length (h .counts)) (length (h .palette))) where
-  pub no-room : not r ≡ true → readOutcome (reading.Refused 3) h ≡ readDef s h
+  pub no-room : not r ≡ true → outcome (reading.Refused (refusal 3 0)) h ≡ readDef s h
   unfolding readDef
-  no-room g = sym (ap (λ (b : Bool). readInto (cond b (readSheet edition1 s) (refused 3)) h) (sym e ∙ not-true r g))
+  no-room g = sym (ap (λ (b : Bool). readInto (cond b (readSheet edition1 s) (refused (refusal 3 0))) h) (sym e ∙ not-true r g))
 
   module _ (g : not r ≡ false) where
     by-sheet : (x : Answer Sheet) → readSheet edition1 s ≡ x → readInto x h ≡ readDef s h
     unfolding readDef
     by-sheet x f =
-        sym (ap (λ (b : Bool). readInto (cond b (readSheet edition1 s) (refused 3)) h) (sym e ∙ not-false r g) ∙ ap (λ (y : Answer Sheet). readInto y h) f)
+        sym (ap (λ (b : Bool). readInto (cond b (readSheet edition1 s) (refused (refusal 3 0))) h) (sym e ∙ not-false r g) ∙ ap (λ (y : Answer Sheet). readInto y h) f)
 
-    pub refused-out : (n : ℕ) → Refused n ≡ checkedOf (readSheet edition1 s) → readOutcome (reading.Refused n) h ≡ readDef s h
-    refused-out n f = by (readSheet edition1 s) refl f
+    pub refused-out : (y : Refusal) → Refused y ≡ checkedOf (readSheet edition1 s) → outcome (reading.Refused y) h ≡ readDef s h
+    refused-out y f = by (readSheet edition1 s) refl f
       where
-        same : (n m : ℕ) → _≡_ {A = Checked} (Refused n) (Refused m) → n ≡ m
-        same n m e = cc
+        same : (y z : Refusal) → _≡_ {A = Checked} (Refused y) (Refused z) → y ≡ z
+        same y z e = cc
 
-        by : (x : Answer Sheet) → readSheet edition1 s ≡ x → Refused n ≡ checkedOf x → readOutcome (reading.Refused n) h ≡ readDef s h
-        by (refused m) k f = ap (λ (i : ℕ). readOutcome (reading.Refused i) h) (same n m f) ∙ by-sheet (refused m) k
-        by (accepted x) k f = absurd (sound-not n (x .subs) (x .each) (x .tiles) (x .weight) f)
+        by : (x : Answer Sheet) → readSheet edition1 s ≡ x → Refused y ≡ checkedOf x → outcome (reading.Refused y) h ≡ readDef s h
+        by (refused z) k f = ap (λ (i : Refusal). outcome (reading.Refused i) h) (same y z f) ∙ by-sheet (refused z) k
+        by (accepted x) k f = absurd (sound-not y (x .subs) (x .each) (x .tiles) (x .weight) f)
 
     pub accepted-out : (a b t w : ℕ) (z : Sizes) (tb : List ℕ) (cs : List ℕ) (f : List Float) (p : List Float) → Accepted s a b t w → z ≡ sizesOf a b t 0 (ofBits binary32 w)
         → p ≡ sets (h .palette) 0 (floats (listAt (times (3 * (a * b)) component) s 86))
         → tb ≡ sets (h .tiles) 0 (tableOf 0 (listAt (times t (tile edition1)) s (86 + 3 * (a * b) * 32)))
         → cs ≡ sets (h .counts) 0 (allCounts (listAt (times t (tile edition1)) s (86 + 3 * (a * b) * 32)))
         → f ≡ sets (h .colours) 0 (allFloats (listAt (times t (tile edition1)) s (86 + 3 * (a * b) * 32)))
-        → readOutcome (reading.Sheet z) (room tb f cs p) ≡ readDef s h
+        → outcome (reading.Sheet z) (room tb f cs p) ≡ readDef s h
     accepted-out a b t w z tb cs f p A ew ep et ec ef =
         let L : List (List Colour) = listAt (times t (tile edition1)) s (86 + 3 * (a * b) * 32) in
-        ap₂ {C = ReadOutcome} (λ i j. readOutcome (reading.Sheet i) j) ew
+        ap₂ {C = Outcome Reading Room} (λ i j. outcome (reading.Sheet i) j) ew
         (ap₂ {C = Room} (λ i j. room i j cs p) et ef ∙ ap₂ {C = Room} (λ i j. room (sets (h .tiles) 0 (tableOf 0 L)) (sets (h .colours) 0 (allFloats L)) i j) ec ep)
         ∙ by-sheet _ (A .is)

@@ -20,9 +20,9 @@ use Rattle.format.specs.Format.{above, times}
 use Rattle.format.proofs.Tests.{and-l, and-r}
 use Rattle.job.specs.Checks.{firstNot, tileSized, among, within, weightFits, tileTest, tileFits, tilesFit, countTest, countFits, partFits, tileCountsFit, countsFit, componentFits, firstBad, componentsFit}
 use Rattle.job.specs.Checks.{boundRules, tables, plainRules, plainAnswer}
-use Rattle.job.specs.Rules.{Passed}
+use Rattle.answer.specs.Rules.{Passed}
 use Rattle.job.proofs.First.{first-none}
-use Rattle.job.proofs.Passing.{pass-all}
+use Rattle.answer.proofs.Passing.{passed-number}
 use Rattle.job.specs.Job.{tileSize, mostTileColours, firstOf, sizeOf, countsPart, nought, two, sixteen}
 use Rattle.format_pattern.proofs.Patterns.{weighs-is}
 use Rattle.sheet_format.specs.Sheet.{edition1, component, Colour, entry, colours, tile, Sheet, sheet}
@@ -210,7 +210,7 @@ unfolding among
 within-range n most h = and-i (leb 1 n) (leb n most) (le-leb 1 n (h .0)) (le-leb n most (h .1))
 
 -- ---- a sheet that can be written, of few enough colours
-pub taken : (x : Sheet) → T (sheet edition1 .good x) → total (x .content) ≤ mostTileColours → plainAnswer (jobIn x) (floats (x .palette)) true ≡ 0
+pub taken : (x : Sheet) → T (sheet edition1 .good x) → total (x .content) ≤ mostTileColours → plainAnswer (jobIn x) (floats (x .palette)) true .number ≡ 0
 unfolding plainAnswer tileSized countsFit tileCountsFit
 taken x h fit =
     let H = sized x h in
@@ -228,13 +228,13 @@ taken x h fit =
     let z : 0 + i ≡ i = omega arith in
     let g = at i (x .tiles) 0 0 v (content-good x h) refl refl refl l in
     ap (partFits tileSize) (ap (countsPart (tableOf 0 v) (allCounts v)) (sym z) ∙ g .0) ∙ part-fits (getD v i []) (g .1) in
-    let near-rules : Passed (boundRules (floats (x .palette)) (allFloats v)) = (in-bound (floats (x .palette)) (P .3), (in-bound (allFloats v) (A .small), tt)) in
-    let table-rules : Passed (tables (jobIn x) ++ boundRules (floats (x .palette)) (allFloats v)) = (
+    let near-rules : Passed (boundRules (x .subs * x .each) (floats (x .palette)) (allFloats v)) = (in-bound (floats (x .palette)) (P .3), (in-bound (allFloats v) (A .small), tt)) in
+    let table-rules : Passed (tables (jobIn x) ++ boundRules (x .subs * x .each) (floats (x .palette)) (allFloats v)) = (
       weighty (ofBits binary32 (x .weight)) (W .0) (W .1),
       (le-leb (length (allCounts v)) mostTileColours (omega (arith, A .counts)), (table-fits v (x .tiles) (length (allCounts v)) (A .number) (A .counts) few, (parts-fit, near-rules))),
     ) in
     let three = eq-eqb (length (allFloats v)) (3 * length (allCounts v)) (A .thrice) in
     let sized = eq-eqb (length (floats (x .palette))) (3 * (x .subs * x .each)) (P .2) in
     let listed = eq-eqb (length (tableOf 0 v)) (2 * x .tiles) (length-tableOf 0 v ∙ ap (λ (i : ℕ). 2 * i) (A .number)) in
-    sym (pass-all (plainRules (jobIn x) (floats (x .palette)) true)
-    (refl, (within-range (x .subs) 16 (H .subs), (within-range (x .each) 16 (H .each), (within-range (x .tiles) 1024 (H .tiles), (listed, (three, (sized, (refl, table-rules)))))))))
+    passed-number (plainRules (jobIn x) (floats (x .palette)) true)
+    (refl, (within-range (x .subs) 16 (H .subs), (within-range (x .each) 16 (H .each), (within-range (x .tiles) 1024 (H .tiles), (listed, (three, (sized, (refl, table-rules))))))))

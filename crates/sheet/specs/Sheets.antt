@@ -2,10 +2,13 @@
 use Prim.Native.Nat.{ℕ}
 use mathlib.Core.Bool.{true, cond}
 use mathlib.Core.List.{List}
-use lib.Dec.{leb, eqb}
+use lib.Dec.{leb}
 use lib.ListN.{length}
 use lib.Seq.{sets}
 use lib.Ieee.{Float, binary32, ofBits}
+use Rattle.answer.specs.declared.Refusal.{Refusal}
+use Rattle.answer.specs.Rules.{refusal, nothing}
+use Rattle.answer.specs.Outcome.{Outcome, outcome, decided}
 use Rattle.format.specs.Format.{Answer, refused, accepted, encode}
 use Rattle.job.specs.declared.Sizes.{Sizes}
 use Rattle.job.specs.Job.{Job, sizesOf, jobOf}
@@ -37,44 +40,40 @@ pub record Room : Type 0 where
 abbrev pub room : List ℕ → List Float → List ℕ → List Float → Room
 room tiles colours counts palette = record { tiles = tiles; colours = colours; counts = counts; palette = palette }
 
-pub record ReadOutcome : Type 0 where
-  pub answer : Reading
-  pub after : Room
-
-abbrev pub readOutcome : Reading → Room → ReadOutcome
-readOutcome r h = record { answer = r; after = h }
+-- the answer's cases: the numbers of a job, or a refusal
+abbrev pub refusalOfReading : Reading → Refusal
+refusalOfReading (reading.Refused e) = e
+refusalOfReading (reading.Sheet z) = nothing
 
 -- a sheet's lists stand in the first places; what isn't filled stays
 abbrev pub filled : Sheet → Room → Room
 filled x h =
     room (sets (h .tiles) 0 (jobIn x .tiles)) (sets (h .colours) 0 (jobIn x .colours)) (sets (h .counts) 0 (jobIn x .counts)) (sets (h .palette) 0 (floats (x .palette)))
 
-abbrev pub readInto : Answer Sheet → Room → ReadOutcome
-readInto (refused n) h = readOutcome (reading.Refused n) h
-readInto (accepted x) h = readOutcome (reading.Sheet (sizesIn x)) (filled x h)
+abbrev pub readInto : Answer Sheet → Room → Outcome Reading Room
+readInto (refused e) h = outcome (reading.Refused e) h
+readInto (accepted x) h = outcome (reading.Sheet (sizesIn x)) (filled x h)
 
 -- 3 for room comes first
-unfoldable pub readDef : List ℕ → Room → ReadOutcome
+unfoldable pub readDef : List ℕ → Room → Outcome Reading Room
 readDef bytes h =
-    readInto (cond (roomy (length (h .tiles)) (length (h .colours)) (length (h .counts)) (length (h .palette))) (readSheet edition1 bytes) (refused 3)) h
+    readInto (cond (roomy (length (h .tiles)) (length (h .colours)) (length (h .counts)) (length (h .palette))) (readSheet edition1 bytes) (refused (refusal 3 0))) h
 
 -- ---- writing
-pub record WriteOutcome : Type 0 where
-  pub answer : Writing
-  pub after : List ℕ
-
-abbrev pub writeOutcome : Writing → List ℕ → WriteOutcome
-writeOutcome r h = record { answer = r; after = h }
+-- the answer's cases: how many bytes, or a refusal
+abbrev pub refusalOfWriting : Writing → Refusal
+refusalOfWriting (writing.Refused e) = e
+refusalOfWriting (writing.Bytes n) = nothing
 
 -- a file into lent bytes: 13 where it is too large, then 3 where it has no room
-unfoldable pub storedIn : List ℕ → List ℕ → WriteOutcome
+unfoldable pub storedIn : List ℕ → List ℕ → Outcome Writing (List ℕ)
 storedIn file found =
     cond (leb (length file) 65536)
-    (cond (leb (length file) (length found)) (writeOutcome (writing.Bytes (length file)) (sets found 0 file)) (writeOutcome (writing.Refused 3) found))
-    (writeOutcome (writing.Refused 13) found)
+    (cond (leb (length file) (length found)) (outcome (writing.Bytes (length file)) (sets found 0 file)) (outcome (writing.Refused (refusal 3 0)) found))
+    (outcome (writing.Refused (refusal 13 0)) found)
 
 -- the job's own refusals come first
-unfoldable pub writeDef : Job → List Float → List ℕ → WriteOutcome
+unfoldable pub writeDef : Job → List Float → List ℕ → Outcome Writing (List ℕ)
 writeDef J palette found =
-    let number = plainAnswer J palette true in
-    cond (eqb number 0) (storedIn (encode (sheet edition1) (sheetOf J palette)) found) (writeOutcome (writing.Refused number) found)
+    let e = plainAnswer J palette true in
+    decided e (storedIn (encode (sheet edition1) (sheetOf J palette)) found) (writing.Refused e) found

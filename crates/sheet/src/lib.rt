@@ -1,13 +1,15 @@
 // The fit sheet's public calls: the reader and the writer. Neither asks anything of its caller, and a refusal writes nothing.
 // Assumes nothing.
+use answer::Refusal;
 use job::Sizes;
 ghost use mathlib.Core.Path.{_≡_};
 ghost use Rattle.job.specs.Job.{jobOf};
-ghost use Rattle.sheet.specs.Sheets.{room, readOutcome, readDef, writeOutcome, writeDef};
+ghost use Rattle.answer.specs.Outcome.{outcome};
+ghost use Rattle.sheet.specs.Sheets.{room, readDef, writeDef};
 
-// What a reading finds: a refusal's number, or the numbers of a job whose lists are filled in.
+// What a reading finds: a refusal, or the numbers of a job whose lists are filled in.
 pub enum Reading {
-    Refused(u32),
+    Refused(Refusal),
     Sheet(Sizes),
 }
 
@@ -19,14 +21,14 @@ pub fn read(
     counts: &mut [u32],
     palette: &mut [f32],
 ) -> Reading
-    ensures { λ r. ⌜ readOutcome r (room (now (tiles .exit)) (now (colours .exit)) (now (counts .exit)) (now (palette .exit)))
+    ensures { λ r. ⌜ outcome r (room (now (tiles .exit)) (now (colours .exit)) (now (counts .exit)) (now (palette .exit)))
         ≡ readDef (now (bytes .entry)) (room (now (tiles .entry)) (now (colours .entry)) (now (counts .entry)) (now (palette .entry))) ⌝ }
 {
     if !sheet_room::has_room(tiles.len(), colours.len(), counts.len(), palette.len()) {
-        return Reading::Refused(3);
+        return Reading::Refused(answer::LENGTHS);
     }
     match sheet_check::check(bytes) {
-        sheet_check::Checked::Refused(n) => Reading::Refused(n),
+        sheet_check::Checked::Refused(e) => Reading::Refused(e),
         sheet_check::Checked::Sound {
             subs,
             each,
@@ -49,9 +51,9 @@ pub fn read(
     }
 }
 
-// What a writing answers: a refusal's number, or how many bytes the sheet has.
+// What a writing answers: a refusal, or how many bytes the sheet has.
 pub enum Writing {
-    Refused(u32),
+    Refused(Refusal),
     Bytes(usize),
 }
 
@@ -64,17 +66,17 @@ pub fn write(
     palette: &[f32],
     dst: &mut [u8],
 ) -> Writing
-    ensures { λ r. ⌜ writeOutcome r (now (dst .exit))
+    ensures { λ r. ⌜ outcome r (now (dst .exit))
         ≡ writeDef (jobOf z (now (tiles .entry)) (now (colours .entry)) (now (counts .entry))) (now (palette .entry)) (now (dst .entry)) ⌝ }
 {
-    let number = job_check::check_job(z, tiles, colours, counts, palette, true);
-    if number != 0 {
-        return Writing::Refused(number);
+    let refusal = job_check::check_job(z, tiles, colours, counts, palette, true);
+    if refusal.number != 0 {
+        return Writing::Refused(refusal);
     }
     let size = sheet_format::size_of(z.s, z.c, z.t, counts.len());
     let n = format::bytes_for(size);
     let fault = sheet_room::place_for(n, dst.len());
-    if fault != 0 {
+    if fault.number != 0 {
         return Writing::Refused(fault);
     }
     sheet_whole::pack_sheet(z, tiles, colours, counts, palette, dst, size);

@@ -1,5 +1,5 @@
 -- What the test of a whole sheet finds, from its head, its parts and the bits behind them. Assumes nothing.
-use mathlib.Core.Path.{_≡_, sym, ap, ap₂, _∙_}
+use mathlib.Core.Path.{_≡_, refl, sym, ap, ap₂, _∙_}
 use Prim.Native.Nat.{ℕ, _-_, _*_, _≤_, _<_}
 use native.Mathlib.Omega.{arith}
 use mathlib.Core.Bool.{Bool, cond, _&&_}
@@ -9,11 +9,14 @@ use lib.ListN.{length, drop}
 use borrow.Author.Tests.{le-leb, lt-leb}
 use Rattle.bits.specs.Bits.{bits}
 use Rattle.bits.proofs.Bytes.{length-bits}
+use Rattle.answer.specs.declared.Refusal.{Refusal}
+use Rattle.answer.specs.Rules.{refusal}
 use Rattle.format.specs.Format.{Res, fault, got, next, Format, both, clear, refused, accepted, ended, readOf}
-use Rattle.format.proofs.Reading.{both-fault, both-got}
+use Rattle.format.proofs.Reading.{both-fault, both-plain}
 use Rattle.sheet_format.proofs.Exact.{rest-lawful}
+use Rattle.sheet_format.proofs.Light.{rest-light}
 use Rattle.sheet_format.proofs.Headed.{header-rest, header-sized, header-long}
-use Rattle.sheet_format.specs.Sheet.{Edition, edition1, Header, Colour, Parts, whole, header, rest, sheet, readSheet}
+use Rattle.sheet_format.specs.Sheet.{Edition, edition1, Header, Colour, Parts, faultOf, whole, header, rest, sheet, readSheet}
 use Rattle.sheet_colours.specs.declared.Step.the-variants.{At}
 use Rattle.sheet_check.specs.declared.Checked.{Checked}
 use Rattle.sheet_check.specs.declared.Checked.the-variants.{Refused, Sound}
@@ -22,21 +25,21 @@ use Rattle.sheet_check.specs.Steps.{headOf, checkedOf}
 use Rattle.sheet_colours.proofs.Turns.{step-at}
 
 -- ---- the head's answer, taken apart
-refused-is : (n m : ℕ) → _≡_ {A = Checked} (Refused n) (Refused m) → n ≡ m
-refused-is n m e = cc
+refused-is : (x y : Refusal) → _≡_ {A = Checked} (Refused x) (Refused y) → x ≡ y
+refused-is x y e = cc
 
-pub sound-not : (n a b t w : ℕ) → _≡_ {A = Checked} (Refused n) (Sound a b t w) → ⊥
-sound-not n a b t w e = let z : _≡_ {A = ℕ} 0 1 = cc in omega arith
+pub sound-not : (x : Refusal) (a b t w : ℕ) → _≡_ {A = Checked} (Refused x) (Sound a b t w) → ⊥
+sound-not x a b t w e = let z : _≡_ {A = ℕ} 0 1 = cc in omega arith
 
 pub sound-is : (a b t w c d u v : ℕ) → _≡_ {A = Checked} (Sound a b t w) (Sound c d u v) → (a ≡ c) × (b ≡ d) × (t ≡ u) × (w ≡ v)
 sound-is a b t w c d u v e = (cc, cc, cc, cc)
 
-pub head-fault : (x : Res Header) (n : ℕ) → Refused n ≡ headOf x → x ≡ fault n
-head-fault (fault m) n e = ap fault (sym (refused-is n m e))
-head-fault (got h r) n e = absurd (sound-not n (h .0) (h .1 .0) (h .1 .1 .0) (h .1 .1 .1) e)
+head-fault : (x : Res Header) (z : Refusal) → Refused z ≡ headOf x → (n : ℕ) × (i : ℕ) × (x ≡ fault n i) × (z ≡ faultOf n i)
+head-fault (fault n i) z e = (n, i, refl, refused-is z (faultOf n i) e)
+head-fault (got h r) z e = absurd (sound-not z (h .0) (h .1 .0) (h .1 .1 .0) (h .1 .1 .1) e)
 
 pub head-got : (x : Res Header) (a b t w : ℕ) → Sound a b t w ≡ headOf x → (r : List Bool) × (x ≡ got (a, (b, (t, w))) r)
-head-got (fault m) a b t w e = absurd (sound-not m a b t w (sym e))
+head-got (fault n i) a b t w e = absurd (sound-not (faultOf n i) a b t w (sym e))
 head-got (got h r) a b t w e =
     let k = sound-is a b t w (h .0) (h .1 .0) (h .1 .1 .0) (h .1 .1 .1) e in
     (r, ap (λ (y : Header). got y r) (sym (ap₂ {C = Header} (λ i j. (i, j)) (k .0) (ap₂ {C = ℕ × (ℕ × ℕ)} (λ i j. (i, j)) (k .1) (ap₂ {C = ℕ × ℕ} (λ i j. (i, j)) (k .2) (k .3))))))
@@ -62,34 +65,36 @@ pub record Parted (s : List ℕ) (n t z : ℕ) : Type 0 where
   pub reads : rest edition1 n t .parse (drop 86 (bits s)) ≡ got parts (drop z (bits s))
   pub reach : z ≤ 8 * length s
 
-pub parted-of : (s : List ℕ) (n t z : ℕ) → 86 ≤ 8 * length s → At z ≡ stepAt (rest edition1 n t) s 86 → Parted s n t z
-parted-of s n t z h e =
-    let (x, y, l) = step-at (rest edition1 n t) (rest-lawful edition1 n t) (bits s) 86 (rw length-bits h) z e in
-    record { parts = x; reads = y; reach = omega (arith, l, length-bits s) }
+pub parted-of : (s : List ℕ) (n t z k : ℕ) → 86 ≤ 8 * length s → At z k ≡ stepAt (rest edition1 n t) s 86 → Parted s n t z
+parted-of s n t z k h e =
+    let x = step-at (rest edition1 n t) (rest-lawful edition1 n t) (rest-light edition1 n t) (bits s) 86 (rw length-bits h) z k e in
+    record { parts = x .value; reads = x .reads; reach = omega (arith, x .inside, length-bits s) }
 
 -- ---- the whole
 module _ (E : Edition) (s : List ℕ) where
-  pub read-long : 65536 < length s → Refused 13 ≡ checkedOf (readSheet E s)
-  read-long h = sym (ap (λ (b : Bool). checkedOf (cond b (readOf (sheet E) s) (refused 13))) (lt-leb (length s) 65536 h))
+  pub read-long : 65536 < length s → Refused (refusal 13 0) ≡ checkedOf (readSheet E s)
+  read-long h = sym (ap (λ (b : Bool). checkedOf (cond b (readOf faultOf (sheet E) s) (refused (refusal 13 0)))) (lt-leb (length s) 65536 h))
 
   module _ (fits : length s ≤ 65536) where
     abbrev behind : Header → Format (List ℕ × List (List Colour))
     behind h = rest E (3 * (h .0 * h .1 .0)) (h .1 .1 .0)
 
-    read-is : (x : Res Parts) → both (header E) behind .parse (bits s) ≡ x → checkedOf (readSheet E s) ≡ checkedOf (ended (next x (λ y r. got (whole y) r)))
+    read-is : (x : Res Parts) → both (header E) behind .parse (bits s) ≡ x → checkedOf (readSheet E s) ≡ checkedOf (ended faultOf (next x (λ y r. got (whole y) r)))
     read-is x e =
-        ap (λ (b : Bool). checkedOf (cond b (readOf (sheet E) s) (refused 13))) (le-leb (length s) 65536 fits)
-        ∙ ap (λ (o : Res Parts). checkedOf (ended (next o (λ y r. got (whole y) r)))) e
+        ap (λ (b : Bool). checkedOf (cond b (readOf faultOf (sheet E) s) (refused (refusal 13 0)))) (le-leb (length s) 65536 fits)
+        ∙ ap (λ (o : Res Parts). checkedOf (ended faultOf (next o (λ y r. got (whole y) r)))) e
 
-    pub read-head : (n : ℕ) → header E .parse (bits s) ≡ fault n → Refused n ≡ checkedOf (readSheet E s)
-    read-head n e = sym (read-is (fault n) (both-fault (header E) behind (bits s) n e))
+    pub read-head : (z : Refusal) → Refused z ≡ headOf (header E .parse (bits s)) → Refused z ≡ checkedOf (readSheet E s)
+    read-head z e =
+        let (n, i, x, y) = head-fault (header E .parse (bits s)) z e in
+        ap Refused y ∙ sym (read-is (fault n i) (both-fault (header E) behind (bits s) n i x))
 
     module _ (a b t w : ℕ) (r : List Bool) (head : header E .parse (bits s) ≡ got (a, (b, (t, w))) r) where
-      pub read-rest : (n : ℕ) → rest E (3 * (a * b)) t .parse r ≡ fault n → Refused n ≡ checkedOf (readSheet E s)
-      read-rest n e = sym (read-is (fault n) (both-got (header E) behind (bits s) (a, (b, (t, w))) r (fault n) head e))
+      pub read-rest : (n i : ℕ) → rest E (3 * (a * b)) t .parse r ≡ fault n i → Refused (faultOf n i) ≡ checkedOf (readSheet E s)
+      read-rest n i e = sym (read-is (fault n i) (both-plain (header E) behind (bits s) (a, (b, (t, w))) r (fault n i) refl head e))
 
       pub read-end : (x : List ℕ × List (List Colour)) (q : List Bool) (o : Bool) → rest E (3 * (a * b)) t .parse r ≡ got x q → (ltb (length q) 8 && clear q) ≡ o
-          → checkedOf (cond o (accepted (whole ((a, (b, (t, w))), x))) (refused 13)) ≡ checkedOf (readSheet E s)
+          → checkedOf (cond o (accepted (whole ((a, (b, (t, w))), x))) (refused (refusal 13 0))) ≡ checkedOf (readSheet E s)
       read-end x q o e f =
-          sym (read-is (got ((a, (b, (t, w))), x) q) (both-got (header E) behind (bits s) (a, (b, (t, w))) r (got x q) head e)
-          ∙ ap (λ (i : Bool). checkedOf (cond i (accepted (whole ((a, (b, (t, w))), x))) (refused 13))) f)
+          sym (read-is (got ((a, (b, (t, w))), x) q) (both-plain (header E) behind (bits s) (a, (b, (t, w))) r (got x q) refl head e)
+          ∙ ap (λ (i : Bool). checkedOf (cond i (accepted (whole ((a, (b, (t, w))), x))) (refused (refusal 13 0)))) f)

@@ -4,15 +4,16 @@ ghost use mathlib.Core.Path.{_≡_};
 ghost use Prim.Native.Nat.{_*_, _≤_};
 ghost use lib.ListN.{length, drop};
 ghost use Rattle.bits.specs.Bits.{bits};
-ghost use Rattle.sheet_format.specs.Sheet.{edition1, header, readSheet};
+ghost use Rattle.sheet_format.specs.Sheet.{edition1, faultOf, header, readSheet};
 ghost use Rattle.sheet_check.specs.Steps.{headOf, checkedOf};
 ghost use mathlib.Core.Bool.{_&&_};
 ghost use lib.Dec.{ltb};
 ghost use Rattle.format.specs.Format.{clear};
+use answer::Refusal;
 
-// What a test finds: a refusal's number, or the numbers at the sheet's head.
+// What a test finds: a refusal, or the numbers at the sheet's head.
 pub enum Checked {
-    Refused(u32),
+    Refused(Refusal),
     Sound {
         subs: u32,
         each: u32,
@@ -28,23 +29,23 @@ pub fn head(s: &[u8]) -> Checked
 {
     let end = 8 * s.len();
     if end < 32 {
-        return Checked::Refused(13);
+        return Checked::Refused(answer::SHEET_BYTES);
     }
     if bits::get(s, 0, 32) != sheet_format::OPENING {
-        return Checked::Refused(12);
+        return Checked::Refused(answer::SHEET_HEAD);
     }
     if end < sheet_format::SUBS_AT {
-        return Checked::Refused(13);
+        return Checked::Refused(answer::SHEET_BYTES);
     }
     if bits::get(s, 32, 4) != 1 {
-        return Checked::Refused(12);
+        return Checked::Refused(answer::SHEET_HEAD);
     }
     if end < sheet_format::HEAD_BITS {
-        return Checked::Refused(13);
+        return Checked::Refused(answer::SHEET_BYTES);
     }
     let weight = bits::get(s, sheet_format::WEIGHT_AT, 32);
     if !format_pattern::is_weight(weight) {
-        return Checked::Refused(4);
+        return Checked::Refused(answer::WEIGHT);
     }
     Checked::Sound {
         subs: bits::get(s, sheet_format::SUBS_AT, 4) + 1,
@@ -54,15 +55,28 @@ pub fn head(s: &[u8]) -> Checked
     }
 }
 
+// The refusal of a fault behind so many components: a bad component names the colour that it belongs to, and nothing else an entry.
+fn fault_of(number: u32, passed: usize) -> Refusal
+    ensures { λ r. ⌜ r ≡ faultOf number passed ⌝ }
+{
+    if number == 7 {
+        return Refusal {
+            number,
+            index: passed / 3,
+        };
+    }
+    Refusal { number, index: 0 }
+}
+
 // A whole sheet. Nothing is written.
 pub fn check(s: &[u8]) -> Checked
     ensures { λ r. ⌜ r ≡ checkedOf (readSheet edition1 (now (s .entry))) ⌝ }
 {
     if 65536 < s.len() {
-        return Checked::Refused(13);
+        return Checked::Refused(answer::SHEET_BYTES);
     }
     match head(s) {
-        Checked::Refused(f) => Checked::Refused(f),
+        Checked::Refused(e) => Checked::Refused(e),
         Checked::Sound {
             subs,
             each,
@@ -76,8 +90,8 @@ pub fn check(s: &[u8]) -> Checked
                 n as usize,
                 tiles as usize,
             ) {
-                sheet_colours::Step::Fault(f) => Checked::Refused(f),
-                sheet_colours::Step::At(z) => {
+                sheet_colours::Step::Fault(f, k) => Checked::Refused(fault_of(f, k)),
+                sheet_colours::Step::At(z, _) => {
                     if only_spare(s, z) {
                         Checked::Sound {
                             subs,
@@ -86,7 +100,7 @@ pub fn check(s: &[u8]) -> Checked
                             weight,
                         }
                     } else {
-                        Checked::Refused(13)
+                        Checked::Refused(answer::SHEET_BYTES)
                     }
                 }
             }

@@ -9,10 +9,10 @@ ghost use Rattle.sheet_colours.specs.Steps.{stepAt};
 
 pub const TILE_SIZE: u32 = 64;
 
-// The number of a fault, or the bit to read next.
+// The number of a fault, or the bit to read next; and how many components were passed.
 pub enum Step {
-    Fault(u32),
-    At(usize),
+    Fault(u32, usize),
+    At(usize, usize),
 }
 
 // n components from bit p.
@@ -25,16 +25,16 @@ pub fn components(s: &[u8], p: usize, n: usize) -> Step
     let mut i = 0;
     while i < n {
         if end - q < 32 {
-            return Step::Fault(13);
+            return Step::Fault(13, i);
         }
         if format_pattern::is_small(bits::get(s, q, 32)) {
             q += 32;
             i += 1;
         } else {
-            return Step::Fault(7);
+            return Step::Fault(7, i);
         }
     }
-    Step::At(q)
+    Step::At(q, i)
 }
 
 // n colours of a tile from bit p, whose counts sum to at most the tile's size.
@@ -44,24 +44,26 @@ pub fn tile_colours(s: &[u8], p: usize, n: usize) -> Step
 {
     let end = 8 * s.len();
     let mut q = p;
+    let mut passed = 0;
     let mut sum: u32 = 0;
     let mut i = 0;
     while i < n {
         if end - q < 6 {
-            return Step::Fault(13);
+            return Step::Fault(13, passed);
         }
         let c = bits::get(s, q, 6) + 1;
         if TILE_SIZE < sum + c {
-            return Step::Fault(6);
+            return Step::Fault(6, passed);
         }
         match components(s, q + 6, 3) {
-            Step::Fault(f) => return Step::Fault(f),
-            Step::At(z) => {
+            Step::Fault(f, k) => return Step::Fault(f, passed + k),
+            Step::At(z, k) => {
                 q = z;
+                passed += k;
                 sum += c;
                 i += 1;
             }
         }
     }
-    Step::At(q)
+    Step::At(q, passed)
 }

@@ -56,7 +56,7 @@ module _ (E : Edition) where
 
   count-says : (s : List ℕ) (q sum c : ℕ) (r : List Bool) → countOf sum .parse (drop q (bits s)) ≡ got c r → (E .each ≤ 8 * length s - q) × (c ≡ fieldAt (bits s) q (E .each) + 1)
   count-says s q sum c r e =
-      let (b, o, x, y) = next-got (above (E .each) .parse (drop q (bits s))) (λ b q. cond (leb (sum + b) (E .size)) (got b q) (fault 6)) c r e in
+      let (b, o, x, y) = next-got (above (E .each) .parse (drop q (bits s))) (λ b q. cond (leb (sum + b) (E .size)) (got b q) (fault 6 0)) c r e in
       let (v, w, i, j) = next-got (field (E .each) .parse (drop q (bits s))) (λ a r. got (suc a) r) b o x in
       let f = field-says (E .each) (bits s) q v w i in
       let m = cond-got (leb (sum + b) (E .size)) (got b o) 6 c r y in (

@@ -10,22 +10,22 @@ use lib.Seq.{sets}
 use lib.Ieee.{Float, binary32, ofBits}
 use Rattle.bits.specs.Bits.{bits, fieldAt}
 use Rattle.bits.proofs.Bytes.{length-bits}
-use Rattle.format.specs.Format.{fault, got, field, times}
+use Rattle.format.specs.Format.{fault, got, field, checked, times}
 use Rattle.format.proofs.Lawful.{cond-got, same-value, next-got}
-use Rattle.format.proofs.Fixed.{Fixed, field-says, field-fixed, checked-fixed, cons-parts}
+use Rattle.format.proofs.Fixed.{Fixed, field-says, field-fixed, checked-fixed, indexed-fixed, cons-parts}
 use Rattle.format_pattern.specs.Pattern.{small}
 use Rattle.sheet_format.specs.Sheet.{component}
 use Rattle.sheet_format.specs.Lists.{floats}
 use Rattle.sheet_fill.specs.Fill.{Reads, listOf, listAt}
 
 pub component-fixed : Fixed component 32
-component-fixed = checked-fixed 7 small (field 32) 32 (field-fixed 32)
+component-fixed = indexed-fixed (checked 7 small (field 32)) 32 (checked-fixed 7 small (field 32) 32 (field-fixed 32))
 
 -- what a component that is read says
 component-says : (s : List ℕ) (q v : ℕ) (r : List Bool) → component .parse (drop q (bits s)) ≡ got v r
     → (q + 32 ≤ 8 * length s) × T (small (fieldAt (bits s) q 32)) × (v ≡ fieldAt (bits s) q 32)
 component-says s q v r e =
-    let (b, o, x, y) = next-got (field 32 .parse (drop q (bits s))) (λ b q. cond (small b) (got b q) (fault 7)) v r e in
+    let (b, o, x, y) = next-got (field 32 .parse (drop q (bits s))) (λ b q. cond (small b) (got b q) (fault 7 0)) v r e in
     let c = cond-got (small b) (got b o) 7 v r y in
     let f = field-says 32 (bits s) q b o x in (
       omega (arith, f .0, length-bits s),

@@ -11,8 +11,8 @@ use lib.Ieee.{Float}
 use Rattle.bits.specs.Bits.{bits, fieldAt}
 use Rattle.bits.proofs.Bytes.{length-bits}
 use Rattle.bits.proofs.Fields.{sets-append}
-use Rattle.format.specs.Format.{Res, fault, got, next, Format, field, checked, times}
-use Rattle.format.proofs.Lawful.{cond-got, same-value, same-rest, next-got}
+use Rattle.format.specs.Format.{Res, fault, got, next, past, Format, field, checked, times}
+use Rattle.format.proofs.Lawful.{cond-got, same-value, same-rest, next-got, past-got}
 use Rattle.format.proofs.Fixed.{field-says, field-fixed, checked-fixed}
 use Rattle.sheet_format.specs.Sheet.{Edition, Colour, colours, tile}
 use Rattle.sheet_format.specs.Lists.{tileCounts, tileFloats, allCounts, allFloats, tableOf, total}
@@ -25,7 +25,7 @@ module _ (E : Edition) where
 
   number-says : (s : List ℕ) (q n : ℕ) (r : List Bool) → number .parse (drop q (bits s)) ≡ got n r → (E .many ≤ 8 * length s - q) × (n ≡ fieldAt (bits s) q (E .many)) × (n ≤ E .size)
   number-says s q n r e =
-      let (v, w, i, j) = next-got (field (E .many) .parse (drop q (bits s))) (λ n r. cond (leb n (E .size)) (got n r) (fault 5)) n r e in
+      let (v, w, i, j) = next-got (field (E .many) .parse (drop q (bits s))) (λ n r. cond (leb n (E .size)) (got n r) (fault 5 0)) n r e in
       let f = field-says (E .many) (bits s) q v w i in
       let m = cond-got (leb v (E .size)) (got v w) 5 n r j in
       let z : v ≡ n = same-value v n w r (m .1) in
@@ -43,8 +43,8 @@ module _ (E : Edition) where
 
   pub tile-turn : (s : List ℕ) (q m n : ℕ) → n ≡ fieldAt (bits s) q (E .many) → Reads (times (suc m) (tile E)) s q → Tile-turn s q m n
   tile-turn s q m n en (vs, r, e) =
-      let (x, o, u, v) = next-got (tile E .parse (drop q (bits s))) (λ a r. next (times m (tile E) .parse r) (λ s q. got (a ∷ s) q)) vs r e in
-      let (t, i, w, y) = next-got (times m (tile E) .parse o) (λ s q. got (x ∷ s) q) vs r v in
+      let (x, o, u, v) = next-got (tile E .parse (drop q (bits s))) (λ a r. next (past (tile E .counts a) (times m (tile E) .parse r)) (λ s q. got (a ∷ s) q)) vs r e in
+      let (t, i, w, y) = past-got (tile E .counts x) (times m (tile E) .parse o) (λ s q. got (x ∷ s) q) vs r v in
       let (k, j, a, b) = next-got (number .parse (drop q (bits s))) (λ n r. colours E n 0 .parse r) x o u in
       let c = number-says s q k j a in
       let d : k ≡ n = c .1 ∙ sym en in

@@ -13,7 +13,7 @@ Reads {A} F s p = (a : A) × (r : List Bool) × (F .parse (drop p (bits s)) ≡ 
 
 -- the list that is read there
 abbrev pub listOf : {A : Type 0} → Res (List A) → List A
-listOf (fault n) = []
+listOf (fault n i) = []
 listOf (got a r) = a
 
 abbrev pub listAt : {A : Type 0} → Format (List A) → List ℕ → ℕ → List A

@@ -8,13 +8,13 @@ use lib.Pow.{areBytes}
 use lib.ListN.{length}
 use Rattle.format.specs.Format.{field, checked, above, both, times, accepted, readOf, encode}
 use Rattle.format.proofs.Tests.{and-r}
-use Rattle.format.proofs.Lawful.{Lawful, field-lawful, checked-lawful, mapped-lawful, above-lawful, both-lawful, literal-lawful, none-lawful, cons-lawful, times-lawful, counted-lawful}
+use Rattle.format.proofs.Lawful.{Lawful, field-lawful, checked-lawful, indexed-lawful, mapped-lawful, above-lawful, both-lawful, literal-lawful, none-lawful, cons-lawful, times-lawful, counted-lawful}
 use Rattle.format.proofs.Files.{decode-encode, encode-decode}
 use Rattle.format_pattern.specs.Pattern.{small, weighs}
-use Rattle.sheet_format.specs.Sheet.{Edition, opening, component, Colour, Sheet, whole, parts, entry, colours, tile, header, rest, sheet}
+use Rattle.sheet_format.specs.Sheet.{Edition, opening, faultOf, component, Colour, Sheet, whole, parts, entry, colours, tile, header, rest, sheet}
 
 pub component-lawful : Lawful component
-component-lawful = checked-lawful 7 small (field 32) (field-lawful 32)
+component-lawful = indexed-lawful (checked 7 small (field 32)) (checked-lawful 7 small (field 32) (field-lawful 32))
 
 module _ (E : Edition) where
   pub entry-lawful : (sum : ℕ) → Lawful (entry E sum)
@@ -27,7 +27,7 @@ module _ (E : Edition) where
   colours-lawful zero sum = none-lawful
   colours-lawful (suc n) sum = cons-lawful (entry E sum) (λ x. colours E n (sum + x .0)) (entry-lawful sum) (λ x. colours-lawful n (sum + x .0))
 
-  colours-long : (n sum : ℕ) (s : List Colour) → T (colours E n sum .good s) → length s ≡ n
+  pub colours-long : (n sum : ℕ) (s : List Colour) → T (colours E n sum .good s) → length s ≡ n
   colours-long zero sum [] h = refl
   colours-long zero sum (x ∷ s) h = absurd h
   colours-long (suc n) sum [] h = absurd h
@@ -57,9 +57,9 @@ module _ (E : Edition) where
       (λ b h. refl) (λ a h. refl) (λ a h. tt)
 
   -- a sheet that can be written is read back
-  pub sheet-there : (x : Sheet) → T (sheet E .good x) → readOf (sheet E) (encode (sheet E) x) ≡ accepted x
-  sheet-there = decode-encode (sheet E) sheet-lawful
+  pub sheet-there : (x : Sheet) → T (sheet E .good x) → readOf faultOf (sheet E) (encode (sheet E) x) ≡ accepted x
+  sheet-there = decode-encode faultOf (sheet E) sheet-lawful
 
   -- bytes that are accepted are those that would be written
-  pub sheet-back : (b : List ℕ) (x : Sheet) → T (areBytes b) → readOf (sheet E) b ≡ accepted x → (encode (sheet E) x ≡ b) × T (sheet E .good x)
-  sheet-back = encode-decode (sheet E) sheet-lawful
+  pub sheet-back : (b : List ℕ) (x : Sheet) → T (areBytes b) → readOf faultOf (sheet E) b ≡ accepted x → (encode (sheet E) x ≡ b) × T (sheet E .good x)
+  sheet-back = encode-decode faultOf (sheet E) sheet-lawful

@@ -6,7 +6,7 @@ use mathlib.Core.List.{List}
 use lib.Dec.{leb, eqb}
 use lib.ListN.{length, take, drop}
 use Rattle.bits.specs.Bits.{num}
-use Rattle.format.specs.Format.{Res, fault, got, next, Format, field, checked, above, both, literal, cons, times, counted}
+use Rattle.format.specs.Format.{Res, fault, got, next, past, Format, field, checked, above, both, literal, cons, times, counted}
 use Rattle.format_pattern.specs.Pattern.{small, weighs}
 use Rattle.sheet_format.specs.Sheet.{Edition, opening, component, weight, tiled, coloured, sized, whole, entry, colours, tile, dated, header, rest, sheet}
 use Rattle.sheet_format.specs.Opened.{misopened}
@@ -14,7 +14,7 @@ use Rattle.sheet_format.specs.Opened.{misopened}
 module _ (k : ℕ) where
   -- a reading that fails with number k
   abbrev pub failed : {A : Type 0} → Res A → Bool
-  failed (fault n) = eqb n k
+  failed (fault n i) = eqb n k
   failed (got a r) = false
 
   -- a format that never does
@@ -22,21 +22,31 @@ module _ (k : ℕ) where
   Never F = (l : List Bool) → failed (F .parse l) ≡ false
 
   next-failed : {A B : Type 0} (x : Res A) (f : A → List Bool → Res B) → ((a : A) (r : List Bool) → failed (f a r) ≡ false) → failed (next x f) ≡ failed x
-  next-failed (fault n) f h = refl
+  next-failed (fault n i) f h = refl
   next-failed (got a r) f h = h a r
+
+  -- what it stands behind does not change its number
+  past-failed : {A : Type 0} (c : ℕ) (x : Res A) → failed (past c x) ≡ failed x
+  past-failed c (fault n i) = refl
+  past-failed c (got a r) = refl
 
   either : {A : Type 0} (t : Bool) (x y : Res A) → failed x ≡ false → failed y ≡ false → failed (cond t x y) ≡ false
   either true x y g h = g
   either false x y g h = h
 
   checked-never : {A : Type 0} (n : ℕ) (t : A → Bool) (F : Format A) → eqb n k ≡ false → Never F → Never (checked n t F)
-  checked-never n t F e h l = next-failed (F .parse l) _ (λ a r. either (t a) (got a r) (fault n) refl e) ∙ h l
+  checked-never n t F e h l = next-failed (F .parse l) _ (λ a r. either (t a) (got a r) (fault n 0) refl e) ∙ h l
+
+  both-failed : {A B : Type 0} (F : Format A) (G : A → Format B) → ((a : A) → Never (G a)) → (l : List Bool) → failed (both F G .parse l) ≡ failed (F .parse l)
+  both-failed F G g l =
+      next-failed (F .parse l) _ (λ a r. next-failed (past (F .counts a) (G a .parse r)) _ (λ b q. refl) ∙ past-failed (F .counts a) (G a .parse r) ∙ g a r)
 
   both-never : {A B : Type 0} (F : Format A) (G : A → Format B) → Never F → ((a : A) → Never (G a)) → Never (both F G)
-  both-never F G h g l = next-failed (F .parse l) _ (λ a r. next-failed (G a .parse r) _ (λ c q. refl) ∙ g a r) ∙ h l
+  both-never F G h g l = both-failed F G g l ∙ h l
 
   cons-never : {A : Type 0} (F : Format A) (G : A → Format (List A)) → Never F → ((a : A) → Never (G a)) → Never (cons F G)
-  cons-never F G h g l = next-failed (F .parse l) _ (λ a r. next-failed (G a .parse r) _ (λ s q. refl) ∙ g a r) ∙ h l
+  cons-never F G h g l =
+      next-failed (F .parse l) _ (λ a r. next-failed (past (F .counts a) (G a .parse r)) _ (λ s q. refl) ∙ past-failed (F .counts a) (G a .parse r) ∙ g a r) ∙ h l
 
   times-never : {A : Type 0} (n : ℕ) (F : Format A) → Never F → Never (times n F)
   times-never zero F h l = refl
@@ -51,18 +61,18 @@ module _ (k : ℕ) where
   literal-failed {A} w v n F l = long (leb w (length l)) (num (take w l)) (drop w l) ∙ ap (λ (b : Bool). cond (leb w (length l)) b (eqb 13 k)) (same (eqb (num (take w l)) v) (F .parse (drop w l)))
     where
       long : (t : Bool) (a : ℕ) (r : List Bool)
-          → failed (next {B = A} (cond t (got a r) (fault 13)) (λ a r. cond (eqb a v) (F .parse r) (fault n))) ≡ cond t (failed {A = A} (cond (eqb a v) (F .parse r) (fault n))) (eqb 13 k)
+          → failed (next {B = A} (cond t (got a r) (fault 13 0)) (λ a r. cond (eqb a v) (F .parse r) (fault n 0))) ≡ cond t (failed {A = A} (cond (eqb a v) (F .parse r) (fault n 0))) (eqb 13 k)
       long true a r = refl
       long false a r = refl
 
-      same : (t : Bool) (x : Res A) → failed (cond t x (fault n)) ≡ cond t (failed x) (eqb n k)
+      same : (t : Bool) (x : Res A) → failed (cond t x (fault n 0)) ≡ cond t (failed x) (eqb n k)
       same true x = refl
       same false x = refl
 
   -- ---- the fields of a sheet
   module _ (cut : eqb 13 k ≡ false) where
     field-never : (n : ℕ) → Never (field n)
-    field-never n l = either (leb n (length l)) (got (num (take n l)) (drop n l)) (fault 13) refl cut
+    field-never n l = either (leb n (length l)) (got (num (take n l)) (drop n l)) (fault 13 0) refl cut
 
     above-never : (n : ℕ) → Never (above n)
     above-never n l = next-failed (field n .parse l) (λ a r. got (suc a) r) (λ a r. refl) ∙ field-never n l
@@ -97,8 +107,7 @@ module _ (k : ℕ) where
       sheet-header : (l : List Bool) → failed (sheet E .parse l) ≡ failed (header E .parse l)
       sheet-header l =
           next-failed (both (header E) (λ h. rest E (3 * (h .0 * h .1 .0)) (h .1 .1 .0)) .parse l) (λ a r. got (whole a) r) (λ a r. refl)
-          ∙ next-failed (header E .parse l) (λ h r. next (rest E (3 * (h .0 * h .1 .0)) (h .1 .1 .0) .parse r) (λ b q. got (h, b) q))
-          (λ h r. next-failed (rest E (3 * (h .0 * h .1 .0)) (h .1 .1 .0) .parse r) (λ b q. got (h, b) q) (λ b q. refl) ∙ rest-never (3 * (h .0 * h .1 .0)) (h .1 .1 .0) r)
+          ∙ both-failed (header E) (λ h. rest E (3 * (h .0 * h .1 .0)) (h .1 .1 .0)) (λ h. rest-never (3 * (h .0 * h .1 .0)) (h .1 .1 .0)) l
 
       pub sheet-never : eqb 4 k ≡ false → eqb 12 k ≡ false → Never (sheet E)
       sheet-never e4 e12 l =

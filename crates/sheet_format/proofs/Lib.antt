@@ -1,4 +1,5 @@
 pub mod Example
 pub mod Headed
 pub mod Exact
+pub mod Light
 pub mod Faults

@@ -1,10 +1,12 @@
 -- The fit sheet as a format, over its edition: what is read and written, in field order. Definitions only. Assumes nothing.
-use Prim.Native.Nat.{ℕ, zero, suc, _+_, _*_}
+use Prim.Native.Nat.{ℕ, zero, suc, _+_, _*_, _/_}
 use mathlib.Core.Bool.{true, cond}
 use mathlib.Core.List.{List}
-use lib.Dec.{leb}
+use lib.Dec.{leb, eqb}
 use lib.ListN.{length}
-use Rattle.format.specs.Format.{Format, field, checked, mapped, above, both, literal, none, cons, times, counted, Answer, refused, readOf}
+use Rattle.answer.specs.declared.Refusal.{Refusal}
+use Rattle.answer.specs.Rules.{refusal}
+use Rattle.format.specs.Format.{Format, indexed, field, checked, mapped, above, both, literal, none, cons, times, counted, Answer, refused, readOf}
 use Rattle.format_pattern.specs.Pattern.{small, weighs}
 
 -- what differs between editions: its number, the pixels of a tile, the bits of a tile's number of colours and of a count less one
@@ -24,8 +26,13 @@ opening = 0x5446_4954
 abbrev pub headSize : ℕ
 headSize = 86
 
+-- one of a colour's three; the indexed values of a sheet
 abbrev pub component : Format ℕ
-component = checked 7 small (field 32)
+component = indexed (checked 7 small (field 32))
+
+-- a bad component names the colour that it belongs to: the palette's, then those of the tiles; no other fault names an entry
+abbrev pub faultOf : ℕ → ℕ → Refusal
+faultOf number passed = refusal number (cond (eqb number 7) (passed / 3) 0)
 
 -- a colour of a tile: its count, and three components
 abbrev pub Colour : Type 0
@@ -100,7 +107,7 @@ module _ (E : Edition) where
 
   -- the bytes of a sheet, read
   abbrev pub readSheet : List ℕ → Answer Sheet
-  readSheet s = cond (leb (length s) 65536) (readOf sheet s) (refused 13)
+  readSheet s = cond (leb (length s) 65536) (readOf faultOf sheet s) (refused (refusal 13 0))
 
   -- the bits of a sheet of s subpalettes of c colours, and t tiles of n colours in all
   abbrev pub sizeOf : ℕ → ℕ → ℕ → ℕ → ℕ

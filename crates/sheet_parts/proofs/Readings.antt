@@ -10,6 +10,9 @@ use lib.ListN.{length, getD, take}
 use lib.Seq.{length-sets}
 use lib.Ieee.{Float}
 use borrow.Author.Tests.{le-leb}
+use Rattle.answer.specs.declared.Refusal.{Refusal}
+use Rattle.answer.specs.Rules.{refusal}
+use Rattle.answer.specs.Outcome.{Outcome, outcome}
 use Rattle.format.specs.Format.{Answer, refused, accepted, encode}
 use Rattle.format.proofs.Tests.{and-in}
 use Rattle.job.specs.declared.Sizes.{Sizes}
@@ -22,7 +25,7 @@ use Rattle.sheet_format.specs.Sheet.{Sheet, edition1, sheet, readSheet}
 use Rattle.sheet_format.specs.Lists.{floats}
 use Rattle.sheet.specs.declared.Reading.{Reading}
 use Rattle.sheet.specs.declared.Reading.the-variants as reading
-use Rattle.sheet.specs.Sheets.{sizesIn, jobIn, Room, room, ReadOutcome, readOutcome, roomy, filled, readInto, readDef}
+use Rattle.sheet.specs.Sheets.{sizesIn, jobIn, Room, room, roomy, filled, readInto, readDef}
 use Rattle.sheet.proofs.Inverse.{accepted-few, accepted-job, written-read}
 use Rattle.sheet.proofs.Again.{sheet-again}
 use Rattle.sheet.proofs.Accepted.{within-limit}
@@ -123,7 +126,7 @@ module _ (b : List ℕ) (h : Room) (L : Lengths h) where
     filled-says = record { found = x; is = e; job = job-is; palette = palette-is; front = in-front }
 
   -- ---- by what the reader answered
-  module _ (r : Reading) (after : Room) (e : readOutcome r after ≡ readDef b h) where
+  module _ (r : Reading) (after : Room) (e : outcome r after ≡ readDef b h) where
     enough : roomy (length (h .tiles)) (length (h .colours)) (length (h .counts)) (length (h .palette)) ≡ true
     unfolding roomy
     enough =
@@ -131,22 +134,22 @@ module _ (b : List ℕ) (h : Room) (L : Lengths h) where
         (ap₂ (λ (x y : Bool). x && y) (le-leb 2048 (length (h .tiles)) (omega (arith, L .tiles)))
         (ap₂ (λ (x y : Bool). x && y) (le-leb 5140 (length (h .counts)) (omega (arith, L .counts))) (le-leb 15420 (length (h .colours)) (omega (arith, L .colours)))))
 
-    by-sheet : readOutcome r after ≡ readInto (readSheet edition1 b) h
+    by-sheet : outcome r after ≡ readInto (readSheet edition1 b) h
     unfolding readDef
-    by-sheet = e ∙ ap (λ (t : Bool). readInto (cond t (readSheet edition1 b) (refused 3)) h) enough
+    by-sheet = e ∙ ap (λ (t : Bool). readInto (cond t (readSheet edition1 b) (refused (refusal 3 0))) h) enough
 
-    apart : (n : ℕ) (z : Sizes) → _≡_ {A = Reading} (reading.Refused n) (reading.Sheet z) → ⊥
-    apart n z k = let f : _≡_ {A = ℕ} 0 1 = cc in omega arith
+    apart : (y : Refusal) (z : Sizes) → _≡_ {A = Reading} (reading.Refused y) (reading.Sheet z) → ⊥
+    apart y z k = let f : _≡_ {A = ℕ} 0 1 = cc in omega arith
 
-    pub refused-says : (n : ℕ) → r ≡ reading.Refused n → readSheet edition1 b ≡ refused n
-    refused-says n f = by (readSheet edition1 b) refl by-sheet
+    pub refused-says : (y : Refusal) → r ≡ reading.Refused y → readSheet edition1 b ≡ refused y
+    refused-says y f = by (readSheet edition1 b) refl by-sheet
       where
-        same : (n m : ℕ) → _≡_ {A = Reading} (reading.Refused n) (reading.Refused m) → n ≡ m
-        same n m k = cc
+        same : (y z : Refusal) → _≡_ {A = Reading} (reading.Refused y) (reading.Refused z) → y ≡ z
+        same y z k = cc
 
-        by : (x : Answer Sheet) → readSheet edition1 b ≡ x → readOutcome r after ≡ readInto x h → readSheet edition1 b ≡ refused n
-        by (refused m) k g = k ∙ ap refused (sym (same n m (sym f ∙ ap (λ (o : ReadOutcome). o .answer) g)))
-        by (accepted x) k g = absurd (apart n (sizesIn x) (sym f ∙ ap (λ (o : ReadOutcome). o .answer) g))
+        by : (x : Answer Sheet) → readSheet edition1 b ≡ x → outcome r after ≡ readInto x h → readSheet edition1 b ≡ refused y
+        by (refused z) k g = k ∙ ap refused (sym (same y z (sym f ∙ ap (λ (o : Outcome Reading Room). o .answer) g)))
+        by (accepted x) k g = absurd (apart y (sizesIn x) (sym f ∙ ap (λ (o : Outcome Reading Room). o .answer) g))
 
     pub sheet-says : T (areBytes b) → (z : Sizes) → r ≡ reading.Sheet z → Given b after z
     sheet-says bytes z f = by (readSheet edition1 b) refl by-sheet
@@ -154,8 +157,8 @@ module _ (b : List ℕ) (h : Room) (L : Lengths h) where
         same : (z y : Sizes) → _≡_ {A = Reading} (reading.Sheet z) (reading.Sheet y) → z ≡ y
         same z y k = cc
 
-        by : (x : Answer Sheet) → readSheet edition1 b ≡ x → readOutcome r after ≡ readInto x h → Given b after z
-        by (refused m) k g = absurd (apart m z (sym (ap (λ (o : ReadOutcome). o .answer) g) ∙ f))
+        by : (x : Answer Sheet) → readSheet edition1 b ≡ x → outcome r after ≡ readInto x h → Given b after z
+        by (refused y) k g = absurd (apart y z (sym (ap (λ (o : Outcome Reading Room). o .answer) g) ∙ f))
         by (accepted x) k g =
-            subst₂ (Given b) (sym (ap (λ (o : ReadOutcome). o .after) g)) (sym (same z (sizesIn x) (sym f ∙ ap (λ (o : ReadOutcome). o .answer) g)))
+            subst₂ (Given b) (sym (ap (λ (o : Outcome Reading Room). o .after) g)) (sym (same z (sizesIn x) (sym f ∙ ap (λ (o : Outcome Reading Room). o .answer) g)))
             (filled-says bytes x k)

@@ -40,7 +40,7 @@ singles-all [] = singles-floats []
 singles-all (x ∷ v) = singles-append (tileFloats x) (allFloats v) (singles-tile x) (singles-all v)
 
 -- ---- the sheet repainted
-module _ (b : List ℕ) (x : Sheet) (h : T (areBytes b)) (e : readSheet edition1 b ≡ accepted x) (q : List Float) (Q : Singles q) (ok : plainAnswer (jobIn x) q true ≡ 0) where
+module _ (b : List ℕ) (x : Sheet) (h : T (areBytes b)) (e : readSheet edition1 b ≡ accepted x) (q : List Float) (Q : Singles q) (ok : plainAnswer (jobIn x) q true .number ≡ 0) where
   passed : Plain (jobIn x) q true
   passed = plain-ready (jobIn x) q true ok
 

@@ -11,6 +11,8 @@ use lib.Seq.{sets, length-take-le}
 use lib.Ieee.{Float}
 use borrow.Author.Tests.{le-leb, lt-leb}
 use Rattle.io.specs.Counts.{Counts}
+use Rattle.answer.specs.declared.Refusal.{Refusal}
+use Rattle.answer.specs.Outcome.{Outcome, outcome}
 use Rattle.format.specs.Format.{Answer}
 use Rattle.job.specs.declared.Sizes.{Sizes}
 use Rattle.job.specs.Job.{Job}
@@ -18,19 +20,19 @@ use Rattle.fit_lines.specs.Lines.{Stored, refusedLine}
 use Rattle.sheet_format.specs.Sheet.{Sheet, edition1, readSheet}
 use Rattle.sheet.specs.declared.Reading.{Reading}
 use Rattle.sheet.specs.declared.Reading.the-variants as reading
-use Rattle.sheet.specs.Sheets.{Room, readOutcome, readDef}
+use Rattle.sheet.specs.Sheets.{Room, readDef}
 use Rattle.sheet_parts.specs.Front.{frontJob, frontPalette, Front}
-use Rattle.sheet_parts.specs.Texts.{sheetText, Printed, printed, printedIn}
+use Rattle.sheet_parts.specs.Texts.{sheetText, printedIn}
 use Rattle.sheet_parts.proofs.Readings.{Lengths, refused-says, sheet-says}
 
 -- ---- by what the reader says: the refusal's line, or what is printed for the job in the first places
-module _ (b : List ℕ) (h : Room) (L : Lengths h) (r : Reading) (after : Room) (e : readOutcome r after ≡ readDef b h) where
+module _ (b : List ℕ) (h : Room) (L : Lengths h) (r : Reading) (after : Room) (e : outcome r after ≡ readDef b h) where
   module _ (f : Job → List Float → List ℕ) (found out : List ℕ) (m : ℕ) where
     by-reading : (a : Answer Sheet) → readSheet edition1 b ≡ a → Stored found out 0 m (sheetText f a) → Stored found out 0 m (sheetText f (readSheet edition1 b))
     by-reading a k s = subst (λ (x : Answer Sheet). Stored found out 0 m (sheetText f x)) (sym k) s
 
-    pub refused-text : (n : ℕ) → r ≡ reading.Refused n → Stored found out 0 m (refusedLine n) → Stored found out 0 m (sheetText f (readSheet edition1 b))
-    refused-text n g s = by-reading _ (refused-says b h L r after e n g) s
+    pub refused-text : (y : Refusal) → r ≡ reading.Refused y → Stored found out 0 m (refusedLine (y .number)) → Stored found out 0 m (sheetText f (readSheet edition1 b))
+    refused-text y g s = by-reading _ (refused-says b h L r after e y g) s
 
     pub front-text : T (areBytes b) → (z : Sizes) → r ≡ reading.Sheet z
         → Stored found out 0 m (f (frontJob z (after .tiles) (after .colours) (after .counts)) (frontPalette z (after .palette)))
@@ -44,15 +46,15 @@ module _ (b : List ℕ) (h : Room) (L : Lengths h) (r : Reading) (after : Room) 
 
 -- ---- the outcome
 module _ (most : ℕ) (text found : List ℕ) where
-  pub no-place : length found < most → printed 0 found ≡ printedIn most text found
+  pub no-place : length found < most → outcome 0 found ≡ printedIn most text found
   unfolding printedIn
-  no-place h = sym (ap (λ (t : Bool). cond t (printed (length text) (sets found 0 text)) (printed 0 found)) (lt-leb most (length found) h))
+  no-place h = sym (ap (λ (t : Bool). cond t (outcome (length text) (sets found 0 text)) (outcome 0 found)) (lt-leb most (length found) h))
 
-  pub in-place : (out : List ℕ) (n : ℕ) → most ≤ length found → Stored found out 0 n text → printed n out ≡ printedIn most text found
+  pub in-place : (out : List ℕ) (n : ℕ) → most ≤ length found → Stored found out 0 n text → outcome n out ≡ printedIn most text found
   unfolding printedIn
   in-place out n h s =
-      ap₂ {C = Printed} (λ i l. printed i l) (s .place ∙ none (length text)) (s .text)
-      ∙ sym (ap (λ (t : Bool). cond t (printed (length text) (sets found 0 text)) (printed 0 found)) (le-leb most (length found) h))
+      ap₂ {C = Outcome ℕ (List ℕ)} (λ i l. outcome i l) (s .place ∙ none (length text)) (s .text)
+      ∙ sym (ap (λ (t : Bool). cond t (outcome (length text) (sets found 0 text)) (outcome 0 found)) (le-leb most (length found) h))
     where
       none : (n : ℕ) → 0 + n ≡ n
       none n = omega arith
@@ -61,9 +63,9 @@ module _ (most : ℕ) (text found : List ℕ) where
   counts n l h = (h, sym (length-take-le n l h))
 
   -- with the room that the program lends
-  pub nothing-told : length found < most → (printed 0 found ≡ printedIn most text found) × Counts 0 found
+  pub nothing-told : length found < most → (outcome 0 found ≡ printedIn most text found) × Counts 0 found
   nothing-told h = (no-place h, counts 0 found (omega arith))
 
   pub told : (out : List ℕ) (n : ℕ) → most ≤ length found → Stored found out 0 n text → n ≤ most → length out ≡ length found
-      → (printed n out ≡ printedIn most text found) × Counts n out
+      → (outcome n out ≡ printedIn most text found) × Counts n out
   told out n h s l k = (in-place out n h s, counts n out (omega (arith, k)))

@@ -15,7 +15,7 @@ use Rattle.sheet_pack.specs.Packed.{sheetOf}
 
 -- a job and a palette that can be written as a sheet
 pub record Writable (J : Job) (p : List Float) : Type 0 where
-  pub passed : plainAnswer J p true ≡ 0
+  pub passed : plainAnswer J p true .number ≡ 0
   pub small : length (encode (sheet edition1) (sheetOf J p)) ≤ 65536
 
 -- the colours of the first t tiles, which stand one behind the other

@@ -65,7 +65,7 @@ pub fn put_sheet(
     ensures { λ r. ⌜ Stored (now (out .entry)) (now (out .exit)) 0 r (encode (sheet edition1) (sheetOf (jobOf z (now (tiles .entry)) (now (colours .entry)) (now (counts .entry))) (now (palette .entry)))) × (r ≤ 65536) ⌝ }
 {
     match sheet::write(z, tiles, colours, counts, palette, out) {
-        sheet::Writing::Refused(n) => 0,
+        sheet::Writing::Refused(_) => 0,
         sheet::Writing::Bytes(n) => n,
     }
 }

@@ -1,4 +1,5 @@
 // Room for the fit sheet: whether lent slices hold the lists of any sheet, and whether a file has its place.
+use answer::Refusal;
 ghost use mathlib.Core.Path.{_≡_};
 ghost use Rattle.sheet_room.specs.Room.{roomy, placeFor};
 
@@ -20,15 +21,15 @@ pub fn has_room(tiles: usize, colours: usize, counts: usize, palette: usize) -> 
     15420 <= colours
 }
 
-// 0 where n bytes fit into as many as are lent, or the number of the refusal: 13 where they are too many for any sheet, 3 for room.
-pub fn place_for(n: usize, lent: usize) -> u32
+// Nothing where n bytes fit into as many as are lent, or the refusal: 13 where they are too many for any sheet, 3 for room.
+pub fn place_for(n: usize, lent: usize) -> Refusal
     ensures { λ r. ⌜ r ≡ placeFor n lent ⌝ }
 {
     if MOST_BYTES < n {
-        return 13;
+        return answer::SHEET_BYTES;
     }
     if lent < n {
-        return 3;
+        return answer::LENGTHS;
     }
-    0
+    answer::DONE
 }

@@ -14,11 +14,11 @@ fn one_tile(s: &[u8], p: usize) -> Step
 {
     let end = 8 * s.len();
     if end - p < 7 {
-        return Step::Fault(13);
+        return Step::Fault(13, 0);
     }
     let n = bits::get(s, p, 7);
     if sheet_colours::TILE_SIZE < n {
-        return Step::Fault(5);
+        return Step::Fault(5, 0);
     }
     sheet_colours::tile_colours(s, p + 7, n as usize)
 }
@@ -28,26 +28,31 @@ fn all_tiles(s: &[u8], p: usize, t: usize) -> Step
     ensures { λ r. ⌜ r ≡ stepAt (times t (tile edition1)) (now (s .entry)) p ⌝ }
 {
     let mut q = p;
+    let mut passed = 0;
     let mut i = 0;
     while i < t {
         match one_tile(s, q) {
-            Step::Fault(f) => return Step::Fault(f),
-            Step::At(z) => {
+            Step::Fault(f, k) => return Step::Fault(f, passed + k),
+            Step::At(z, k) => {
                 q = z;
+                passed += k;
                 i += 1;
             }
         }
     }
-    Step::At(q)
+    Step::At(q, passed)
 }
 
-// The palette's n components from bit p, then t tiles.
+// The palette's n components from bit p, then t tiles, whose components come after the palette's.
 pub fn palette_then_tiles(s: &[u8], p: usize, n: usize, t: usize) -> Step
     requires { ⌜ (length (now s) ≤ 65536) × (p ≤ 8 * length (now s)) ⌝ }
     ensures { λ r. ⌜ r ≡ stepAt (rest edition1 n t) (now (s .entry)) p ⌝ }
 {
     match sheet_colours::components(s, p, n) {
-        Step::Fault(f) => Step::Fault(f),
-        Step::At(q) => all_tiles(s, q, t),
+        Step::Fault(f, k) => Step::Fault(f, k),
+        Step::At(q, passed) => match all_tiles(s, q, t) {
+            Step::Fault(f, k) => Step::Fault(f, passed + k),
+            Step::At(z, k) => Step::At(z, passed + k),
+        },
     }
 }

@@ -9,20 +9,24 @@ use lib.ListN.{length}
 use lib.Ieee.{Float}
 use borrow.Author.Tests.{eq-eqb}
 use Rattle.job.specs.Job.{two}
-use Rattle.job.specs.Rules.{Passed}
+use Rattle.answer.specs.declared.Refusal.{Refusal}
+use Rattle.answer.specs.Rules.{Passed}
+use Rattle.answer.specs.Outcome.{Outcome}
+use Rattle.answer.proofs.Outcomes.{decided-refused}
 use Rattle.job.specs.Checks.{componentsFit}
 use Rattle.job.specs.Gives.{Sampled}
 use Rattle.quantizer.specs.Course.{Course}
+use Rattle.run_stages.specs.declared.Advanced.{Advanced}
 use Rattle.run_stages.specs.State.{State, draws, stops}
 use Rattle.run_stages.specs.Stages.{advance, start, handIn}
-use Rattle.run_stages.specs.Calls.{Memory, stateOf, memoryOf, Outcome, coloursRoom, jobRules, advanceAnswer, handInAnswer, startAnswer, startCall, advanceCall, handInCall}
+use Rattle.run_stages.specs.Calls.{Memory, stateOf, memoryOf, coloursRoom, jobRules, advanceAnswer, handInAnswer, startCall, advanceCall}
 use Rattle.run_calls.proofs.Cases.{decide}
 use Rattle.run_calls.specs.Fit.{Fit}
 use Rattle.run_calls.proofs.Fit.{start-fit, advance-fit}
 use Rattle.run_calls.proofs.Accepted.{job-passed, holds}
 use Rattle.run_calls.specs.Accepted.{Roomy}
 use Rattle.run_calls.proofs.Answers.{start-closed, advance-opened, advance-closed, handIn-closed}
-use Rattle.run_calls.proofs.Next.{held-state, done, refused, handIn-leaves}
+use Rattle.run_calls.proofs.Next.{held-state, start-done, advance-done, handIn-done, handIn-leaves}
 use Rattle.train_run.specs.Training.{cut, all, toStop, handCut, turn, trained, goCall, stopCall, turnCall, turnCalls, trainCalls}
 use Rattle.train_run.proofs.Cuts.{length-cut, cut-fits}
 use Rattle.train_run.proofs.Stops.{handed-late, handed-refined, handed-last, to-reduction, to-drawn, stays}
@@ -37,9 +41,8 @@ module _ (K : Course) (P : Passed (jobRules K true)) where
     pub fit : Fit K s
 
   started : (m : Memory) → Roomy K m → Holds (startCall K m 0 .after) (start K 0 (m .hints))
-  unfolding startCall
   started m r = record {
-    is = ap (λ (x : Outcome). x .after) (done (startAnswer K m) m 0 (start K 0 (m .hints)) (start-closed K m P r));
+    is = ap (λ (x : Outcome Refusal Memory). x .after) (start-done K m 0 (start-closed K m P r));
     fit = start-fit K true D 0 (m .hints) (r .hints);
   }
 
@@ -50,12 +53,11 @@ module _ (K : Course) (P : Passed (jobRules K true)) where
     where
       by : (draws (s .rec .stage) ≡ true) ⊎ (draws (s .rec .stage) ≡ false) → goCall K (memoryOf s) ≡ memoryOf (advance K all s)
       by (inl d) =
-          unfold advanceCall in
-          ap (λ (x : Outcome). x .after) (done (advanceAnswer K (memoryOf s)) (memoryOf s) _ (advance K all (stateOf (memoryOf s))) (advance-closed K (memoryOf s) (holds K s P (H .fit)) (rw (held-state s) d)))
+          ap (λ (x : Outcome Advanced Memory). x .after) (advance-done K (memoryOf s) all (advance-closed K (memoryOf s) (holds K s P (H .fit)) (rw (held-state s) d)))
           ∙ ap (λ (z : State). memoryOf (advance K all z)) (held-state s)
       by (inr d) =
           unfold advanceCall in
-          ap (λ (x : Outcome). x .after) (refused (advanceAnswer K (memoryOf s)) (memoryOf s) _ (advance K all (stateOf (memoryOf s))) (λ e. true≢false (sym (rw (held-state s) at (advance-opened K (memoryOf s) e .1)) ∙ d)))
+          ap (λ (x : Outcome Advanced Memory). x .after) (decided-refused (advanceAnswer K (memoryOf s)) _ _ (memoryOf s) (λ e. true≢false (sym (rw (held-state s) at (advance-opened K (memoryOf s) e .1)) ∙ d)))
           ∙ ap memoryOf (sym (stays K s d))
 
   -- a hand-in at a stop
@@ -69,15 +71,14 @@ module _ (K : Course) (P : Passed (jobRules K true)) where
       long : coloursRoom K (cut (memoryOf s .palette)) ≡ true
       long = unfold coloursRoom in eq-eqb _ _ (length-cut (memoryOf s .palette) ∙ ap length same ∙ H .fit .sound .held .size)
 
-      taken : handInAnswer K (memoryOf s) (cut (memoryOf s .palette)) ≡ 0
+      taken : handInAnswer K (memoryOf s) (cut (memoryOf s .palette)) .number ≡ 0
       taken =
           handIn-closed K (memoryOf s) (cut (memoryOf s .palette)) (holds K s P (H .fit)) (rw (held-state s) d) long
           (cut-fits (memoryOf s .palette) (rw same (H .fit .sound .held .bound)))
 
       left : stopCall K (memoryOf s) ≡ memoryOf (handIn K (cut (s .palette)) s)
       left =
-          unfold handInCall in
-          ap (λ (x : Outcome). x .after) (done (handInAnswer K (memoryOf s) (cut (memoryOf s .palette))) (memoryOf s) 0 (handIn K (cut (memoryOf s .palette)) (stateOf (memoryOf s))) taken)
+          ap (λ (x : Outcome Refusal Memory). x .after) (handIn-done K (memoryOf s) (cut (memoryOf s .palette)) taken)
           ∙ ap (λ (z : State). memoryOf (handIn K (cut (memoryOf s .palette)) z)) (held-state s)
           ∙ ap (λ (x : List Float). memoryOf (handIn K (cut x) s)) same
 

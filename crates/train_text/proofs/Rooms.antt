@@ -9,7 +9,9 @@ use lib.Seq.{length-take-le}
 use lib.Ieee.{Float}
 use Rattle.job.specs.Gives.{Sampled}
 use Rattle.quantizer.specs.Course.{Course}
-use Rattle.run_stages.specs.Calls.{Memory, memory, outcome, startCall}
+use Rattle.answer.specs.declared.Refusal.{Refusal}
+use Rattle.answer.specs.Outcome.{outcome}
+use Rattle.run_stages.specs.Calls.{Memory, memory, startCall}
 use Rattle.run_calls.specs.Accepted.{Roomy}
 use Rattle.run_calls.proofs.Accepted.{job-passed}
 use Rattle.train_run.specs.Training.{trained, turnCalls}
@@ -49,6 +51,6 @@ module _ (K : Course) (p : List Float) (D : Drawable K p) where
     }
 
     -- a run in them gives the trained palette
-    pub trained-there : (a : ℕ) (m₁ m₂ : Memory) → outcome a 0 m₁ ≡ startCall K lent 0 → m₂ ≡ turnCalls K 3 m₁ → m₂ .palette ≡ trainedPalette K
+    pub trained-there : (a : Refusal) (m₁ m₂ : Memory) → outcome a m₁ ≡ startCall K lent 0 → m₂ ≡ turnCalls K 3 m₁ → m₂ .palette ≡ trainedPalette K
     unfolding trainedPalette
     trained-there a m₁ m₂ e f = run-joined K a lent m₁ m₂ (D .passed) roomy e f ∙ ap (λ (x : List ℕ). trained K x .palette) (no-hint hints (K .job .T) (tiles-fit (length hints) h) z)

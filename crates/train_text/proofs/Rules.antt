@@ -1,6 +1,6 @@
 -- A job that a sheet holds passes the checks of a run over its samples, and those of the writer with another palette. Assumes nothing.
 use Prim.Native.Nat.{ℕ, _*_, _≤_}
-use mathlib.Core.Path.{_≡_, refl, sym}
+use mathlib.Core.Path.{_≡_, refl}
 use mathlib.Core.Bool.{true}
 use mathlib.Core.List.{List, _++_}
 use native.Mathlib.Omega.{arith}
@@ -10,8 +10,8 @@ use lib.Ieee.{Float}
 use borrow.Author.Tests.{eqb-true, eq-eqb, le-leb, lt-ltb}
 use Rattle.lists.proofs.Tests.{and-i}
 use Rattle.job.specs.Job.{Job, tileSize, mostSamples, two}
-use Rattle.job.specs.Rules.{Passed, numbered}
-use Rattle.job.proofs.Passing.{all-pass, pass-all}
+use Rattle.answer.specs.Rules.{Passed, numbered}
+use Rattle.answer.proofs.Passing.{all-pass, passed-number}
 use Rattle.job.specs.Checks.{tileSized, componentsFit, sampleTest, sampleFits, samplesFit, tables, boundRules, placeRules, plainRules, plainAnswer}
 use Rattle.job.specs.Gives.{Ready}
 use Rattle.job.proofs.Ready.{plain-ready}
@@ -23,7 +23,7 @@ use Rattle.train_samples.specs.Samples.{units, samplesTo, unitsTo, Countable}
 use Rattle.train_samples.proofs.Numbers.{length-samples}
 use Rattle.train_samples.proofs.Named.{sample-named}
 
-module _ (J : Job) (p : List Float) (h : plainAnswer J p true ≡ 0) where
+module _ (J : Job) (p : List Float) (h : plainAnswer J p true .number ≡ 0) where
   passed : Passed (plainRules J p true)
   unfolding plainAnswer numbered
   passed = all-pass (plainRules J p true) refl h
@@ -48,14 +48,14 @@ module _ (J : Job) (p : List Float) (h : plainAnswer J p true ≡ 0) where
   }
 
   -- with another palette
-  pub repainted : (x : List Float) → length x ≡ 3 * (J .S * J .C) → componentsFit two x ≡ true → plainAnswer J x true ≡ 0
+  pub repainted : (x : List Float) → length x ≡ 3 * (J .S * J .C) → componentsFit two x ≡ true → plainAnswer J x true .number ≡ 0
   unfolding plainAnswer
   repainted x long fit =
       let q = passed .1 .1 .1 .1 in
       let r = q .1 .1 .1 .1 in
-      let near : Passed (tables J ++ boundRules x (J .colours)) = (r .0, (r .1 .0, (r .1 .1 .0, (r .1 .1 .1 .0, (fit, (r .1 .1 .1 .1 .1 .0, tt)))))) in
-      sym (pass-all (plainRules J x true)
-      (passed .0, (passed .1 .0, (passed .1 .1 .0, (passed .1 .1 .1 .0, (q .0, (q .1 .0, (eq-eqb (length x) (3 * (J .S * J .C)) long, (refl, near)))))))))
+      let near : Passed (tables J ++ boundRules (J .S * J .C) x (J .colours)) = (r .0, (r .1 .0, (r .1 .1 .0, (r .1 .1 .1 .0, (fit, (r .1 .1 .1 .1 .1 .0, tt)))))) in
+      passed-number (plainRules J x true)
+      (passed .0, (passed .1 .0, (passed .1 .1 .0, (passed .1 .1 .1 .0, (q .0, (q .1 .0, (eq-eqb (length x) (3 * (J .S * J .C)) long, (refl, near))))))))
 
   -- with its samples
   n : ℕ

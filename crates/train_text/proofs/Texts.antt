@@ -10,7 +10,7 @@ use lib.Ieee.{Float}
 use Rattle.format.specs.Format.{encode}
 use Rattle.job.specs.Job.{Job, mostSamples}
 use Rattle.quantizer.specs.Course.{Course, course}
-use Rattle.job.specs.Rules.{Passed}
+use Rattle.answer.specs.Rules.{Passed}
 use Rattle.run_stages.specs.Calls.{jobRules}
 use Rattle.sheet_format.specs.Sheet.{edition1, sheet}
 use Rattle.sheet_pack.specs.Packed.{sheetOf}

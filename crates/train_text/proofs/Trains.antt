@@ -11,7 +11,7 @@ use lib.ListN.{replicate, length-replicate}
 use lib.Ieee.{Float}
 use borrow.Author.Tests.{ne-eqb}
 use Rattle.job.specs.Job.{Job, mostSamples}
-use Rattle.job.specs.Rules.{Passed}
+use Rattle.answer.specs.Rules.{Passed}
 use Rattle.job.specs.Checks.{plainAnswer}
 use Rattle.run_stages.specs.Calls.{Memory, memory, jobRules}
 use Rattle.run_calls.specs.Accepted.{Roomy}
@@ -39,7 +39,7 @@ module _ (J : Job) where
   text-sheet some few = by-refusal 0 (refusals.some n (λ (e : n ≡ 0). omega arith) few)
 
 -- ---- the palette
-module _ (J : Job) (p : List Float) (h : plainAnswer J p true ≡ 0) (some : 1 ≤ unitsTo (J .tiles) (J .counts) (J .T)) (few : unitsTo (J .tiles) (J .counts) (J .T) ≤ mostSamples) where
+module _ (J : Job) (p : List Float) (h : plainAnswer J p true .number ≡ 0) (some : 1 ≤ unitsTo (J .tiles) (J .counts) (J .T)) (few : unitsTo (J .tiles) (J .counts) (J .T) ≤ mostSamples) where
   pub run-taken : Passed (jobRules (unitCourse J) true)
   unfolding unitCourse
   run-taken = run-passed J p h some few
@@ -52,7 +52,7 @@ module _ (J : Job) (p : List Float) (h : plainAnswer J p true ≡ 0) (some : 1 �
   unfolding any-memory unitCourse
   its-room = record { order = length-replicate (unitCourse J .n) 0; hints = length-replicate (J .T) 0; palette = palette-long J p h; least = palette-long J p h; words = refl }
 
-  pub trained-passes : plainAnswer J (trainedPalette (unitCourse J)) true ≡ 0
+  pub trained-passes : plainAnswer J (trainedPalette (unitCourse J)) true .number ≡ 0
   unfolding trainedPalette any-memory unitCourse
   trained-passes =
       let f = trained-fits (unitCourse J) run-taken any-memory its-room in

@@ -7,7 +7,7 @@ use lib.Dec.{eqb}
 use lib.ListN.{length, replicate}
 use lib.Ieee.{Float}
 use Rattle.job.specs.Job.{Job}
-use Rattle.job.specs.Rules.{Passed}
+use Rattle.answer.specs.Rules.{Passed}
 use Rattle.quantizer.specs.Course.{Course, course}
 use Rattle.run_stages.specs.Calls.{jobRules}
 use Rattle.format.specs.Format.{encode}

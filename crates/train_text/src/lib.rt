@@ -7,11 +7,12 @@ mod trained;
 ghost use mathlib.Core.Path.{_≡_};
 ghost use Prim.Native.Nat.{_≤_};
 ghost use lib.ListN.{length};
+ghost use Rattle.answer.specs.Outcome.{outcome};
 ghost use Rattle.io.specs.Counts.{Counts};
 ghost use Rattle.fit_lines.specs.Lines.{Stored};
 ghost use Rattle.sheet_parts.specs.Front.{frontJob, Front};
 ghost use Rattle.train_text.specs.Trained.{jobText};
-ghost use Rattle.train_text.specs.Train.{trainOutcome, trainDef};
+ghost use Rattle.train_text.specs.Train.{trainDef};
 
 // The bytes that any sheet takes, at most.
 const MOST_BYTES: usize = 65536;
@@ -42,7 +43,7 @@ fn put_job(
 
 // What `train` writes for these bytes, into `out`, and how many bytes that is: none where `out` has too little room for any sheet.
 pub fn train(bytes: &[u8], out: &mut [u8]) -> usize
-    ensures { λ r. ⌜ (trainOutcome r (now (out .exit)) ≡ trainDef (now (bytes .entry)) (now (out .entry))) × Counts r (now (out .exit)) ⌝ }
+    ensures { λ r. ⌜ (outcome r (now (out .exit)) ≡ trainDef (now (bytes .entry)) (now (out .entry))) × Counts r (now (out .exit)) ⌝ }
 {
     if out.len() < MOST_BYTES {
         return 0;
@@ -52,7 +53,7 @@ pub fn train(bytes: &[u8], out: &mut [u8]) -> usize
     let mut counts = sheet_parts::counts_room();
     let mut palette = sheet_parts::palette_room();
     match sheet::read(bytes, &mut tiles, &mut colours, &mut counts, &mut palette) {
-        sheet::Reading::Refused(n) => fit_lines::put_refused(out, 0, n),
+        sheet::Reading::Refused(e) => fit_lines::put_refused(out, 0, e.number),
         sheet::Reading::Sheet(z) => put_job(z, &tiles, &colours, &counts, &mut palette, out),
     }
 }

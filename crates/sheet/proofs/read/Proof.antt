@@ -18,8 +18,8 @@ returns c = no-room _ _ _ (c .before .has-room .ensures) (c .if1 .taken)
 check-requires : tie.Need-check-requires
 check-requires c κs = search needs
 
-enum-known-n : tie.Need-enum-known-n
-enum-known-n c = search needs
+enum-known-e : tie.Need-enum-known-e
+enum-known-e c = search needs
 
 enum-known-subs : tie.Need-enum-known-subs
 enum-known-subs c = search needs
@@ -92,9 +92,9 @@ sizes-of-requires c κs = search needs
 
 returns-2 : tie.Need-returns-2
 returns-2 c =
-    let after-n = c .before in let after-check = after-n .before .before in let past-if1 = after-check .before in
+    let after-e = c .before in let after-check = after-e .before .before in let past-if1 = after-check .before in
     let after-has-room = past-if1 .before in
-    refused-out _ _ _ (after-has-room .has-room .ensures) (past-if1 .if1 .left) (after-n .n .given .0 .0) (sym (after-n .n .given .1) ∙ after-check .check .ensures)
+    refused-out _ _ _ (after-has-room .has-room .ensures) (past-if1 .if1 .left) (after-e .e .given .0 .0) (sym (after-e .e .given .1) ∙ after-check .check .ensures)
 
 same-length : tie.Need-same-length
 same-length c = search needs
@@ -124,6 +124,6 @@ returns-3 c =
 pub read-spec : {M : Type 1} → statement M
 read-spec =
     tie.close
-    (tie.spec has-room-requires returns check-requires enum-known-n enum-known-subs mul-n mul-n-2 cast-n fill-components-requires mul-fill-tiles
+    (tie.spec has-room-requires returns check-requires enum-known-e enum-known-subs mul-n mul-n-2 cast-n fill-components-requires mul-fill-tiles
     add-fill-tiles cast-fill-tiles fill-tiles-requires weight-requires cast-sizes-of cast-sizes-of-2 cast-sizes-of-3 sizes-of-requires returns-2
     same-length same-length-2 same-length-3 same-length-4 returns-3)

@@ -11,17 +11,18 @@ check-job-requires c κs = search needs
 
 returns : tie.Need-returns
 returns c =
-    job-refused _ _ (c .before .before .before .before .before .before .before .args .dst .now) _ (c .before .check-job .ensures) (c .if1 .taken)
+    let after-check-job = c .before .before in let start = after-check-job .before .before .before .before .before .before in
+    job-refused _ _ (start .args .dst .now) _ (after-check-job .check-job .ensures) (c .if1 .taken)
 
 size-of-requires : tie.Need-size-of-requires
 size-of-requires c κs =
-    let after-check-job = c .before in let start = after-check-job .before .before .before .before .before .before in
+    let after-check-job = c .before .before in let start = after-check-job .before .before .before .before .before .before in
     let R = passed _ _ (start .args .dst .now) _ (after-check-job .check-job .ensures) (c .if1 .left) .ready in
     (R .sizes .cells, R .sizes .tiles, R .total)
 
 bytes-for-requires : tie.Need-bytes-for-requires
 bytes-for-requires c κs =
-    let past-if1 = c .before in let after-check-job = past-if1 .before in
+    let past-if1 = c .before in let after-check-job = past-if1 .before .before in
     let start = after-check-job .before .before .before .before .before .before in
     let R = passed _ _ (start .args .dst .now) _ (after-check-job .check-job .ensures) (past-if1 .if1 .left) .ready in
     omega (arith, c .size-of .ensures, R .sizes .cells, R .sizes .tiles, R .total)
@@ -31,8 +32,8 @@ place-for-requires c κs = search needs
 
 returns-2 : tie.Need-returns-2
 returns-2 c =
-    let after-place-for = c .before in let after-bytes-for = after-place-for .before in let after-size-of = after-bytes-for .before in
-    let past-if1 = after-size-of .before in let after-check-job = past-if1 .before in
+    let after-place-for = c .before .before in let after-bytes-for = after-place-for .before in let after-size-of = after-bytes-for .before in
+    let past-if1 = after-size-of .before in let after-check-job = past-if1 .before .before in
     let start = after-check-job .before .before .before .before .before .before in
     no-place _ _ (start .args .dst .now) _ (after-check-job .check-job .ensures) (past-if1 .if1 .left) (after-size-of .size-of .result)
     (after-bytes-for .bytes-for .result) (after-size-of .size-of .ensures) (after-bytes-for .bytes-for .ensures) (after-place-for .place-for .result)
@@ -40,8 +41,8 @@ returns-2 c =
 
 pack-sheet-requires : tie.Need-pack-sheet-requires
 pack-sheet-requires c κs =
-    let past-if2 = c .before in let after-place-for = past-if2 .before in let after-bytes-for = after-place-for .before in
-    let after-size-of = after-bytes-for .before in let past-if1 = after-size-of .before in let after-check-job = past-if1 .before in
+    let past-if2 = c .before in let after-place-for = past-if2 .before .before in let after-bytes-for = after-place-for .before in
+    let after-size-of = after-bytes-for .before in let past-if1 = after-size-of .before in let after-check-job = past-if1 .before .before in
     let start = after-check-job .before .before .before .before .before .before in
     let P = passed _ _ (start .args .dst .now) _ (after-check-job .check-job .ensures) (past-if1 .if1 .left) in
     let k = placed (after-bytes-for .bytes-for .result) _ (after-place-for .place-for .result) (after-place-for .place-for .ensures) (past-if2 .if2 .left) in
@@ -52,9 +53,9 @@ same-length c = search needs
 
 returns-3 : tie.Need-returns-3
 returns-3 c =
-    let after-pack-sheet = c .before .before in let past-if2 = after-pack-sheet .before .before in let after-place-for = past-if2 .before in
+    let after-pack-sheet = c .before .before in let past-if2 = after-pack-sheet .before .before in let after-place-for = past-if2 .before .before in
     let after-bytes-for = after-place-for .before in let after-size-of = after-bytes-for .before in let past-if1 = after-size-of .before in
-    let after-check-job = past-if1 .before in let lent = after-check-job .before in let start = lent .before .before .before .before .before in
+    let after-check-job = past-if1 .before .before in let lent = after-check-job .before in let start = lent .before .before .before .before .before in
     let k = placed (after-bytes-for .bytes-for .result) _ (after-place-for .place-for .result) (after-place-for .place-for .ensures) (past-if2 .if2 .left) in
     file-written _ _ (start .args .dst .now) _ (after-check-job .check-job .ensures) (past-if1 .if1 .left) (after-size-of .size-of .result)
     (after-bytes-for .bytes-for .result) (after-size-of .size-of .ensures) (after-bytes-for .bytes-for .ensures) _ (k .0) (k .1)

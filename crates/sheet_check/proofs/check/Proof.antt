@@ -1,12 +1,12 @@
 -- `check` meets its contract: the head's faults come first, then those of the palette and the tiles, then what is left behind them. Assumes nothing.
 use Prim.Native.Nat.{_*_}
-use mathlib.Core.Path.{sym, _∙_}
+use mathlib.Core.Path.{sym, ap, _∙_}
 use mathlib.Core.Bool.{true, false}
 use native.Mathlib.Omega.{arith}
-use Rattle.bits.specs.Bits.{bits}
 use Rattle.sheet_format.specs.Sheet.{edition1}
 use Rattle.sheet_colours.proofs.Turns.{step-fault}
-use Rattle.sheet_check.proofs.Whole.{head-fault, Headed, headed-of, Parted, parted-of, read-long, read-head, read-rest, read-end}
+use Rattle.sheet_check.specs.declared.Checked.the-variants.{Refused}
+use Rattle.sheet_check.proofs.Whole.{Headed, headed-of, Parted, parted-of, read-long, read-head, read-rest, read-end}
 use borrow.Author.Needs.{needs}
 use Rattle.sheet_check.proofs.check.Statement.{statement}
 use Rattle.sheet_check.proofs.check.Tie as tie
@@ -17,8 +17,8 @@ returns c = read-long edition1 (c .before .before .args .s .now) (c .if1 .taken)
 head-requires : tie.Need-head-requires
 head-requires c κs = search needs
 
-enum-known-f : tie.Need-enum-known-f
-enum-known-f c = search needs
+enum-known-e : tie.Need-enum-known-e
+enum-known-e c = search needs
 
 enum-known-subs : tie.Need-enum-known-subs
 enum-known-subs c = search needs
@@ -39,7 +39,7 @@ parted : (c : tie.After-known-told4) →
 parted c =
     let z = c .before .z .given in
     let found = c .before .before .before .before .before .subs .given .0 in
-    parted-of _ (3 * (found .0 * found .1 .0)) (found .1 .1 .0) (z .0 .0) (headed (c .before .before .before .before) .long)
+    parted-of _ (3 * (found .0 * found .1 .0)) (found .1 .1 .0) (z .0 .0) (z .0 .1 .0) (headed (c .before .before .before .before) .long)
     (sym (z .1) ∙ c .before .before .before .palette-then-tiles .ensures)
 
 mul-n : tie.Need-mul-n
@@ -57,8 +57,11 @@ cast-palette-then-tiles-2 c = search needs
 palette-then-tiles-requires : tie.Need-palette-then-tiles-requires
 palette-then-tiles-requires c κs = (omega arith, headed c .long)
 
-enum-known-f-2 : tie.Need-enum-known-f-2
-enum-known-f-2 c = search needs
+enum-known-f : tie.Need-enum-known-f
+enum-known-f c = search needs
+
+fault-of-requires : tie.Need-fault-of-requires
+fault-of-requires c κs = search needs
 
 enum-known-z : tie.Need-enum-known-z
 enum-known-z c = search needs
@@ -68,17 +71,18 @@ only-spare-requires c κs = (omega arith, parted c .reach)
 
 returns-2 : tie.Need-returns-2
 returns-2 c =
-    let after-f = c .before in let after-head = after-f .before .before in let start = after-head .before .before .before in
-    read-head edition1 (start .args .s .now) (omega arith) (after-f .f .given .0 .0)
-    (head-fault _ (after-f .f .given .0 .0) (sym (after-f .f .given .1) ∙ after-head .head .ensures))
+    let after-e = c .before in let after-head = after-e .before .before in let start = after-head .before .before .before in
+    read-head edition1 (start .args .s .now) (omega arith) (after-e .e .given .0 .0) (sym (after-e .e .given .1) ∙ after-head .head .ensures)
 
 returns-3 : tie.Need-returns-3
 returns-3 c =
-    let after-f2 = c .before in let after-palette-then-tiles = after-f2 .before .before in let after-known-told2 = after-palette-then-tiles .before in
+    let after-f = c .before .before in let after-palette-then-tiles = after-f .before .before in let after-known-told2 = after-palette-then-tiles .before in
     let after-subs = after-known-told2 .before in let start = after-subs .before .before .before .before .before in let a = start .args in
-    read-rest edition1 (a .s .now) (omega arith) (after-subs .subs .given .0 .0) (after-subs .subs .given .0 .1 .0) (after-subs .subs .given .0 .1 .1 .0)
-    (after-subs .subs .given .0 .1 .1 .1 .0) _ (headed after-known-told2 .reads) (after-f2 .f2 .given .0 .0)
-    (step-fault (bits (a .s .now)) _ (after-f2 .f2 .given .0 .0) (sym (after-f2 .f2 .given .1) ∙ after-palette-then-tiles .palette-then-tiles .ensures))
+    let found = after-f .f .given in
+    ap Refused (c .fault-of .ensures)
+    ∙ read-rest edition1 (a .s .now) (omega arith) (after-subs .subs .given .0 .0) (after-subs .subs .given .0 .1 .0) (after-subs .subs .given .0 .1 .1 .0)
+    (after-subs .subs .given .0 .1 .1 .1 .0) _ (headed after-known-told2 .reads) (found .0 .0) (found .0 .1 .0)
+    (step-fault _ _ _ _ _ (sym (found .1) ∙ after-palette-then-tiles .palette-then-tiles .ensures))
 
 returns-4 : tie.Need-returns-4
 returns-4 c =
@@ -101,5 +105,5 @@ returns-5 c =
 pub check-spec : {M : Type 1} → statement M
 check-spec =
     tie.close
-    (tie.spec returns head-requires enum-known-f enum-known-subs mul-n mul-n-2 cast-palette-then-tiles cast-palette-then-tiles-2
-    palette-then-tiles-requires enum-known-f-2 enum-known-z only-spare-requires returns-2 returns-3 returns-4 returns-5)
+    (tie.spec returns head-requires enum-known-e enum-known-subs mul-n mul-n-2 cast-palette-then-tiles cast-palette-then-tiles-2
+    palette-then-tiles-requires enum-known-f fault-of-requires enum-known-z only-spare-requires returns-2 returns-3 returns-4 returns-5)

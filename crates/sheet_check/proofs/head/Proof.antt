@@ -66,16 +66,16 @@ returns-6 c =
 get-requires-4 : tie.Need-get-requires-4
 get-requires-4 c κs = search needs
 
-add-t8 : tie.Need-add-t8
-add-t8 c =
+add-t14 : tie.Need-add-t14
+add-t14 c =
     let past-if3 = c .before .before .before .before .before .before .before in let start = past-if3 .before .before .before .before .before in
     omega (arith, c .get4 .ensures, field-lt (bits (start .args .s .now)) 36 4 4 (rw length-bits (omega arith)) (omega arith))
 
 get-requires-5 : tie.Need-get-requires-5
 get-requires-5 c κs = search needs
 
-add-t10 : tie.Need-add-t10
-add-t10 c =
+add-t16 : tie.Need-add-t16
+add-t16 c =
     let after-get2 = c .before .before .before .before .before .before .before in
     let start = after-get2 .before .before .before .before .before .before in
     omega (arith, c .get5 .ensures, field-lt (bits (start .args .s .now)) 40 4 4 (rw length-bits (omega arith)) (omega arith))
@@ -83,8 +83,8 @@ add-t10 c =
 get-requires-6 : tie.Need-get-requires-6
 get-requires-6 c κs = search needs
 
-add-t12 : tie.Need-add-t12
-add-t12 c =
+add-t18 : tie.Need-add-t18
+add-t18 c =
     let past-if4 = c .before .before .before .before .before .before .before in
     let start = past-if4 .before .before .before .before .before .before .before in
     omega (arith, c .get6 .ensures, field-lt (bits (start .args .s .now)) 44 10 10 (rw length-bits (omega arith)) (omega arith))
@@ -104,4 +104,4 @@ pub head-spec : {M : Type 1} → statement M
 head-spec =
     tie.close
     (tie.spec mul-end returns get-requires returns-2 returns-3 get-requires-2 returns-4 returns-5 get-requires-3 is-weight-requires returns-6
-    get-requires-4 add-t8 get-requires-5 add-t10 get-requires-6 add-t12 returns-7)
+    get-requires-4 add-t14 get-requires-5 add-t16 get-requires-6 add-t18 returns-7)

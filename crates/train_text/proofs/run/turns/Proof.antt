@@ -82,7 +82,7 @@ loop-again c =
     let after-palette = after-cut .before .before .before .before .before .before .before in
     let after-advance = after-palette .before .before .before .before .before in
     let after-In-loop = after-advance .before .before .before .before .before .before in let at-loop = after-In-loop .before in
-    one-more _ _ _ _ (at-loop .loop .inv) (after-In-loop .loop-test .taken) _ _ _ _ _ _ (after-advance .advance .ensures) (after-cut .cut .ensures .1)
+    one-more _ _ _ _ (at-loop .loop .inv) (after-In-loop .loop-test .taken) _ _ _ _ _ (after-advance .advance .ensures) (after-cut .cut .ensures .1)
     (after-hand-in .hand-in .ensures) (after-advance .advance .kept .1 .1 .1 .1 .1 .0) (after-advance .advance .kept .1 .1 .1 .1 .1 .1 .0)
     (after-hand-in .hand-in .kept .1 .1 .1 .1 .1 .1 .0) (after-advance .advance .kept .1 .1 .1 .1 .1 .1 .1 .0) (after-hand-in .hand-in .kept .1 .1 .1 .1 .1 .1 .1 .0)
     (after-advance .advance .kept .1 .1 .1 .1 .1 .1 .1 .1 .0) (after-advance .advance .kept .1 .1 .1 .1 .1 .1 .1 .1 .1 .0)
