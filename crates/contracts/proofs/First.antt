@@ -1,18 +1,22 @@
 -- The functions keep the first demand, and so do their exports. Assumes nothing.
 use Prim.Native.Nat.{ℕ}
+use mathlib.Core.Path.{_≡_, refl}
 use mathlib.Core.List.{List}
 use lib.ListN.{length}
 use lib.Ieee.{Float}
 use Rattle.job.specs.Job.{Job, tileSize}
-use Rattle.job.specs.Rules.{answer}
+use Rattle.answer.specs.declared.Refusal.{Refusal}
+use Rattle.answer.specs.Rules.{answer}
+use Rattle.answer.specs.Outcome.{Outcome, outcome}
+use Rattle.answer.specs.Words.{word, told}
+use Rattle.answer.proofs.Words.{answer-small}
 use Rattle.job.specs.Checks.{plainRules}
 use Rattle.assign_tiles.specs.Tiles.{TileMemory}
 use Rattle.assign.specs.Assign.{roomFor, assignDef}
 use Rattle.quantizer.specs.Course.{Course}
-use Rattle.run_stages.specs.Calls.{Memory, startCall, advanceCall, handInCall, resultCall}
-use Rattle.dunkafeto.specs.Told.{toldRun, toldColours, toldTiles}
-use Rattle.dunkafeto.proofs.Apart.{start-apart, advance-apart, hand-in-apart, result-apart, assign-apart}
-use Rattle.demands.specs.First.{startRules, advanceRules, handInRules, resultRules}
+use Rattle.run_stages.specs.Calls.{Memory, startRules, advanceRules, handInRules, resultRules, startCall, advanceCall, handInCall, resultCall}
+use Rattle.dunkafeto.specs.Told.{toldAdvance}
+use Rattle.demands.specs.First.{itself}
 use Rattle.demands.proofs.First.{first-demand}
 use Rattle.contracts.specs.Start as start
 use Rattle.contracts.specs.Advance as advance
@@ -26,7 +30,7 @@ use Rattle.contracts.specs.Read as read
 use Rattle.contracts.specs.Write as write
 use Rattle.contracts.specs.Answers.{Tells}
 use Rattle.contracts.specs.Contracts.{First-kept, First-told}
-use Rattle.contracts.proofs.Keeps.{keeps, answers, alone, tells}
+use Rattle.contracts.proofs.Keeps.{keeps, answers, tells}
 use Rattle.contracts.proofs.Contracts.{contracts, exports}
 
 pub first-kept : First-kept
@@ -65,22 +69,31 @@ first-kept =
     }
 
 -- what is told of each definition, over plain arguments
+no-value : Refusal → ℕ
+no-value e = 0
+
+told-is : {M : Type 0} (x : Outcome Refusal M) → told x ≡ outcome (word (itself (x .answer)) (no-value (x .answer))) (x .after)
+unfolding told no-value
+told-is x = refl
+
 module _ (K : Course) (m : Memory) where
-  start-tells : (seed : ℕ) → Tells Memory (answer (startRules K m)) m (toldRun (startCall K m seed))
-  start-tells seed = tells (first-demand .start K m seed .call) toldRun m (start-apart K m seed .low) (unfold toldRun in alone _ m)
+  start-tells : (seed : ℕ) → Tells (answer (startRules K m)) m (told (startCall K m seed))
+  start-tells seed = tells (first-demand .start K m seed .call) no-value told told-is (answer-small (startRules K m) refl)
 
-  advance-tells : (a : ℕ) → Tells Memory (answer (advanceRules K m)) m (toldRun (advanceCall K m a))
-  advance-tells a = tells (first-demand .advance K m a .call) toldRun m (advance-apart K m a .low) (unfold toldRun in alone _ m)
+  advance-tells : (a : ℕ) → Tells (answer (advanceRules K m)) m (toldAdvance (advanceCall K m a))
+  unfolding toldAdvance
+  advance-tells a = tells (first-demand .advance K m a .call) (λ x. x .draws) toldAdvance (λ x. refl) (answer-small (advanceRules K m) refl)
 
-  hand-in-tells : (reduced : List Float) → Tells Memory (answer (handInRules K m reduced)) m (toldRun (handInCall K m reduced))
-  hand-in-tells reduced = tells (first-demand .hand-in K m reduced .call) toldRun m (hand-in-apart K m reduced .low) (unfold toldRun in alone _ m)
+  hand-in-tells : (reduced : List Float) → Tells (answer (handInRules K m reduced)) m (told (handInCall K m reduced))
+  hand-in-tells reduced = tells (first-demand .hand-in K m reduced .call) no-value told told-is (answer-small (handInRules K m reduced) refl)
 
-  result-tells : (out : List Float) → Tells (List Float) (answer (resultRules K m out)) out (toldColours (resultCall K m out))
-  result-tells out = tells (first-demand .result K m out .call) toldColours out (result-apart K m out .low) (unfold toldColours in alone _ out)
+  result-tells : (out : List Float) → Tells (answer (resultRules K m out)) out (told (resultCall K m out))
+  result-tells out = tells (first-demand .result K m out .call) no-value told told-is (answer-small (resultRules K m out) refl)
 
 assign-tells : (J : Job) (palette : List Float) (h : TileMemory)
-    → Tells TileMemory (answer (plainRules J palette (roomFor (J .T) (length (h .hints)) (length (h .out))))) h (toldTiles (assignDef J palette h))
-assign-tells J palette h = tells (first-demand .assign J palette h .call) toldTiles h (assign-apart J palette h .low) (unfold toldTiles in alone _ h)
+    → Tells (answer (plainRules J palette (roomFor (J .T) (length (h .hints)) (length (h .out))))) h (told (assignDef J palette h))
+assign-tells J palette h =
+    tells (first-demand .assign J palette h .call) no-value told told-is (answer-small (plainRules J palette (roomFor (J .T) (length (h .hints)) (length (h .out)))) refl)
 
 pub first-told : First-told
 first-told =

@@ -1,7 +1,8 @@
 -- A function whose caller sees what is defined keeps every law of what is defined. Assumes nothing.
-use Prim.Native.Nat.{ℕ, _%_}
+use Prim.Native.Nat.{ℕ, _/_, _%_, _<_}
 use mathlib.Core.Path.{_≡_, sym, ap, subst⁻¹, _∙_}
-use native.Mathlib.Nat.{zero-add}
+use mathlib.Core.Logic.{_≢_}
+use borrow.Author.Tests.{ne-eqb}
 use contract.Lifetimes.{Lfts}
 use contract.Monad.{fact-mono, fm→mono}
 use contract.Running.{givenOf}
@@ -9,7 +10,10 @@ use denote.Triple.Entry.{Args}
 use denote.Triple.Clauses.{atExit}
 use denote.Triple.Table.{run-framed}
 use denote.Triple.Weaken.{weaken}
-use Rattle.dunkafeto_told.specs.Packed.{packed, Told, told}
+use Rattle.answer.specs.declared.Refusal.{Refusal}
+use Rattle.answer.specs.Outcome.{Outcome, outcome}
+use Rattle.answer.specs.Words.{packed, valueOf, word}
+use Rattle.answer.proofs.Words.{apart}
 use Rattle.demands.specs.Calls.{Call}
 use Rattle.contracts.specs.Answers.{Answers, Tells}
 use Rattle.contracts.specs.Keeps.{Compiled, Defined, Law, promising, Keeps, Sees}
@@ -23,15 +27,26 @@ module _ {O : Type 0} (f : Compiled O) (defined : Defined f) (P : Law f) where
       fact-mono 𝓤 (x ≡ defined κs a) (P κs a x) (λ e. subst⁻¹ (P κs a) e (law κs a)))
       (𝓡 .run (f .code)) (λ vs. fm→mono 𝓤 (𝓡 .run (f .code) vs) (run-framed 𝓤 H 𝓜 𝓡 (f .code) vs)) (met M 𝓤 H 𝓜 𝓖 𝓡)
 
--- with no draws the number is the answer
-pub alone : {A : Type 0} (k : ℕ) (lent : A) → told k lent ≡ told (packed k 0) lent
-alone k lent = ap (λ (n : ℕ). told n lent) (sym (zero-add k))
-
 -- the first demand of a definition is one of what its caller sees
-module _ {O : Type 0} {definition : O} {number : O → ℕ} {table : ℕ} {refusal : ℕ → O} (c : Call O definition number table refusal) where
-  pub answers : Answers O number table refusal definition
+module _ {A M : Type 0} {definition : Outcome A M} {refusalOf : A → Refusal} {table : Refusal} {refused : Refusal → A} {lent : M} (c : Call definition refusalOf table refused lent) where
+  pub answers : Answers refusalOf table refused lent definition
   answers = record { numbered = c .numbers; refuses = c .refuses }
 
-  -- and of what an export tells of it: where the number is the remainder, and what is told of a refusal its number alone
-  pub tells : {A : Type 0} (tell : O → Told A) (lent : A) → tell definition .answer % 256 ≡ number definition → told table lent ≡ tell (refusal table) → Tells A table lent (tell definition)
-  tells tell lent low refused = record { numbered = low ∙ c .numbers; refuses = λ h. ap tell (c .refuses h) ∙ sym refused }
+  -- and of what an export tells of it: its word is made of what the answer says is wrong and of a value
+  pub tells : (value : A → ℕ) (tell : Outcome A M → Outcome ℕ M) → ((x : Outcome A M) → tell x ≡ outcome (word (refusalOf (x .answer)) (value (x .answer))) (x .after))
+      → table .number < 256 → Tells table lent (tell definition)
+  tells value tell is small =
+      let worded : tell definition .answer ≡ word table (value (definition .answer)) =
+      ap (λ (x : Outcome ℕ M). x .answer) (is definition) ∙ ap (λ (e : Refusal). word e (value (definition .answer))) (c .numbers) in
+      let parts = apart table (value (definition .answer)) small in
+      record {
+        numbered = ap (λ (k : ℕ). k % 256) worded ∙ parts .low;
+        indexed = λ h. ap (λ (k : ℕ). k / 256) worded ∙ parts .rest ∙ refused-value (value (definition .answer)) h;
+        refuses = λ h.
+            is definition ∙ ap (λ (x : Outcome A M). outcome (word (refusalOf (x .answer)) (value (x .answer))) (x .after)) (c .refuses h)
+            ∙ ap (λ (e : Refusal). outcome (word e (value (refused table))) lent) (sym (ap (λ (x : Outcome A M). refusalOf (x .answer)) (c .refuses h)) ∙ c .numbers)
+            ∙ ap (λ (k : ℕ). outcome (packed (table .number) k) lent) (refused-value (value (refused table)) h);
+      }
+    where
+      refused-value : (v : ℕ) → table .number ≢ 0 → valueOf table v ≡ table .index
+      refused-value v h = rw (ne-eqb (table .number) 0 h)

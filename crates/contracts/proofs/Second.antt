@@ -1,17 +1,18 @@
 -- Those that choose or draw keep the second demand. Assumes nothing.
 use Prim.Native.Nat.{ℕ}
-use mathlib.Core.Path.{_≡_, sym, _∙_}
+use mathlib.Core.Path.{_≡_, subst}
 use mathlib.Core.List.{List}
 use lib.ListN.{length}
 use lib.Ieee.{Float}
+use Rattle.answer.specs.declared.Refusal.{Refusal}
 use Rattle.job.specs.Job.{Job}
 use Rattle.job.specs.Checks.{plainAnswer}
 use Rattle.fits_check.specs.One.{oneAnswer, singleAnswer}
 use Rattle.assign_tiles.specs.Tiles.{TileMemory}
 use Rattle.quantizer.specs.Course.{Course}
 use Rattle.run_stages.specs.Calls.{Memory, advanceAnswer, advanceCall}
-use Rattle.fits_outcome.specs.Fits.{numberOfSingle, singleDef}
-use Rattle.fits_outcome.specs.Pairs.{numberOfPair, pairDef}
+use Rattle.fits_outcome.specs.Fits.{refusalOfSingle, singleDef}
+use Rattle.fits_outcome.specs.Pairs.{refusalOfPair, pairDef}
 use Rattle.assign.specs.Assign.{assignAnswer, assignDef}
 use Rattle.demands.proofs.First.{first-demand}
 use Rattle.demands.proofs.Second.{second-demand}
@@ -25,21 +26,21 @@ use Rattle.contracts.proofs.Contracts.{contracts}
 
 -- a number that is 0 is an answer that is 0
 module _ (J : Job) (palette : List Float) where
-  single-accepted : (hints : List ℕ) → numberOfSingle (singleDef J palette hints .answer) ≡ 0 → singleAnswer J palette (length hints) ≡ 0
+  single-accepted : (hints : List ℕ) → refusalOfSingle (singleDef J palette hints .answer) .number ≡ 0 → singleAnswer J palette (length hints) .number ≡ 0
   unfolding singleAnswer
-  single-accepted hints h = sym (first-demand .single-fit J palette hints .call .numbers) ∙ h
+  single-accepted hints h = subst (λ (r : Refusal). r .number ≡ 0) (first-demand .single-fit J palette hints .call .numbers) h
 
-  pair-accepted : (hints : List ℕ) → numberOfPair (pairDef J palette hints .answer) ≡ 0 → oneAnswer J palette (length hints) ≡ 0
+  pair-accepted : (hints : List ℕ) → refusalOfPair (pairDef J palette hints .answer) .number ≡ 0 → oneAnswer J palette (length hints) .number ≡ 0
   unfolding oneAnswer
-  pair-accepted hints h = sym (first-demand .best-two J palette hints .call .numbers) ∙ h
+  pair-accepted hints h = subst (λ (r : Refusal). r .number ≡ 0) (first-demand .best-two J palette hints .call .numbers) h
 
-  assign-accepted : (h : TileMemory) → assignDef J palette h .number ≡ 0 → assignAnswer J palette h ≡ 0
+  assign-accepted : (h : TileMemory) → assignDef J palette h .answer .number ≡ 0 → assignAnswer J palette h .number ≡ 0
   unfolding assignAnswer plainAnswer
-  assign-accepted h e = sym (first-demand .assign J palette h .call .numbers) ∙ e
+  assign-accepted h e = subst (λ (r : Refusal). r .number ≡ 0) (first-demand .assign J palette h .call .numbers) e
 
-advance-accepted : (K : Course) (m : Memory) (a : ℕ) → advanceCall K m a .number ≡ 0 → advanceAnswer K m ≡ 0
+advance-accepted : (K : Course) (m : Memory) (a : ℕ) → advanceCall K m a .answer .refusal .number ≡ 0 → advanceAnswer K m .number ≡ 0
 unfolding advanceAnswer
-advance-accepted K m a h = sym (first-demand .advance K m a .call .numbers) ∙ h
+advance-accepted K m a h = subst (λ (r : Refusal). r .number ≡ 0) (first-demand .advance K m a .call .numbers) h
 
 pub second-kept : Second-kept
 second-kept =

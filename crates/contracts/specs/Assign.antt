@@ -10,14 +10,16 @@ use denote.Ref.{now}
 use denote.Triple.Entry.{Args, Res}
 use denote.Triple.Clauses.{AtExit}
 use Rattle.job.specs.Job.{Job, sizesOf, jobOf, isEmpty}
-use Rattle.job.specs.Rules.{Rule, answer}
+use Rattle.answer.specs.declared.Refusal.{Refusal}
+use Rattle.answer.specs.Outcome.{Outcome, outcome}
+use Rattle.answer.specs.Rules.{Rule, answer}
 use Rattle.job.specs.Checks.{plainRules}
 use Rattle.palette_tile.specs.Tiles.{winner}
 use Rattle.assign_tiles.specs.Tiles.{TileMemory, tileMemory}
-use Rattle.assign.specs.Assign.{Outcome, outcome, roomFor, assignDef}
+use Rattle.assign.specs.Assign.{roomFor, assignDef}
 use Rattle.demands.specs.Second.{Chosen}
-use Rattle.dunkafeto_told.specs.Packed.{Told, told}
-use Rattle.dunkafeto.specs.Told.{toldTiles}
+use Rattle.answer.specs.Words.{told}
+use Rattle.demands.specs.First.{itself}
 use Rattle.assign.proofs.assign as function
 use Rattle.assign.proofs.assign.Symbol as symbol
 use Rattle.dunkafeto.proofs.dunkafeto_assign as export
@@ -48,21 +50,21 @@ module _ (κs : Lfts (function.signature .lifetimes)) (a : Args function.signatu
   abbrev rules : List Rule
   rules = plainRules job-given palette-given (roomFor (job-given .T) (length (tiles-lent .hints)) (length (tiles-lent .out)))
 
-  abbrev pub seen : Res function.signature κs → AtExit function.ended κs → Outcome
+  abbrev pub seen : Res function.signature κs → AtExit function.ended κs → Outcome Refusal TileMemory
   seen r e = outcome r (tiles-left e)
 
-  abbrev pub defined : Outcome
+  abbrev pub defined : Outcome Refusal TileMemory
   defined = assignDef job-given palette-given tiles-lent
 
-  abbrev pub answers : Outcome → Type 0
-  answers = Answers Outcome (λ y. y .number) (answer rules) (λ k. outcome k tiles-lent)
+  abbrev pub answers : Outcome Refusal TileMemory → Type 0
+  answers = Answers itself (answer rules) itself tiles-lent
 
   -- the second demand: where it answers 0, each tile that is not empty gets the choice, which becomes its hint
-  abbrev pub chooses : Outcome → Type 0
+  abbrev pub chooses : Outcome Refusal TileMemory → Type 0
   chooses x =
       let s = job-given .S in
       let c = job-given .C in
-      x .number ≡ 0 → (t : ℕ) → t < job-given .T → isEmpty job-given t ≡ false
+      x .answer .number ≡ 0 → (t : ℕ) → t < job-given .T → isEmpty job-given t ≡ false
       → Chosen job-given palette-given s c t
       × (getD (x .after .out) t 0 ≡ winner job-given palette-given s c t)
       × (getD (x .after .hints) t 0 ≡ winner job-given palette-given s c t)
@@ -72,17 +74,17 @@ module _ (κs : Lfts (export.signature .lifetimes)) (a : Args export.signature �
   abbrev pub forwarded : Args function.signature κs
   forwarded = (sizesOf (a .0) (a .1 .0) (a .1 .1 .0) 0 (a .1 .1 .1 .0), a .1 .1 .1 .1)
 
-  abbrev pub export-seen : Res export.signature κs → AtExit export.ended κs → Told TileMemory
-  export-seen r e = told r (tiles-left κs forwarded (forwarded .0, e .1 .1 .1 .1))
+  abbrev pub export-seen : Res export.signature κs → AtExit export.ended κs → Outcome ℕ TileMemory
+  export-seen r e = outcome r (tiles-left κs forwarded (forwarded .0, e .1 .1 .1 .1))
 
-  abbrev pub export-defined : Told TileMemory
-  export-defined = toldTiles (defined κs forwarded)
+  abbrev pub export-defined : Outcome ℕ TileMemory
+  export-defined = told (defined κs forwarded)
 
-  abbrev pub export-answers : Told TileMemory → Type 0
-  export-answers = Tells TileMemory (answer (rules κs forwarded)) (tiles-lent κs forwarded)
+  abbrev pub export-answers : Outcome ℕ TileMemory → Type 0
+  export-answers = Tells (answer (rules κs forwarded)) (tiles-lent κs forwarded)
 
-abbrev pub compiled : Compiled Outcome
+abbrev pub compiled : Compiled (Outcome Refusal TileMemory)
 compiled = record { ended = function.ended; seen = seen; code = symbol.routine }
 
-abbrev pub exported : Compiled (Told TileMemory)
+abbrev pub exported : Compiled (Outcome ℕ TileMemory)
 exported = record { ended = export.ended; seen = export-seen; code = export-symbol.routine }

@@ -9,10 +9,12 @@ use denote.Ref.{now}
 use denote.Triple.Entry.{Args, Res}
 use denote.Triple.Clauses.{AtExit}
 use Rattle.job.specs.Job.{Job, jobOf}
-use Rattle.job.specs.Rules.{answer}
+use Rattle.answer.specs.Outcome.{Outcome, outcome}
+use Rattle.answer.specs.Rules.{answer}
 use Rattle.palette_tile.specs.Tiles.{winner, twoAt}
 use Rattle.fits_check.specs.One.{oneRules}
-use Rattle.fits_outcome.specs.Pairs.{numberOfPair, PairOutcome, pairOutcome, pairDef}
+use Rattle.fits_outcome.specs.Pairs.{refusalOfPair, pairDef}
+use Rattle.fits_outcome.specs.declared.Pair.{Pair}
 use Rattle.fits_outcome.specs.declared.Pair.the-variants as pair
 use Rattle.demands.specs.Second.{Chosen}
 use Rattle.fits_two.proofs.best_two as function
@@ -33,24 +35,24 @@ module _ (κs : Lfts (function.signature .lifetimes)) (a : Args function.signatu
   abbrev pub hints-lent : List ℕ
   hints-lent = now (a .1 .1 .1 .1 .1 .0)
 
-  abbrev pub seen : Res function.signature κs → AtExit function.ended κs → PairOutcome
-  seen r e = pairOutcome r (now (e .1 .1 .1 .1 .1 .0))
+  abbrev pub seen : Res function.signature κs → AtExit function.ended κs → Outcome Pair (List ℕ)
+  seen r e = outcome r (now (e .1 .1 .1 .1 .1 .0))
 
-  abbrev pub defined : PairOutcome
+  abbrev pub defined : Outcome Pair (List ℕ)
   defined = pairDef job-given palette-given hints-lent
 
-  abbrev pub answers : PairOutcome → Type 0
+  abbrev pub answers : Outcome Pair (List ℕ) → Type 0
   answers =
-      Answers PairOutcome (λ y. numberOfPair (y .answer)) (answer (oneRules job-given palette-given (length hints-lent))) (λ k. pairOutcome (pair.Refused k) hints-lent)
+      Answers refusalOfPair (answer (oneRules job-given palette-given (length hints-lent))) pair.Refused hints-lent
 
   -- the second demand: where it answers, it answers with the choice, which becomes the hint
-  abbrev pub chooses : PairOutcome → Type 0
+  abbrev pub chooses : Outcome Pair (List ℕ) → Type 0
   chooses x =
       let s = job-given .S in
       let c = job-given .C in
-      numberOfPair (x .answer) ≡ 0
+      refusalOfPair (x .answer) .number ≡ 0
       → Chosen job-given palette-given s c 0
-      × (x ≡ pairOutcome (pair.Best (twoAt job-given palette-given s c 0)) (set hints-lent 0 (winner job-given palette-given s c 0)))
+      × (x ≡ outcome (pair.Best (twoAt job-given palette-given s c 0)) (set hints-lent 0 (winner job-given palette-given s c 0)))
 
-abbrev pub compiled : Compiled PairOutcome
+abbrev pub compiled : Compiled (Outcome Pair (List ℕ))
 compiled = record { ended = function.ended; seen = seen; code = symbol.routine }

@@ -3,10 +3,12 @@ use contract.Lifetimes.{Lfts}
 use denote.Ref.{now}
 use denote.Triple.Entry.{Args, Res}
 use denote.Triple.Clauses.{AtExit}
+use Rattle.answer.specs.Outcome.{Outcome, outcome}
 use Rattle.job.specs.Job.{tileSize}
-use Rattle.group_refusal.specs.Refusal.{Pixels, EntryRoom, given, entryRoom, refusal}
+use Rattle.group_refusal.specs.Refusal.{Pixels, EntryRoom, given, entryRoom, groupAnswer}
+use Rattle.group.specs.declared.Grouped.{Grouped}
 use Rattle.group.specs.declared.Grouped.the-variants as grouped
-use Rattle.group.specs.Group.{Outcome, outcome, numberOf, grouping}
+use Rattle.group.specs.Group.{refusalOf, grouping}
 use Rattle.group.proofs.group as function
 use Rattle.group.proofs.group.Symbol as symbol
 use Rattle.contracts.specs.Answers.{Answers}
@@ -21,16 +23,16 @@ module _ (κs : Lfts (function.signature .lifetimes)) (a : Args function.signatu
       let h = a .1 .1 .1 .1 in
       entryRoom (now (h .0)) (now (h .1 .0)) (now (h .1 .1 .0)) (now (h .1 .1 .1 .0))
 
-  abbrev pub seen : Res function.signature κs → AtExit function.ended κs → Outcome
+  abbrev pub seen : Res function.signature κs → AtExit function.ended κs → Outcome Grouped EntryRoom
   seen r e =
       let h = e .1 .1 .1 .1 in
       outcome r (entryRoom (now (h .0)) (now (h .1 .0)) (now (h .1 .1 .0)) (now (h .1 .1 .1 .0)))
 
-  abbrev pub defined : Outcome
+  abbrev pub defined : Outcome Grouped EntryRoom
   defined = grouping tileSize pixels-given room-lent
 
-  abbrev pub answers : Outcome → Type 0
-  answers = Answers Outcome (λ y. numberOf (y .answer)) (refusal tileSize pixels-given room-lent) (λ k. outcome (grouped.Refused k) room-lent)
+  abbrev pub answers : Outcome Grouped EntryRoom → Type 0
+  answers = Answers refusalOf (groupAnswer tileSize pixels-given room-lent) grouped.Refused room-lent
 
-abbrev pub compiled : Compiled Outcome
+abbrev pub compiled : Compiled (Outcome Grouped EntryRoom)
 compiled = record { ended = function.ended; seen = seen; code = symbol.routine }

@@ -5,9 +5,11 @@ use contract.Lifetimes.{Lfts}
 use denote.Ref.{now}
 use denote.Triple.Entry.{Args, Res}
 use denote.Triple.Clauses.{AtExit}
+use Rattle.answer.specs.Outcome.{Outcome, outcome}
+use Rattle.sheet.specs.declared.Reading.{Reading}
 use Rattle.sheet.specs.declared.Reading.the-variants as reading
-use Rattle.sheet.specs.Sheets.{Room, room, ReadOutcome, readOutcome, readDef}
-use Rattle.demands.specs.First.{numberOfReading, faultOf, found}
+use Rattle.sheet.specs.Sheets.{Room, room, refusalOfReading, readDef}
+use Rattle.demands.specs.First.{refusalIn, found}
 use Rattle.sheet.proofs.read as function
 use Rattle.sheet.proofs.read.Symbol as symbol
 use Rattle.contracts.specs.Answers.{Answers}
@@ -20,14 +22,14 @@ module _ (κs : Lfts (function.signature .lifetimes)) (a : Args function.signatu
   abbrev pub room-lent : Room
   room-lent = room (now (a .1 .0)) (now (a .1 .1 .0)) (now (a .1 .1 .1 .0)) (now (a .1 .1 .1 .1 .0))
 
-  abbrev pub seen : Res function.signature κs → AtExit function.ended κs → ReadOutcome
-  seen r e = readOutcome r (room (now (e .1 .0)) (now (e .1 .1 .0)) (now (e .1 .1 .1 .0)) (now (e .1 .1 .1 .1 .0)))
+  abbrev pub seen : Res function.signature κs → AtExit function.ended κs → Outcome Reading Room
+  seen r e = outcome r (room (now (e .1 .0)) (now (e .1 .1 .0)) (now (e .1 .1 .1 .0)) (now (e .1 .1 .1 .1 .0)))
 
-  abbrev pub defined : ReadOutcome
+  abbrev pub defined : Outcome Reading Room
   defined = readDef bytes-given room-lent
 
-  abbrev pub answers : ReadOutcome → Type 0
-  answers = Answers ReadOutcome (λ y. numberOfReading (y .answer)) (faultOf (found bytes-given room-lent)) (λ k. readOutcome (reading.Refused k) room-lent)
+  abbrev pub answers : Outcome Reading Room → Type 0
+  answers = Answers refusalOfReading (refusalIn (found bytes-given room-lent)) reading.Refused room-lent
 
-abbrev pub compiled : Compiled ReadOutcome
+abbrev pub compiled : Compiled (Outcome Reading Room)
 compiled = record { ended = function.ended; seen = seen; code = symbol.routine }

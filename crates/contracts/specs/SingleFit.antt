@@ -10,10 +10,12 @@ use denote.Ref.{now}
 use denote.Triple.Entry.{Args, Res}
 use denote.Triple.Clauses.{AtExit}
 use Rattle.job.specs.Job.{Job, jobOf, isEmpty}
-use Rattle.job.specs.Rules.{Rule, rule, answer}
+use Rattle.answer.specs.Outcome.{Outcome, outcome}
+use Rattle.answer.specs.Rules.{Rule, rule, answer}
 use Rattle.palette_tile.specs.Tiles.{fitAt, winner}
 use Rattle.fits_check.specs.One.{oneRules}
-use Rattle.fits_outcome.specs.Fits.{numberOfSingle, SingleOutcome, singleOutcome, singleDef}
+use Rattle.fits_outcome.specs.Fits.{refusalOfSingle, singleDef}
+use Rattle.fits_outcome.specs.declared.Single.{Single}
 use Rattle.fits_outcome.specs.declared.Single.the-variants as single
 use Rattle.demands.specs.Second.{Chosen}
 use Rattle.fits.proofs.single_fit as function
@@ -34,26 +36,26 @@ module _ (κs : Lfts (function.signature .lifetimes)) (a : Args function.signatu
   abbrev pub hints-lent : List ℕ
   hints-lent = now (a .1 .1 .1 .1 .1 .0)
 
-  abbrev pub seen : Res function.signature κs → AtExit function.ended κs → SingleOutcome
-  seen r e = singleOutcome r (now (e .1 .1 .1 .1 .1 .0))
+  abbrev pub seen : Res function.signature κs → AtExit function.ended κs → Outcome Single (List ℕ)
+  seen r e = outcome r (now (e .1 .1 .1 .1 .1 .0))
 
-  abbrev pub defined : SingleOutcome
+  abbrev pub defined : Outcome Single (List ℕ)
   defined = singleDef job-given palette-given hints-lent
 
   abbrev rules : List Rule
   rules = oneRules job-given palette-given (length hints-lent) ++ (rule 15 (not (isEmpty job-given 0)) ∷ [])
 
-  abbrev pub answers : SingleOutcome → Type 0
-  answers = Answers SingleOutcome (λ y. numberOfSingle (y .answer)) (answer rules) (λ k. singleOutcome (single.Refused k) hints-lent)
+  abbrev pub answers : Outcome Single (List ℕ) → Type 0
+  answers = Answers refusalOfSingle (answer rules) single.Refused hints-lent
 
   -- the second demand: where it answers, it answers with the choice, which becomes the hint
-  abbrev pub chooses : SingleOutcome → Type 0
+  abbrev pub chooses : Outcome Single (List ℕ) → Type 0
   chooses x =
       let s = job-given .S in
       let c = job-given .C in
-      numberOfSingle (x .answer) ≡ 0
+      refusalOfSingle (x .answer) .number ≡ 0
       → Chosen job-given palette-given s c 0
-      × (x ≡ singleOutcome (single.Best (fitAt job-given palette-given s c 0)) (set hints-lent 0 (winner job-given palette-given s c 0)))
+      × (x ≡ outcome (single.Best (fitAt job-given palette-given s c 0)) (set hints-lent 0 (winner job-given palette-given s c 0)))
 
-abbrev pub compiled : Compiled SingleOutcome
+abbrev pub compiled : Compiled (Outcome Single (List ℕ))
 compiled = record { ended = function.ended; seen = seen; code = symbol.routine }

@@ -7,10 +7,12 @@ use denote.Ref.{now}
 use denote.Triple.Entry.{Args, Res}
 use denote.Triple.Clauses.{AtExit}
 use Rattle.job.specs.Job.{Job, jobOf}
-use Rattle.job.specs.Rules.{answer}
+use Rattle.answer.specs.Outcome.{Outcome, outcome}
+use Rattle.answer.specs.Rules.{answer}
+use Rattle.sheet.specs.declared.Writing.{Writing}
 use Rattle.sheet.specs.declared.Writing.the-variants as writing
-use Rattle.sheet.specs.Sheets.{WriteOutcome, writeOutcome, writeDef}
-use Rattle.demands.specs.First.{numberOfWriting, writeRules}
+use Rattle.sheet.specs.Sheets.{refusalOfWriting, writeDef}
+use Rattle.demands.specs.First.{writeRules}
 use Rattle.sheet.proofs.write as function
 use Rattle.sheet.proofs.write.Symbol as symbol
 use Rattle.contracts.specs.Answers.{Answers}
@@ -29,14 +31,14 @@ module _ (κs : Lfts (function.signature .lifetimes)) (a : Args function.signatu
   abbrev pub bytes-lent : List ℕ
   bytes-lent = now (a .1 .1 .1 .1 .1 .0)
 
-  abbrev pub seen : Res function.signature κs → AtExit function.ended κs → WriteOutcome
-  seen r e = writeOutcome r (now (e .1 .1 .1 .1 .1 .0))
+  abbrev pub seen : Res function.signature κs → AtExit function.ended κs → Outcome Writing (List ℕ)
+  seen r e = outcome r (now (e .1 .1 .1 .1 .1 .0))
 
-  abbrev pub defined : WriteOutcome
+  abbrev pub defined : Outcome Writing (List ℕ)
   defined = writeDef job-given palette-given bytes-lent
 
-  abbrev pub answers : WriteOutcome → Type 0
-  answers = Answers WriteOutcome (λ y. numberOfWriting (y .answer)) (answer (writeRules job-given palette-given bytes-lent)) (λ k. writeOutcome (writing.Refused k) bytes-lent)
+  abbrev pub answers : Outcome Writing (List ℕ) → Type 0
+  answers = Answers refusalOfWriting (answer (writeRules job-given palette-given bytes-lent)) writing.Refused bytes-lent
 
-abbrev pub compiled : Compiled WriteOutcome
+abbrev pub compiled : Compiled (Outcome Writing (List ℕ))
 compiled = record { ended = function.ended; seen = seen; code = symbol.routine }

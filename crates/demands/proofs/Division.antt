@@ -6,14 +6,17 @@ use native.Mathlib.Omega.{arith}
 use lib.ListN.{length}
 use lib.Ieee.{Float}
 use Rattle.quantizer.specs.Course.{Course}
+use Rattle.answer.specs.declared.Refusal.{Refusal}
+use Rattle.answer.specs.Outcome.{Outcome}
+use Rattle.run_stages.specs.declared.Advanced.{Advanced}
 use Rattle.run_stages.specs.State.{State}
 use Rattle.run_stages.specs.Stages.{advance, drawsOf, handIn}
-use Rattle.run_stages.specs.Calls.{Memory, memory, recordOf, wordsOf, stateOf, memoryOf, Outcome, advanceAnswer, handInAnswer, advanceCall, handInCall}
-use Rattle.run_calls.proofs.Traces.{Trace, drew, took, advance-trace, one-end}
+use Rattle.run_stages.specs.Calls.{Memory, memory, recordOf, wordsOf, stateOf, memoryOf, advanceAnswer, handInAnswer, advanceCall, handInCall}
+use Rattle.run_calls.proofs.Traces.{Trace, took, advance-trace, one-end}
 use Rattle.run_calls.proofs.Traces as traces
 use Rattle.run_calls.specs.Accepted.{Accepted}
 use Rattle.run_calls.proofs.Answers.{advance-opened, handIn-opened}
-use Rattle.run_calls.proofs.Next.{held-state, done, advanced-state, handed-state}
+use Rattle.run_calls.proofs.Next.{held-state, advance-done, handIn-done, advanced-state, handed-state}
 use Rattle.demands.specs.Third.{Row, none, advanced, handedIn, Any-division}
 
 -- six words are those of the record that they are read as
@@ -39,17 +42,17 @@ module _ (K : Course) where
   written : (m : Memory) (s : State) → m ≡ memoryOf s → Whole m
   written m s e = ap (λ (x : Memory). memoryOf (stateOf x)) e ∙ ap memoryOf (held-state s) ∙ sym e
 
-  advance-whole : (m : Memory) (a : ℕ) → advanceAnswer K m ≡ 0 → Whole (advanceCall K m a .after)
+  advance-whole : (m : Memory) (a : ℕ) → advanceAnswer K m .number ≡ 0 → Whole (advanceCall K m a .after)
   unfolding advanceCall
-  advance-whole m a h = written _ (advance K a (stateOf m)) (ap (λ (o : Outcome). o .after) (done (advanceAnswer K m) m (drawsOf K a (stateOf m)) (advance K a (stateOf m)) h))
+  advance-whole m a h = written _ (advance K a (stateOf m)) (ap (λ (o : Outcome Advanced Memory). o .after) (advance-done K m a h))
 
-  handIn-whole : (m : Memory) (reduced : List Float) → handInAnswer K m reduced ≡ 0 → Whole (handInCall K m reduced .after)
+  handIn-whole : (m : Memory) (reduced : List Float) → handInAnswer K m reduced .number ≡ 0 → Whole (handInCall K m reduced .after)
   unfolding handInCall
-  handIn-whole m reduced h = written _ (handIn K reduced (stateOf m)) (ap (λ (o : Outcome). o .after) (done (handInAnswer K m reduced) m 0 (handIn K reduced (stateOf m)) h))
+  handIn-whole m reduced h = written _ (handIn K reduced (stateOf m)) (ap (λ (o : Outcome Refusal Memory). o .after) (handIn-done K m reduced h))
 
-  advance-drew : (m : Memory) (a : ℕ) → advanceAnswer K m ≡ 0 → advanceCall K m a .drew ≡ drawsOf K a (stateOf m)
+  advance-drew : (m : Memory) (a : ℕ) → advanceAnswer K m .number ≡ 0 → advanceCall K m a .answer .draws ≡ drawsOf K a (stateOf m)
   unfolding advanceCall
-  advance-drew m a h = ap (λ (o : Outcome). o .drew) (done (advanceAnswer K m) m (drawsOf K a (stateOf m)) (advance K a (stateOf m)) h)
+  advance-drew m a h = ap (λ (o : Outcome Advanced Memory). o .answer .draws) (advance-done K m a h)
 
   row-whole : {m x : Memory} {hs : List (List Float)} {d : ℕ} → Row K m hs d x → Whole m → Whole x
   row-whole none w = w

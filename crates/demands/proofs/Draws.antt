@@ -29,9 +29,11 @@ use Rattle.quantizer.specs.Drawing.{targetOf, moved, movedHints}
 use Rattle.quantizer.proofs.Bounds.{sample-sized}
 use Rattle.quantizer.proofs.Indexes.{target-in}
 use Rattle.quantizer.proofs.Lengths.{length-moved, length-moved-hints}
+use Rattle.answer.specs.Outcome.{Outcome}
+use Rattle.run_stages.specs.declared.Advanced.{Advanced}
 use Rattle.run_stages.specs.State.{State, draws}
 use Rattle.run_stages.specs.Stages.{due, subsOf, haveOf, alphaOf, draw, drawWith, going, step, advance, drawsOf}
-use Rattle.run_stages.specs.Calls.{Memory, stateOf, Outcome, advanceAnswer, advanceCall}
+use Rattle.run_stages.specs.Calls.{Memory, stateOf, advanceAnswer, advanceCall}
 use Rattle.run_stages.specs.History.{sampleAt, sampled}
 use Rattle.run_calls.proofs.Cases.{decide}
 use Rattle.run_calls.proofs.Whilsts.{whilst-zero, whilst-step, whilst-stop, times-zero, times-step, times-stop}
@@ -43,7 +45,7 @@ use Rattle.run_calls.proofs.Fit.{step-fit}
 use Rattle.run_calls.specs.Accepted.{Accepted}
 use Rattle.run_calls.proofs.Accepted.{job-passed}
 use Rattle.run_calls.proofs.Answers.{advance-opened}
-use Rattle.run_calls.proofs.Next.{done, advanced-state}
+use Rattle.run_calls.proofs.Next.{advance-done, advanced-state}
 use Rattle.demands.specs.Second.{gaps, Chosen, Moves, Draws, none, drawn}
 use Rattle.demands.proofs.Fits.{chosen}
 
@@ -154,17 +156,17 @@ module _ (K : Course) (m : Memory) where
   draw-moves A = fit-moves K true (job-passed K true (A .passed)) (stateOf m) (A .fit)
 
   -- an accepted advance is as many draws as it reports
-  pub advance-moves : (a : ℕ) → advanceAnswer K m ≡ 0 → Draws K (stateOf m) (sampled K a (stateOf m)) (stateOf (advanceCall K m a .after))
+  pub advance-moves : (a : ℕ) → advanceAnswer K m .number ≡ 0 → Draws K (stateOf m) (sampled K a (stateOf m)) (stateOf (advanceCall K m a .after))
   advance-moves a h =
       let A = advance-opened K m h .0 in
       subst⁻¹ (Draws K (stateOf m) (sampled K a (stateOf m))) (advanced-state K m a h) (fit-draws K true (job-passed K true (A .passed)) a (stateOf m) (A .fit))
 
-  pub advance-many : (a : ℕ) → advanceAnswer K m ≡ 0 → length (sampled K a (stateOf m)) ≡ advanceCall K m a .drew
+  pub advance-many : (a : ℕ) → advanceAnswer K m .number ≡ 0 → length (sampled K a (stateOf m)) ≡ advanceCall K m a .answer .draws
   unfolding advanceCall
-  advance-many a h = sampled-many K a (stateOf m) ∙ sym (ap (λ (x : Outcome). x .drew) (done (advanceAnswer K m) m (drawsOf K a (stateOf m)) (advance K a (stateOf m)) h))
+  advance-many a h = sampled-many K a (stateOf m) ∙ sym (ap (λ (x : Outcome Advanced Memory). x .answer .draws) (advance-done K m a h))
 
   -- by one draw inside a round nothing else is due: memory before and after
-  pub one-draw : advanceAnswer K m ≡ 0 → 2 ≤ getD (m .words) 3 0 → stateOf (advanceCall K m 1 .after) ≡ draw K (stateOf m)
+  pub one-draw : advanceAnswer K m .number ≡ 0 → 2 ≤ getD (m .words) 3 0 → stateOf (advanceCall K m 1 .after) ≡ draw K (stateOf m)
   one-draw h l =
       let A = advance-opened K m h in
       advanced-state K m 1 h ∙ whilst-step going (step K) 0 (stateOf m) (A .1) ∙ whilst-zero going (step K) (step K (stateOf m)) ∙ (unfold step in settle-idle K (draw K (stateOf m)) idle)
@@ -176,5 +178,5 @@ module _ (K : Course) (m : Memory) where
           more true n h = ne-eqb (n - 1) 0 (λ (e : n - 1 ≡ 0). omega arith)
           more false n h = refl
 
-  pub one-moves : advanceAnswer K m ≡ 0 → 2 ≤ getD (m .words) 3 0 → Moves K (sampleAt (stateOf m)) (stateOf m) (stateOf (advanceCall K m 1 .after))
+  pub one-moves : advanceAnswer K m .number ≡ 0 → 2 ≤ getD (m .words) 3 0 → Moves K (sampleAt (stateOf m)) (stateOf m) (stateOf (advanceCall K m 1 .after))
   one-moves h l = subst⁻¹ (Moves K (sampleAt (stateOf m)) (stateOf m)) (one-draw h l) (draw-moves (advance-opened K m h .0))

@@ -17,7 +17,7 @@ use Rattle.stats.proofs.Examples.{smallest-two-of-2-1-1, smallest-two-of-5}
 use Rattle.stats_extremes.proofs.Examples.{argmax-of-1-3-3, argmin-of-2-1-1}
 use Rattle.stats.specs.declared.Near.{Near}
 use Rattle.job.specs.Job.{job}
-use Rattle.job.specs.Rules.{answer}
+use Rattle.answer.specs.Rules.{answer}
 use Rattle.job.specs.Checks.{tileSized, among, within, weightFits, tileTest, tileFits, tilesFit, countTest, countFits, partFits, tileCountsFit, countsFit, firstNot, componentFits, firstBad, sampleTest, sampleFits, samplesFit, plainAnswer}
 use Rattle.palette.proofs.Example.{middle-first}
 use Rattle.color.proofs.Example.{half-way}
@@ -60,7 +60,7 @@ module _ (K : Course) (seed : ℕ) {m : Memory} {ds : List ℕ} (r : Run K seed 
 
 -- one of each, from any seed
 module _ (seed : ℕ) where
-  accepted-starts : (startAnswer (oneColour 1 1 10) (blank 1 1 10) ≡ 0) × (startAnswer (oneColour 2 2 25) (blank 2 2 25) ≡ 0)
+  accepted-starts : (startAnswer (oneColour 1 1 10) (blank 1 1 10) .number ≡ 0) × (startAnswer (oneColour 2 2 25) (blank 2 2 25) .number ≡ 0)
   unfolding startAnswer memoryRoom coloursRoom answer tileSized among weightFits tilesFit tileFits tileTest countsFit tileCountsFit partFits countFits countTest
       firstBad firstNot componentFits within samplesFit sampleFits sampleTest every sum ofBits neg le lt eq
   accepted-starts = (refl, refl)
@@ -83,7 +83,7 @@ module _ (a c hint d w x y z : ℕ) where
   abbrev lent : TileMemory
   lent = tileMemory (a ∷ c ∷ hint ∷ d ∷ []) (w ∷ x ∷ y ∷ z ∷ [])
 
-  accepted : assignAnswer sheetJob sheetPalette lent ≡ 0
+  accepted : assignAnswer sheetJob sheetPalette lent .number ≡ 0
   unfolding assignAnswer plainAnswer answer roomFor tileSized among weightFits tilesFit tileFits tileTest countsFit tileCountsFit partFits countFits countTest
       firstBad firstNot componentFits within every sum ofBits neg le lt eq
   accepted = refl

@@ -45,16 +45,16 @@ module _ (K : Course) where
 
   -- ---- one call nearer
   module _ (m : Memory) where
-    after-advance : advanceAnswer K m ≡ 0 → ahead K (advanceCall K m 1 .after) < ahead K m
+    after-advance : advanceAnswer K m .number ≡ 0 → ahead K (advanceCall K m 1 .after) < ahead K m
     after-advance h = omega (arith, advance-nearer K m 1 h, advance-draws K m 0 h)
 
-    after-hand-in : handInAnswer K m noughts ≡ 0 → ahead K (handInCall K m noughts .after) < ahead K m
+    after-hand-in : handInAnswer K m noughts .number ≡ 0 → ahead K (handInCall K m noughts .after) < ahead K m
     after-hand-in h = omega (arith, hand-in-nearer K m noughts h)
 
-    by-advance : advanceAnswer K m ≡ 0 → Ending K (advanceCall K m 1 .after) → Ending K m
-    by-advance h E = record { hand-ins = E .hand-ins; drawn = advanceCall K m 1 .drew + E .drawn; last = E .last; row = advanced 1 h (E .row); stage = E .stage }
+    by-advance : advanceAnswer K m .number ≡ 0 → Ending K (advanceCall K m 1 .after) → Ending K m
+    by-advance h E = record { hand-ins = E .hand-ins; drawn = advanceCall K m 1 .answer .draws + E .drawn; last = E .last; row = advanced 1 h (E .row); stage = E .stage }
 
-    by-hand-in : handInAnswer K m noughts ≡ 0 → Ending K (handInCall K m noughts .after) → Ending K m
+    by-hand-in : handInAnswer K m noughts .number ≡ 0 → Ending K (handInCall K m noughts .after) → Ending K m
     by-hand-in h E = record { hand-ins = noughts ∷ E .hand-ins; drawn = E .drawn; last = E .last; row = handedIn noughts h (E .row); stage = E .stage }
 
     here : getD (m .words) 1 0 ≡ 7 → Ending K m
@@ -81,7 +81,7 @@ module _ (K : Course) where
   reached : (m : Memory) → Accepted K m → Ending K m
   reached m A = ending (ahead K m) m A (le-refl (ahead K m))
 
-  finishes : (m : Memory) (seed : ℕ) → startAnswer K m ≡ 0 → Finished K seed
+  finishes : (m : Memory) (seed : ℕ) → startAnswer K m .number ≡ 0 → Finished K seed
   finishes m seed h =
       let E = reached (startCall K m seed .after) (start-leaves K m seed h) in
       run-on K seed (history.started m h) (E .row) (E .stage)

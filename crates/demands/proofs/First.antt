@@ -1,121 +1,166 @@
 -- The ten public calls keep the first demand. Assumes nothing.
 use Prim.Native.Nat.{ℕ}
-use mathlib.Core.Path.{_≡_, refl, sym, ap, subst⁻¹, _∙_}
-use mathlib.Core.Bool.{Bool, true, false, not, cond}
-use mathlib.Core.List.{List, [], _∷_, _++_}
-use lib.Dec.{eqb, leb}
+use mathlib.Core.Path.{_≡_, refl, sym, ap, subst, subst⁻¹, _∙_}
+use mathlib.Core.Bool.{Bool, true, false, not, cond, _&&_}
+use mathlib.Core.List.{List, [], _∷_, _++_, append-nil}
+use lib.Dec.{eqb, leb, ltb}
 use lib.ListN.{length}
 use lib.Seq.{sets}
 use lib.Ieee.{Float}
+use borrow.Author.Tests.{ne-eqb}
+use Rattle.answer.specs.declared.Refusal.{Refusal}
+use Rattle.answer.specs.Rules.{refusal, nothing, Rule, rule, answer, numbered}
+use Rattle.answer.specs.Names.{Names}
+use Rattle.answer.specs.Outcome.{Outcome, outcome, decided}
+use Rattle.answer.proofs.Passing.{answer-then}
+use Rattle.answer.proofs.Places.{plain, plain-then, aside}
 use Rattle.job.specs.Job.{Job, isEmpty}
-use Rattle.job.specs.Rules.{Rule, rule, answer, numbered}
-use Rattle.job.proofs.Passing.{answer-then}
 use Rattle.job.specs.Checks.{plainRules, plainAnswer}
-use Rattle.fits_outcome.specs.Fits.{numberOfSingle, SingleOutcome, singleOutcome, singleDef}
-use Rattle.fits_outcome.specs.Pairs.{numberOfPair, PairOutcome, pairOutcome, pairDef}
+use Rattle.job.specs.Bad.{plainNames}
+use Rattle.job.proofs.Indexes.{Placed, unplaced, plain-placed}
+use Rattle.fits_outcome.specs.Fits.{refusalOfSingle, singleDef}
+use Rattle.fits_outcome.specs.Pairs.{refusalOfPair, pairDef}
 use Rattle.fits_check.specs.One.{oneRules, oneAnswer, singleAnswer}
 use Rattle.fits_outcome.specs.declared.Single.the-variants as single
 use Rattle.fits_outcome.specs.declared.Pair.the-variants as pair
-use Rattle.assign.specs.Assign as assigning
-use Rattle.group_refusal.specs.Refusal.{Pixels, EntryRoom, refusal}
+use Rattle.assign.specs.Assign.{TileMemory, roomFor, assignAnswer, assignDef}
+use Rattle.group_refusal.specs.Refusal.{Pixels, EntryRoom, groupAnswer}
+use Rattle.group_refusal.proofs.Names.{answer-names, accepted-nothing}
 use Rattle.group.specs.declared.Grouped.the-variants as grouped
 use Rattle.group.specs.Group as groups
-use Rattle.format.specs.Format.{Answer, refused as faulty, accepted}
-use Rattle.sheet_format.specs.Sheet.{Sheet}
+use Rattle.bits.specs.Bits.{bits}
+use Rattle.format.specs.Format.{Res, fault, got, clear, Answer, refused, accepted, ended}
+use Rattle.sheet_format.specs.Sheet.{Sheet, edition1, sheet, faultOf}
 use Rattle.sheet.specs.declared.Reading.the-variants as reading
+use Rattle.sheet.specs.declared.Writing.{Writing}
 use Rattle.sheet.specs.declared.Writing.the-variants as writing
-use Rattle.sheet.specs.Sheets.{Room, ReadOutcome, readOutcome, readInto, readDef, WriteOutcome, writeOutcome, storedIn, writeDef}
+use Rattle.sheet.specs.Sheets.{Room, roomy, refusalOfReading, readInto, readDef, refusalOfWriting, storedIn, writeDef}
 use Rattle.quantizer.specs.Course.{Course}
-use Rattle.run_stages.specs.Calls.{Memory, Outcome, outcome, answered, Copied, copiedTo, startAnswer, advanceAnswer, handInAnswer, resultAnswer, startCall, advanceCall, handInCall, resultCall}
+use Rattle.run_stages.specs.Calls.{Memory, advanced, startRules, advanceRules, handInRules, resultRules, startAnswer, advanceAnswer, handInAnswer, resultAnswer, startCall, advanceCall, handInCall, resultCall}
+use Rattle.run_calls.specs.Names.{startNames, runNames, handInNames}
+use Rattle.run_calls.proofs.Indexes.{start-placed, advance-placed, handIn-placed, result-placed}
 use Rattle.demands.specs.Calls.{Call, Ruled}
-use Rattle.demands.specs.First.{refused, startRules, advanceRules, handInRules, resultRules, numberOfReading, faultOf, found, numberOfWriting, file, writeRules, First}
-use Rattle.demands.proofs.Calls.{decided, decides, ruled}
+use Rattle.demands.specs.First.{itself, refusalIn, found, colourNames, file, writeRules, First}
+use Rattle.demands.proofs.Calls.{decides, ruled}
 
 -- ---- start, advance, hand-in, result
 module _ (K : Course) (m : Memory) where
-  start : (seed : ℕ) → Ruled Outcome (startCall K m seed) (λ x. x .number) (startRules K m) (refused m)
-  unfolding startCall startAnswer answered numbered
-  start seed = ruled Outcome (λ x. x .number) (refused m) (λ k. refl) _ refl (startRules K m) refl
+  start : (seed : ℕ) → Ruled (startCall K m seed) itself (startRules K m) itself m (startNames K)
+  unfolding startCall startAnswer numbered
+  start seed = ruled itself itself (λ e. refl) _ refl m (startRules K m) refl (startNames K) (start-placed K m .0)
 
-  advance : (a : ℕ) → Ruled Outcome (advanceCall K m a) (λ x. x .number) (advanceRules K m) (refused m)
-  unfolding advanceCall advanceAnswer answered numbered
-  advance a = ruled Outcome (λ x. x .number) (refused m) (λ k. refl) _ refl (advanceRules K m) refl
+  advance : (a : ℕ) → Ruled (advanceCall K m a) (λ x. x .refusal) (advanceRules K m) (λ e. advanced e 0) m (runNames K m)
+  unfolding advanceCall advanceAnswer numbered
+  advance a = ruled (λ x. x .refusal) (λ e. advanced e 0) (λ e. refl) _ refl m (advanceRules K m) refl (runNames K m) (advance-placed K m .0)
 
-  hand-in : (reduced : List Float) → Ruled Outcome (handInCall K m reduced) (λ x. x .number) (handInRules K m reduced) (refused m)
-  unfolding handInCall handInAnswer answered numbered
-  hand-in reduced = ruled Outcome (λ x. x .number) (refused m) (λ k. refl) _ refl (handInRules K m reduced) refl
+  hand-in : (reduced : List Float) → Ruled (handInCall K m reduced) itself (handInRules K m reduced) itself m (handInNames K m reduced)
+  unfolding handInCall handInAnswer numbered
+  hand-in reduced = ruled itself itself (λ e. refl) _ refl m (handInRules K m reduced) refl (handInNames K m reduced) (handIn-placed K m reduced .0)
 
-  result : (out : List Float) → Ruled Copied (resultCall K m out) (λ x. x .number) (resultRules K m out) (λ k. copiedTo k out)
+  result : (out : List Float) → Ruled (resultCall K m out) itself (resultRules K m out) itself out (runNames K m)
   unfolding resultCall resultAnswer numbered
-  result out = ruled Copied (λ x. x .number) (λ k. copiedTo k out) (λ k. refl) _ refl (resultRules K m out) refl
+  result out = ruled itself itself (λ e. refl) _ refl out (resultRules K m out) refl (runNames K m) (result-placed K m out .0)
 
 -- ---- the single fit, best_two, assign
 module _ (J : Job) (palette : List Float) where
+  -- rules that name no entry, before and behind those of every call without samples
+  plain-index : (before : List Rule) (room : Bool) (behind : List Rule) → plain (aside (plainNames J palette)) before ≡ true → plain (aside (plainNames J palette)) behind ≡ true
+      → Names (plainNames J palette) (answer (before ++ (plainRules J palette room ++ behind)))
+  plain-index before room behind b e =
+      plain-then (Placed (plainNames J palette)) (aside (plainNames J palette)) (unplaced (plainNames J palette)) before (plainRules J palette room ++ behind) b (λ _. plain-placed J palette room behind (λ _. last)) .0
+    where
+      last : Placed (plainNames J palette) (answer behind)
+      last = subst (λ (rs : List Rule). Placed (plainNames J palette) (answer rs)) (append-nil behind)
+          (plain-then (Placed (plainNames J palette)) (aside (plainNames J palette)) (unplaced (plainNames J palette)) behind [] e
+          (λ _. unfold answer in unplaced (plainNames J palette) 0 refl))
+
   single-fit : (hints : List ℕ)
-      → Ruled SingleOutcome (singleDef J palette hints) (λ x. numberOfSingle (x .answer)) (oneRules J palette (length hints) ++ (rule 15 (not (isEmpty J 0)) ∷ []))
-      (λ k. singleOutcome (single.Refused k) hints)
+      → Ruled (singleDef J palette hints) refusalOfSingle (oneRules J palette (length hints) ++ (rule 15 (not (isEmpty J 0)) ∷ [])) single.Refused hints (plainNames J palette)
   unfolding singleDef singleAnswer numbered
   single-fit hints =
-      ruled SingleOutcome (λ x. numberOfSingle (x .answer)) (λ k. singleOutcome (single.Refused k) hints) (λ k. refl) _ refl
-      (oneRules J palette (length hints) ++ (rule 15 (not (isEmpty J 0)) ∷ [])) refl
+      ruled refusalOfSingle single.Refused (λ e. refl) _ refl hints (oneRules J palette (length hints) ++ (rule 15 (not (isEmpty J 0)) ∷ [])) refl (plainNames J palette)
+      (plain-index (rule 2 (eqb (J .T) 1) ∷ []) (eqb (length hints) (J .T)) (rule 15 (not (isEmpty J 0)) ∷ []) refl refl)
 
-  best-two : (hints : List ℕ)
-      → Ruled PairOutcome (pairDef J palette hints) (λ x. numberOfPair (x .answer)) (oneRules J palette (length hints)) (λ k. pairOutcome (pair.Refused k) hints)
+  best-two : (hints : List ℕ) → Ruled (pairDef J palette hints) refusalOfPair (oneRules J palette (length hints)) pair.Refused hints (plainNames J palette)
   unfolding pairDef oneAnswer numbered
   best-two hints =
-      ruled PairOutcome (λ x. numberOfPair (x .answer)) (λ k. pairOutcome (pair.Refused k) hints) (λ k. refl) _ refl (oneRules J palette (length hints)) refl
+      ruled refusalOfPair pair.Refused (λ e. refl) _ refl hints (oneRules J palette (length hints)) refl (plainNames J palette)
+      (plain-index (rule 2 (eqb (J .T) 1) ∷ []) (eqb (length hints) (J .T)) [] refl refl)
 
-  assign : (h : assigning.TileMemory)
-      → Ruled assigning.Outcome (assigning.assignDef J palette h) (λ x. x .number)
-      (plainRules J palette (assigning.roomFor (J .T) (length (h .hints)) (length (h .out)))) (λ k. assigning.outcome k h)
-  unfolding assigning.assignDef assigning.assignAnswer plainAnswer numbered
+  assign : (h : TileMemory)
+      → Ruled (assignDef J palette h) itself (plainRules J palette (roomFor (J .T) (length (h .hints)) (length (h .out)))) itself h (plainNames J palette)
+  unfolding assignDef assignAnswer plainAnswer numbered
   assign h =
-      ruled assigning.Outcome (λ x. x .number) (λ k. assigning.outcome k h) (λ k. refl) _ refl
-      (plainRules J palette (assigning.roomFor (J .T) (length (h .hints)) (length (h .out)))) refl
+      let room = roomFor (J .T) (length (h .hints)) (length (h .out)) in
+      ruled itself itself (λ e. refl) _ refl h (plainRules J palette room) refl (plainNames J palette) (plain-index [] room [] refl refl)
 
--- ---- grouping: `refusal` is 2, 3, then pixel by pixel 7 before 14
-grouping : (size : ℕ) (q : Pixels) (m : EntryRoom)
-    → Call groups.Outcome (groups.grouping size q m) (λ x. groups.numberOf (x .answer)) (refusal size q m) (λ k. groups.outcome (grouped.Refused k) m)
+-- ---- grouping: `groupAnswer` is 2, 3, then pixel by pixel 7 before 14
+grouping : (size : ℕ) (q : Pixels) (m : EntryRoom) → Call (groups.grouping size q m) groups.refusalOf (groupAnswer size q m) grouped.Refused m
 unfolding groups.grouping
-grouping size q m = decides groups.Outcome (λ x. groups.numberOf (x .answer)) (λ k. groups.outcome (grouped.Refused k) m) (λ k. refl) _ refl (refusal size q m)
+grouping size q m = decides groups.refusalOf grouped.Refused (λ e. refl) _ refl m (groupAnswer size q m) (λ z. sym (accepted-nothing size q m z))
 
 -- ---- the sheet's reader: 3 for room, then 13 for size, then the first fault in field order (Sheets: 0, 3, 12 and 13 exactly when)
-read-sheet : (bytes : List ℕ) (h : Room) → Call ReadOutcome (readDef bytes h) (λ x. numberOfReading (x .answer)) (faultOf (found bytes h)) (λ k. readOutcome (reading.Refused k) h)
+read-sheet : (bytes : List ℕ) (h : Room) → Call (readDef bytes h) refusalOfReading (refusalIn (found bytes h)) reading.Refused h
 unfolding readDef
 read-sheet bytes h = by (found bytes h)
   where
-    by : (a : Answer Sheet) → Call ReadOutcome (readInto a h) (λ x. numberOfReading (x .answer)) (faultOf a) (λ k. readOutcome (reading.Refused k) h)
-    by (faulty k) = record { only = λ x y e f. e ∙ sym f; numbers = refl; refuses = λ n. refl }
-    by (accepted x) = record { only = λ x y e f. e ∙ sym f; numbers = refl; refuses = λ n. absurd (n refl) }
+    by : (a : Answer Sheet) → Call (readInto a h) refusalOfReading (refusalIn a) reading.Refused h
+    by (refused e) = record { only = λ x y p q. p ∙ sym q; numbers = refl; refuses = λ n. refl }
+    by (accepted x) = record { only = λ x y p q. p ∙ sym q; numbers = refl; refuses = λ n. absurd (n refl) }
+
+read-index : (bytes : List ℕ) (h : Room) → Names colourNames (refusalIn (found bytes h))
+read-index bytes h = by (roomy (length (h .tiles)) (length (h .colours)) (length (h .counts)) (length (h .palette))) (leb (length bytes) 65536) (sheet edition1 .parse (bits bytes))
+  where
+    none : (number : ℕ) → Names colourNames (refusal number 0)
+    none number = (λ _. tt, λ _. refl)
+
+    last : (b : Bool) (x : Sheet) → Names colourNames (refusalIn (cond b (accepted x) (refused (refusal 13 0))))
+    last true x = none 0
+    last false x = none 13
+
+    parsed : (x : Res Sheet) → Names colourNames (refusalIn (ended faultOf x))
+    parsed (fault n i) = (λ _. tt, λ h. rw (ne-eqb n 7 h))
+    parsed (got x r) = last (ltb (length r) 8 && clear r) x
+
+    by : (r s : Bool) (x : Res Sheet) → Names colourNames (refusalIn (cond r (cond s (ended faultOf x) (refused (refusal 13 0))) (refused (refusal 3 0))))
+    by true true x = parsed x
+    by true false x = none 13
+    by false s x = none 3
 
 -- ---- its writer: as for fitting, then 13, then 3 for room
 module _ (J : Job) (palette : List Float) (bytes : List ℕ) where
-  abbrev unwritten : ℕ → WriteOutcome
-  unwritten k = writeOutcome (writing.Refused k) bytes
+  abbrev unwritten : Refusal → Outcome Writing (List ℕ)
+  unwritten e = outcome (writing.Refused e) bytes
 
-  abbrev written : WriteOutcome
-  written = writeOutcome (writing.Bytes (length (file J palette))) (sets bytes 0 (file J palette))
+  abbrev written : Outcome Writing (List ℕ)
+  written = outcome (writing.Bytes (length (file J palette))) (sets bytes 0 (file J palette))
 
   in-order : (rules : List Rule) (p q : Bool) → numbered rules ≡ true
-      → cond (eqb (answer rules) 0) (cond p (cond q written (unwritten 3)) (unwritten 13)) (unwritten (answer rules))
-      ≡ decided (answer (rules ++ (rule 13 p ∷ rule 3 q ∷ []))) unwritten written
-  in-order rules p q h = by (answer rules) (eqb (answer rules) 0) p q refl ∙ ap (λ (k : ℕ). decided k unwritten written) (sym numbered-so)
+      → decided (answer rules) (cond p (cond q written (unwritten (refusal 3 0))) (unwritten (refusal 13 0))) (writing.Refused (answer rules)) bytes
+      ≡ decided (answer (rules ++ (rule 13 p ∷ rule 3 q ∷ []))) written (writing.Refused (answer (rules ++ (rule 13 p ∷ rule 3 q ∷ [])))) bytes
+  unfolding decided
+  in-order rules p q h =
+      by (answer rules) (eqb (answer rules .number) 0) p q refl
+      ∙ ap (λ (e : Refusal). cond (eqb (e .number) 0) written (unwritten e)) (sym joined)
     where
-      numbered-so : answer (rules ++ (rule 13 p ∷ rule 3 q ∷ [])) ≡ cond (eqb (answer rules) 0) (cond p (cond q 0 3) 13) (answer rules)
-      numbered-so = unfold answer in answer-then rules (rule 13 p ∷ rule 3 q ∷ []) h
+      joined : answer (rules ++ (rule 13 p ∷ rule 3 q ∷ [])) ≡ cond (eqb (answer rules .number) 0) (cond p (cond q nothing (refusal 3 0)) (refusal 13 0)) (answer rules)
+      joined = unfold answer in answer-then rules (rule 13 p ∷ rule 3 q ∷ []) h
 
-      by : (a : ℕ) (t p q : Bool) → eqb a 0 ≡ t → cond t (cond p (cond q written (unwritten 3)) (unwritten 13)) (unwritten a) ≡ decided (cond t (cond p (cond q 0 3) 13) a) unwritten written
+      by : (a : Refusal) (t p q : Bool) → eqb (a .number) 0 ≡ t
+          → cond t (cond p (cond q written (unwritten (refusal 3 0))) (unwritten (refusal 13 0))) (unwritten a)
+          ≡ (let e = cond t (cond p (cond q nothing (refusal 3 0)) (refusal 13 0)) a in cond (eqb (e .number) 0) written (unwritten e))
       by a true true true e = refl
       by a true true false e = refl
       by a true false q e = refl
       by a false p q e = rw e
 
-  write-sheet : Ruled WriteOutcome (writeDef J palette bytes) (λ x. numberOfWriting (x .answer)) (writeRules J palette bytes) unwritten
+  write-sheet : Ruled (writeDef J palette bytes) refusalOfWriting (writeRules J palette bytes) writing.Refused bytes (plainNames J palette)
   unfolding writeDef storedIn plainAnswer numbered
   write-sheet =
-      subst⁻¹ (λ (d : WriteOutcome). Ruled WriteOutcome d (λ x. numberOfWriting (x .answer)) (writeRules J palette bytes) unwritten)
+      subst⁻¹ (λ (d : Outcome Writing (List ℕ)). Ruled d refusalOfWriting (writeRules J palette bytes) writing.Refused bytes (plainNames J palette))
       (in-order (plainRules J palette true) (leb (length (file J palette)) 65536) (leb (length (file J palette)) (length bytes)) refl)
-      (ruled WriteOutcome (λ x. numberOfWriting (x .answer)) unwritten (λ k. refl) written refl (writeRules J palette bytes) refl)
+      (ruled refusalOfWriting writing.Refused (λ e. refl) written refl bytes (writeRules J palette bytes) refl (plainNames J palette)
+      (plain-index J palette [] true (rule 13 (leb (length (file J palette)) 65536) ∷ rule 3 (leb (length (file J palette)) (length bytes)) ∷ []) refl refl))
 
 pub first-demand : First
 first-demand =
@@ -128,6 +173,8 @@ first-demand =
       best-two = best-two;
       assign = assign;
       grouping = grouping;
+      grouping-index = answer-names;
       read-sheet = read-sheet;
+      read-index = read-index;
       write-sheet = write-sheet;
     }

@@ -1,5 +1,5 @@
 -- The choice for a tile, and the calls that answer with it. Assumes nothing.
-use Prim.Native.Nat.{ℕ, _≤_, _<_}
+use Prim.Native.Nat.{ℕ, _<_}
 use mathlib.Core.Path.{_≡_, refl, sym, ap, _∙_}
 use mathlib.Core.Bool.{Bool, true, false, not, cond}
 use mathlib.Core.List.{List, [], _∷_}
@@ -8,13 +8,16 @@ use native.Mathlib.Omega.{arith}
 use lib.Dec.{eqb}
 use lib.ListN.{length, getD, set}
 use lib.Ieee.{Float, binary32}
-use borrow.Author.Tests.{eqb-true, eq-eqb}
+use borrow.Author.Tests.{eqb-true}
 use Rattle.lists.proofs.Tests.{and-l, and-r}
 use Rattle.ieee.specs.Terms.{Good}
 use Rattle.stats.specs.declared.Near.{Near}
 use Rattle.job.specs.Job.{Job, isEmpty}
-use Rattle.job.specs.Rules.{rule, answer, numbered}
-use Rattle.job.proofs.Passing.{goes, fails, both-pass}
+use Rattle.answer.specs.declared.Refusal.{Refusal}
+use Rattle.answer.specs.Rules.{refusal, nothing, rule, answer, numbered}
+use Rattle.answer.specs.Outcome.{Outcome, outcome, decided}
+use Rattle.answer.proofs.Outcomes.{decided-done}
+use Rattle.answer.proofs.Passing.{goes, fails, both-pass}
 use Rattle.job.specs.Checks.{plainAnswer}
 use Rattle.job.specs.Gives.{Plain}
 use Rattle.job.proofs.Ready.{plain-ready}
@@ -24,8 +27,8 @@ use Rattle.stats.proofs.Next.{next-has, next-alone, infinite-first, infinite-ne
 use Rattle.palette.proofs.Sums.{dist-good}
 use Rattle.palette_tile.specs.Tiles.{tileAt, presentIn, fitAt, winner, twoAt, Shown}
 use Rattle.palette_tile.proofs.Present.{first-of-two, shown-present, tile-counted}
-use Rattle.fits_outcome.specs.Fits.{singleOutcome, singleDef}
-use Rattle.fits_outcome.specs.Pairs.{pairOutcome, pairDef}
+use Rattle.fits_outcome.specs.Fits.{singleDef}
+use Rattle.fits_outcome.specs.Pairs.{pairDef}
 use Rattle.fits_check.specs.One.{oneRules, oneAnswer, singleAnswer}
 use Rattle.fits_outcome.specs.declared.Single.the-variants as single
 use Rattle.fits_outcome.specs.declared.Pair.the-variants as pair
@@ -33,7 +36,7 @@ use Rattle.fits_two.proofs.Empty.{empty-one, empty-many}
 use Rattle.fits.proofs.Shown.{shown}
 use Rattle.fits_check.proofs.Passes.{one-tile, one-plain}
 use Rattle.assign_tiles.specs.Tiles.{TileMemory, tileMemory, assigned, subpaletteOf, subpalettes, hintOf}
-use Rattle.assign.specs.Assign.{Outcome, outcome, roomFor, assignAnswer, assignDef}
+use Rattle.assign.specs.Assign.{roomFor, assignAnswer, assignDef}
 use Rattle.assign.proofs.Reading.{subpalette-at, hint-at}
 use Rattle.demands.specs.Second.{distances, Chosen, Single-fit, Best-two, Assign}
 
@@ -62,88 +65,91 @@ module _ (J : Job) (palette : List Float) (n have : ℕ) (P : Shown J palette n 
 
 -- ---- the single fit and best_two
 -- an answer that goes by the hints' number alone is one answer, whatever the hints and what is left in them
-any-hint : {R O : Type 0} (make : R → List ℕ → O) (told : O → R) → ((r : R) (x : List ℕ) → told (make r x) ≡ r) → (number : ℕ → ℕ) (best : R) (refusal : ℕ → R) (left : List ℕ → List ℕ) (h k : List ℕ) → length h ≡ length k
-    → told (cond (eqb (number (length h)) 0) (make best (left h)) (make (refusal (number (length h))) h)) ≡ told (cond (eqb (number (length k)) 0) (make best (left k)) (make (refusal (number (length k))) k))
-any-hint {R} make told same number best refusal left h k e = by h (eqb (number (length h)) 0) ∙ ap (λ (n : ℕ). cond (eqb (number n) 0) best (refusal (number n))) e ∙ sym (by k (eqb (number (length k)) 0))
+any-hint : {R : Type 0} (table : ℕ → Refusal) (best : R) (refused : Refusal → R) (left : List ℕ → List ℕ) (h k : List ℕ) → length h ≡ length k
+    → decided (table (length h)) (outcome best (left h)) (refused (table (length h))) h .answer ≡ decided (table (length k)) (outcome best (left k)) (refused (table (length k))) k .answer
+unfolding decided
+any-hint {R} table best refused left h k e =
+    by h (eqb (table (length h) .number) 0) ∙ ap (λ (n : ℕ). cond (eqb (table n .number) 0) best (refused (table n))) e ∙ sym (by k (eqb (table (length k) .number) 0))
   where
-    by : (x : List ℕ) (t : Bool) → told (cond t (make best (left x)) (make (refusal (number (length x))) x)) ≡ cond t best (refusal (number (length x)))
-    by x true = same best (left x)
-    by x false = same (refusal (number (length x))) x
+    by : (x : List ℕ) (t : Bool) → cond t (outcome best (left x)) (outcome (refused (table (length x))) x) .answer ≡ cond t best (refused (table (length x)))
+    by x true = refl
+    by x false = refl
 
 module _ (J : Job) (palette : List Float) where
   -- a tile that passed is answered with its choice, which becomes its hint
-  single-chooses : (hints : List ℕ) → singleAnswer J palette (length hints) ≡ 0
+  single-chooses : (hints : List ℕ) → singleAnswer J palette (length hints) .number ≡ 0
       → Chosen J palette (J .S) (J .C) 0
-      × (singleDef J palette hints ≡ singleOutcome (single.Best (fitAt J palette (J .S) (J .C) 0)) (set hints 0 (winner J palette (J .S) (J .C) 0)))
+      × (singleDef J palette hints ≡ outcome (single.Best (fitAt J palette (J .S) (J .C) 0)) (set hints 0 (winner J palette (J .S) (J .C) 0)))
   single-chooses hints z =
-      let first : oneAnswer J palette (length hints) ≡ 0 = unfold singleAnswer oneAnswer numbered in both-pass (oneRules J palette (length hints)) (rule 15 (not (isEmpty J 0)) ∷ []) refl z .0 in (
+      let first : oneAnswer J palette (length hints) .number ≡ 0 = unfold singleAnswer oneAnswer numbered in both-pass (oneRules J palette (length hints)) (rule 15 (not (isEmpty J 0)) ∷ []) refl z .0 in (
         chosen J palette (J .S) (J .C) (shown J palette _ (one-plain J palette (length hints) first)) 0 (le-of-eq (sym (one-tile J palette (length hints) first))),
-        (unfold singleDef in rw (eq-eqb (singleAnswer J palette (length hints)) 0 z)),
+        (unfold singleDef in decided-done (singleAnswer J palette (length hints)) _ _ hints z),
       )
 
-  pair-chooses : (hints : List ℕ) → oneAnswer J palette (length hints) ≡ 0
+  pair-chooses : (hints : List ℕ) → oneAnswer J palette (length hints) .number ≡ 0
       → Chosen J palette (J .S) (J .C) 0
-      × (pairDef J palette hints ≡ pairOutcome (pair.Best (twoAt J palette (J .S) (J .C) 0)) (set hints 0 (winner J palette (J .S) (J .C) 0)))
+      × (pairDef J palette hints ≡ outcome (pair.Best (twoAt J palette (J .S) (J .C) 0)) (set hints 0 (winner J palette (J .S) (J .C) 0)))
   pair-chooses hints z =
       let present = shown J palette _ (one-plain J palette (length hints) z) in
       let first : 0 < J .T = le-of-eq (sym (one-tile J palette (length hints) z)) in
       let c = chosen J palette (J .S) (J .C) present 0 first in
-      let answered : pairDef J palette hints ≡ pairOutcome (pair.Best (twoAt J palette (J .S) (J .C) 0)) (set hints 0 (twoAt J palette (J .S) (J .C) 0 .index)) =
-      unfold pairDef in rw (eq-eqb (oneAnswer J palette (length hints)) 0 z) in (
+      let answered : pairDef J palette hints ≡ outcome (pair.Best (twoAt J palette (J .S) (J .C) 0)) (set hints 0 (twoAt J palette (J .S) (J .C) 0 .index)) =
+      unfold pairDef in decided-done (oneAnswer J palette (length hints)) _ _ hints z in (
         c,
-        answered ∙ ap (λ (k : ℕ). pairOutcome (pair.Best (twoAt J palette (J .S) (J .C) 0)) (set hints 0 k)) (c .first),
+        answered ∙ ap (λ (k : ℕ). outcome (pair.Best (twoAt J palette (J .S) (J .C) 0)) (set hints 0 k)) (c .first),
       )
 
   -- whatever the hint: any two give one answer
   single-any-hint : (h k : List ℕ) → length h ≡ length k → singleDef J palette h .answer ≡ singleDef J palette k .answer
   unfolding singleDef
-  single-any-hint = any-hint singleOutcome (λ o. o .answer) (λ r x. refl) (singleAnswer J palette) (single.Best (fitAt J palette (J .S) (J .C) 0)) single.Refused (λ x. set x 0 (winner J palette (J .S) (J .C) 0))
+  single-any-hint = any-hint (singleAnswer J palette) (single.Best (fitAt J palette (J .S) (J .C) 0)) single.Refused (λ x. set x 0 (winner J palette (J .S) (J .C) 0))
 
   pair-any-hint : (h k : List ℕ) → length h ≡ length k → pairDef J palette h .answer ≡ pairDef J palette k .answer
   unfolding pairDef
-  pair-any-hint = any-hint pairOutcome (λ o. o .answer) (λ r x. refl) (oneAnswer J palette) (pair.Best (twoAt J palette (J .S) (J .C) 0)) pair.Refused (λ x. set x 0 (twoAt J palette (J .S) (J .C) 0 .index))
+  pair-any-hint = any-hint (oneAnswer J palette) (pair.Best (twoAt J palette (J .S) (J .C) 0)) pair.Refused (λ x. set x 0 (twoAt J palette (J .S) (J .C) 0 .index))
 
   -- an empty tile, where all else passed: the single fit answers 15, and best_two as `empty-one` and `empty-many` say
-  single-empty : (hints : List ℕ) → oneAnswer J palette (length hints) ≡ 0 → isEmpty J 0 ≡ true → singleAnswer J palette (length hints) ≡ 15
+  single-empty : (hints : List ℕ) → oneAnswer J palette (length hints) .number ≡ 0 → isEmpty J 0 ≡ true → singleAnswer J palette (length hints) ≡ refusal 15 0
   unfolding singleAnswer oneAnswer numbered
   single-empty hints z e =
-      sym (goes (oneRules J palette (length hints)) (rule 15 (not (isEmpty J 0)) ∷ []) (answer (oneRules J palette (length hints))) 15 refl refl z (fails 15 (not (isEmpty J 0)) [] (rw e)))
+      sym (goes (oneRules J palette (length hints)) (rule 15 (not (isEmpty J 0)) ∷ []) (answer (oneRules J palette (length hints))) (refusal 15 0) refl refl z (fails (rule 15 (not (isEmpty J 0))) [] (rw e)))
 
 -- ---- assign
 -- whatever the hints: any two lists of them give one number, and each tile one subpalette
 assign-any-hints : (J : Job) (palette : List Float) (out h k : List ℕ) → length h ≡ length k
-    → (assignDef J palette (tileMemory h out) .number ≡ assignDef J palette (tileMemory k out) .number)
+    → (assignDef J palette (tileMemory h out) .answer ≡ assignDef J palette (tileMemory k out) .answer)
     × (assignDef J palette (tileMemory h out) .after .out ≡ assignDef J palette (tileMemory k out) .after .out)
-assign-any-hints J palette out h k e = (number h ∙ ap (λ (n : ℕ). cond (eqb (table n) 0) 0 (table n)) e ∙ sym (number k), left h ∙ ap (λ (n : ℕ). cond (eqb (table n) 0) all out) e ∙ sym (left k))
+assign-any-hints J palette out h k e =
+    (told h ∙ ap (λ (n : ℕ). cond (eqb (table n .number) 0) nothing (table n)) e ∙ sym (told k), left h ∙ ap (λ (n : ℕ). cond (eqb (table n .number) 0) all out) e ∙ sym (left k))
   where
-    table : ℕ → ℕ
+    table : ℕ → Refusal
     table n = plainAnswer J palette (roomFor (J .T) n (length out))
 
     all : List ℕ
     all = subpalettes J palette out (J .T)
 
-    number-by : (t : Bool) (n : ℕ) (x y : TileMemory) → cond t (outcome 0 x) (outcome n y) .number ≡ cond t 0 n
-    number-by true n x y = refl
-    number-by false n x y = refl
+    told-by : (t : Bool) (r : Refusal) (x y : TileMemory) → cond t (outcome nothing x) (outcome r y) .answer ≡ cond t nothing r
+    told-by true r x y = refl
+    told-by false r x y = refl
 
-    left-by : (t : Bool) (n : ℕ) (x y : TileMemory) → cond t (outcome 0 x) (outcome n y) .after .out ≡ cond t (x .out) (y .out)
-    left-by true n x y = refl
-    left-by false n x y = refl
+    left-by : (t : Bool) (r : Refusal) (x y : TileMemory) → cond t (outcome nothing x) (outcome r y) .after .out ≡ cond t (x .out) (y .out)
+    left-by true r x y = refl
+    left-by false r x y = refl
 
-    number : (x : List ℕ) → assignDef J palette (tileMemory x out) .number ≡ cond (eqb (table (length x)) 0) 0 (table (length x))
-    number x = unfold assignDef assignAnswer in number-by (eqb (table (length x)) 0) (table (length x)) (assigned J palette (tileMemory x out) (J .T)) (tileMemory x out)
+    told : (x : List ℕ) → assignDef J palette (tileMemory x out) .answer ≡ cond (eqb (table (length x) .number) 0) nothing (table (length x))
+    told x = unfold assignDef assignAnswer decided in told-by (eqb (table (length x) .number) 0) (table (length x)) (assigned J palette (tileMemory x out) (J .T)) (tileMemory x out)
 
-    left : (x : List ℕ) → assignDef J palette (tileMemory x out) .after .out ≡ cond (eqb (table (length x)) 0) all out
-    left x = unfold assignDef assignAnswer assigned in left-by (eqb (table (length x)) 0) (table (length x)) (assigned J palette (tileMemory x out) (J .T)) (tileMemory x out)
+    left : (x : List ℕ) → assignDef J palette (tileMemory x out) .after .out ≡ cond (eqb (table (length x) .number) 0) all out
+    left x = unfold assignDef assignAnswer assigned decided in left-by (eqb (table (length x) .number) 0) (table (length x)) (assigned J palette (tileMemory x out) (J .T)) (tileMemory x out)
 
-module _ (J : Job) (palette : List Float) (h : TileMemory) (z : assignAnswer J palette h ≡ 0) where
+module _ (J : Job) (palette : List Float) (h : TileMemory) (z : assignAnswer J palette h .number ≡ 0) where
   plain : Plain J palette (roomFor (J .T) (length (h .hints)) (length (h .out)))
   unfolding assignAnswer
   plain = plain-ready J palette (roomFor (J .T) (length (h .hints)) (length (h .out))) z
 
-  done : assignDef J palette h ≡ outcome 0 (assigned J palette h (J .T))
+  done : assignDef J palette h ≡ outcome nothing (assigned J palette h (J .T))
   unfolding assignDef
-  done = rw (eq-eqb (assignAnswer J palette h) 0 z)
+  done = decided-done (assignAnswer J palette h) _ _ h z
 
   room : (length (h .hints) ≡ J .T) × (length (h .out) ≡ J .T)
   unfolding roomFor
@@ -153,10 +159,10 @@ module _ (J : Job) (palette : List Float) (h : TileMemory) (z : assignAnswer J p
 
   module _ (t : ℕ) (l : t < J .T) where
     out-at : getD (assignDef J palette h .after .out) t 0 ≡ subpaletteOf J palette t
-    out-at = ap (λ (x : Outcome). getD (x .after .out) t 0) done ∙ (unfold assigned in subpalette-at J palette (h .out) (J .T) t (le-of-eq (sym (room .1))) l)
+    out-at = ap (λ (x : Outcome Refusal TileMemory). getD (x .after .out) t 0) done ∙ (unfold assigned in subpalette-at J palette (h .out) (J .T) t (le-of-eq (sym (room .1))) l)
 
     hint-left : getD (assignDef J palette h .after .hints) t 0 ≡ hintOf J palette (h .hints) t
-    hint-left = ap (λ (x : Outcome). getD (x .after .hints) t 0) done ∙ (unfold assigned in hint-at J palette (h .hints) (J .T) t (le-of-eq (sym (room .0))) l)
+    hint-left = ap (λ (x : Outcome Refusal TileMemory). getD (x .after .hints) t 0) done ∙ (unfold assigned in hint-at J palette (h .hints) (J .T) t (le-of-eq (sym (room .0))) l)
 
     -- each tile that is not empty gets its choice, whatever its hint was, and it becomes the hint
     assign-chooses : isEmpty J t ≡ false

@@ -10,6 +10,7 @@ use lib.Pow.{areBytes}
 use lib.ListN.{length, take}
 use lib.Seq.{sets}
 use lib.Ieee.{Float}
+use Rattle.answer.specs.Outcome.{Outcome, outcome}
 use Rattle.format.specs.Format.{Answer, refused, accepted, encode}
 use Rattle.job.specs.Checks.{plainAnswer}
 use Rattle.sheet_format.specs.Sheet.{Sheet, edition1, sheet, readSheet}
@@ -24,16 +25,16 @@ use Rattle.fit_lines.specs.Lines.{refusedLine}
 use Rattle.train_run.proofs.Singles.{trained-singles}
 use Rattle.train_samples.proofs.Accepted as refusals
 use Rattle.train_text.specs.Trained.{unitCourse, trainedPalette, trainedFile}
-use Rattle.train_text.specs.Train.{textOf, TrainOutcome, trainOutcome, trainDef}
+use Rattle.train_text.specs.Train.{textOf, trainDef}
 use Rattle.train_text.proofs.Sheets.{no-place, printed}
 use Rattle.train_text.proofs.Trains.{text-refused, text-sheet, trained-passes}
 use Rattle.demands.specs.Trained.{samples, written, Trained-as, Read-back, Line, Trained}
 
 module _ (bytes room : List ℕ) (enough : 65536 ≤ length room) where
   -- what is stored, by what the reader says
-  stored : (a : Answer Sheet) (text : List ℕ) → readSheet edition1 bytes ≡ a → textOf a ≡ text → trainDef bytes room ≡ trainOutcome (length text) (sets room 0 text)
+  stored : (a : Answer Sheet) (text : List ℕ) → readSheet edition1 bytes ≡ a → textOf a ≡ text → trainDef bytes room ≡ outcome (length text) (sets room 0 text)
   stored a text e t =
-      subst (λ (l : List ℕ). trainDef bytes room ≡ trainOutcome (length l) (sets room 0 l)) (ap textOf e ∙ t)
+      subst (λ (l : List ℕ). trainDef bytes room ≡ outcome (length l) (sets room 0 l)) (ap textOf e ∙ t)
       (sym (printed bytes room _ _ enough (record { text = refl; place = sym (zero-add _) })))
 
   module _ (x : Sheet) (e : readSheet edition1 bytes ≡ accepted x) where
@@ -51,7 +52,7 @@ module _ (bytes room : List ℕ) (enough : 65536 ≤ length room) where
       singles : Singles palette
       singles = unfold palette trainedPalette in trained-singles (unitCourse (jobIn x)) _
 
-      passes : plainAnswer (jobIn x) palette true ≡ 0
+      passes : plainAnswer (jobIn x) palette true .number ≡ 0
       passes = unfold palette in trained-passes (jobIn x) (floats (x .palette)) (accepted-job bytes x b e) some few
 
       file : List ℕ
@@ -62,7 +63,7 @@ module _ (bytes room : List ℕ) (enough : 65536 ≤ length room) where
 
       whole : written bytes room ≡ file
       whole =
-          ap (λ (o : TrainOutcome). take (o .bytes) (o .after)) (stored (accepted x) file e (text-sheet (jobIn x) some few ∙ (unfold trainedFile file palette in refl)))
+          ap (λ (o : Outcome ℕ (List ℕ)). take (o .answer) (o .after)) (stored (accepted x) file e (text-sheet (jobIn x) some few ∙ (unfold trainedFile file palette in refl)))
           ∙ sets-front file room (omega (arith, long, within-limit bytes x e .0))
 
       trained-as : Trained-as x (sheetOf (jobIn x) palette)
@@ -91,7 +92,7 @@ train-writes = record {
     sheet = λ x e some few. read-back bytes room enough x e b some few;
     none = λ x e z. line-1 bytes room enough x e z;
     many = λ x e l. line-2 bytes room enough x e l;
-    no-sheet = λ n e. stored bytes room enough (refused n) (refusedLine n) e refl;
+    no-sheet = λ n e. stored bytes room enough (refused n) (refusedLine (n .number)) e refl;
   };
   no-room = λ bytes room h. sym (no-place bytes room h);
 }

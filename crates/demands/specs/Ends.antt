@@ -24,8 +24,8 @@ ahead K m = (K .job .S + K .job .C + 18) * b K - getD (m .words) 4 0 + handIns (
 -- k accepted calls, each a hand-in or an advance by at least 1, lead from m to the memory that the last one left
 pub data Calls (K : Course) (m : Memory) : ℕ → Memory → Type 0 where
   none : Calls K m 0 m
-  advanced : {k : ℕ} {x : Memory} → Calls K m k x → (a : ℕ) → advanceAnswer K x ≡ 0 → Calls K m (suc k) (advanceCall K x (suc a) .after)
-  handedIn : {k : ℕ} {x : Memory} → Calls K m k x → (reduced : List Float) → handInAnswer K x reduced ≡ 0 → Calls K m (suc k) (handInCall K x reduced .after)
+  advanced : {k : ℕ} {x : Memory} → Calls K m k x → (a : ℕ) → advanceAnswer K x .number ≡ 0 → Calls K m (suc k) (advanceCall K x (suc a) .after)
+  handedIn : {k : ℕ} {x : Memory} → Calls K m k x → (reduced : List Float) → handInAnswer K x reduced .number ≡ 0 → Calls K m (suc k) (handInCall K x reduced .after)
 
 -- from m a row of accepted calls to the finish
 pub record Ending (K : Course) (m : Memory) : Type 0 where
@@ -44,20 +44,20 @@ pub record Finished (K : Course) (seed : ℕ) : Type 0 where
 
 pub record Ends (K : Course) : Type 0 where
   -- an advance brings the finish nearer by the draws that it reports, which are some where it has an allotment
-  pub advance-nearer : (m : Memory) (a : ℕ) → advanceAnswer K m ≡ 0 → ahead K (advanceCall K m a .after) + advanceCall K m a .drew ≡ ahead K m
-  pub advance-draws : (m : Memory) (a : ℕ) → advanceAnswer K m ≡ 0 → 1 ≤ advanceCall K m (suc a) .drew
+  pub advance-nearer : (m : Memory) (a : ℕ) → advanceAnswer K m .number ≡ 0 → ahead K (advanceCall K m a .after) + advanceCall K m a .answer .draws ≡ ahead K m
+  pub advance-draws : (m : Memory) (a : ℕ) → advanceAnswer K m .number ≡ 0 → 1 ≤ advanceCall K m (suc a) .answer .draws
   -- and where its allotment covers the draws that are missing it ends at a stop
-  pub advance-stops : (m : Memory) (a : ℕ) → advanceAnswer K m ≡ 0 → (K .job .S + K .job .C + 18) * b K ≤ getD (m .words) 4 0 + a
+  pub advance-stops : (m : Memory) (a : ℕ) → advanceAnswer K m .number ≡ 0 → (K .job .S + K .job .C + 18) * b K ≤ getD (m .words) 4 0 + a
       → draws (getD (advanceCall K m a .after .words) 1 0) ≡ false
   -- a hand-in by one
-  pub hand-in-nearer : (m : Memory) (reduced : List Float) → handInAnswer K m reduced ≡ 0 → suc (ahead K (handInCall K m reduced .after)) ≡ ahead K m
+  pub hand-in-nearer : (m : Memory) (reduced : List Float) → handInAnswer K m reduced .number ≡ 0 → suc (ahead K (handInCall K m reduced .after)) ≡ ahead K m
   -- so no row of calls is longer than what was ahead
   pub row-ends : {m x : Memory} {k : ℕ} → Calls K m k x → k + ahead K x ≤ ahead K m
   pub few-calls : {m x : Memory} {k : ℕ} → Calls K m k x → k ≤ (K .job .S + K .job .C + 18) * b K + 3
   -- short of the finish a call is accepted, and at the finish the result is
   pub goes-on : (m : Memory) → Accepted K m → getD (m .words) 1 0 ≢ 7
-      → (advanceAnswer K m ≡ 0) ⊎ ((reduced : List Float) → coloursRoom K reduced ≡ true → componentsFit two reduced ≡ true → handInAnswer K m reduced ≡ 0)
-  pub result-there : (m : Memory) → Accepted K m → getD (m .words) 1 0 ≡ 7 → (out : List Float) → coloursRoom K out ≡ true → resultAnswer K m out ≡ 0
+      → (advanceAnswer K m .number ≡ 0) ⊎ ((reduced : List Float) → coloursRoom K reduced ≡ true → componentsFit two reduced ≡ true → handInAnswer K m reduced .number ≡ 0)
+  pub result-there : (m : Memory) → Accepted K m → getD (m .words) 1 0 ≡ 7 → (out : List Float) → coloursRoom K out ≡ true → resultAnswer K m out .number ≡ 0
   -- the finish is reached: from every accepted memory, and by a run from every accepted start
   pub reached : (m : Memory) → Accepted K m → Ending K m
-  pub finished : (m : Memory) (seed : ℕ) → startAnswer K m ≡ 0 → Finished K seed
+  pub finished : (m : Memory) (seed : ℕ) → startAnswer K m .number ≡ 0 → Finished K seed

@@ -7,6 +7,9 @@ use mathlib.Core.Logic.{_≢_}
 use mathlib.Core.List.{List, [], _∷_}
 use lib.ListN.{length, getD, set}
 use lib.Ieee.{Float, inf}
+use Rattle.answer.specs.declared.Refusal.{Refusal}
+use Rattle.answer.specs.Rules.{refusal}
+use Rattle.answer.specs.Outcome.{Outcome, outcome}
 use Rattle.cycle.specs.Cycle.{drawOne}
 use Rattle.color.specs.declared.Oklab.{Oklab}
 use Rattle.color.specs.Color.{sqdistOf, colourAt}
@@ -18,16 +21,17 @@ use Rattle.palette.specs.Palette.{distAt}
 use Rattle.palette_edit.specs.Edits.{placeOf}
 use Rattle.palette_tile.specs.Tiles.{tileAt, presentIn, fitAt, winner, twoAt}
 use Rattle.fits_check.specs.One.{oneAnswer, singleAnswer}
-use Rattle.fits_outcome.specs.Fits.{singleOutcome, singleDef}
-use Rattle.fits_outcome.specs.Pairs.{pairOutcome, pairDef}
+use Rattle.fits_outcome.specs.Fits.{singleDef}
+use Rattle.fits_outcome.specs.Pairs.{pairDef}
 use Rattle.fits_outcome.specs.declared.Single.the-variants as single
 use Rattle.fits_outcome.specs.declared.Pair.the-variants as pair
 use Rattle.assign_tiles.specs.Tiles.{TileMemory, tileMemory}
 use Rattle.assign.specs.Assign.{assignAnswer, assignDef}
 use Rattle.quantizer.specs.Course.{Course, sampleTile, sampleColour}
+use Rattle.run_stages.specs.declared.Advanced.{Advanced}
 use Rattle.run_stages.specs.State.{State}
 use Rattle.run_stages.specs.Stages.{settle, cycleOf, subsOf, haveOf, alphaOf, draw}
-use Rattle.run_stages.specs.Calls.{Memory, stateOf, Outcome, advanceAnswer, startCall, advanceCall, handInCall, resultCall}
+use Rattle.run_stages.specs.Calls.{Memory, stateOf, advanced, advanceAnswer, startCall, advanceCall, handInCall, resultCall}
 use Rattle.run_stages.specs.History.{sampleAt, sampled}
 use Rattle.run_calls.specs.Accepted.{Accepted}
 
@@ -54,37 +58,37 @@ pub record Chosen (J : Job) (palette : List Float) (n have t : ℕ) : Type 0 whe
 module _ (J : Job) (palette : List Float) where
   pub record Single-fit : Type 0 where
     -- a tile that passed is answered with its choice, which becomes its hint
-    pub chooses : (hints : List ℕ) → singleAnswer J palette (length hints) ≡ 0
+    pub chooses : (hints : List ℕ) → singleAnswer J palette (length hints) .number ≡ 0
         → Chosen J palette (J .S) (J .C) 0
-        × (singleDef J palette hints ≡ singleOutcome (single.Best (fitAt J palette (J .S) (J .C) 0)) (set hints 0 (winner J palette (J .S) (J .C) 0)))
+        × (singleDef J palette hints ≡ outcome (single.Best (fitAt J palette (J .S) (J .C) 0)) (set hints 0 (winner J palette (J .S) (J .C) 0)))
     -- any two hints give one answer
     pub any-hint : (h k : List ℕ) → length h ≡ length k → singleDef J palette h .answer ≡ singleDef J palette k .answer
     -- an empty tile, where all else passed, is refused
-    pub empty : (hints : List ℕ) → oneAnswer J palette (length hints) ≡ 0 → isEmpty J 0 ≡ true → singleAnswer J palette (length hints) ≡ 15
+    pub empty : (hints : List ℕ) → oneAnswer J palette (length hints) .number ≡ 0 → isEmpty J 0 ≡ true → singleAnswer J palette (length hints) ≡ refusal 15 0
 
   pub record Best-two : Type 0 where
-    pub chooses : (hints : List ℕ) → oneAnswer J palette (length hints) ≡ 0
+    pub chooses : (hints : List ℕ) → oneAnswer J palette (length hints) .number ≡ 0
         → Chosen J palette (J .S) (J .C) 0
-        × (pairDef J palette hints ≡ pairOutcome (pair.Best (twoAt J palette (J .S) (J .C) 0)) (set hints 0 (winner J palette (J .S) (J .C) 0)))
+        × (pairDef J palette hints ≡ outcome (pair.Best (twoAt J palette (J .S) (J .C) 0)) (set hints 0 (winner J palette (J .S) (J .C) 0)))
     pub any-hint : (h k : List ℕ) → length h ≡ length k → pairDef J palette h .answer ≡ pairDef J palette k .answer
     -- an empty tile: 0 at 0 and 1 at 0, or 0 at infinity where there is one subpalette
-    pub empty-one : (hints : List ℕ) → oneAnswer J palette (length hints) ≡ 0 → isEmpty J 0 ≡ true → J .S ≡ 1
-        → pairDef J palette hints ≡ pairOutcome (pair.Best (record { index = 0; dist = nought; next = 0; second = inf false })) (set hints 0 0)
-    pub empty-many : (hints : List ℕ) → oneAnswer J palette (length hints) ≡ 0 → isEmpty J 0 ≡ true → 2 ≤ J .S
-        → pairDef J palette hints ≡ pairOutcome (pair.Best (record { index = 0; dist = nought; next = 1; second = nought })) (set hints 0 0)
+    pub empty-one : (hints : List ℕ) → oneAnswer J palette (length hints) .number ≡ 0 → isEmpty J 0 ≡ true → J .S ≡ 1
+        → pairDef J palette hints ≡ outcome (pair.Best (record { index = 0; dist = nought; next = 0; second = inf false })) (set hints 0 0)
+    pub empty-many : (hints : List ℕ) → oneAnswer J palette (length hints) .number ≡ 0 → isEmpty J 0 ≡ true → 2 ≤ J .S
+        → pairDef J palette hints ≡ outcome (pair.Best (record { index = 0; dist = nought; next = 1; second = nought })) (set hints 0 0)
 
   pub record Assign : Type 0 where
     -- each tile that is not empty gets its choice, whatever its hint was, and it becomes the hint
-    pub chooses : (h : TileMemory) → assignAnswer J palette h ≡ 0 → (t : ℕ) → t < J .T → isEmpty J t ≡ false
+    pub chooses : (h : TileMemory) → assignAnswer J palette h .number ≡ 0 → (t : ℕ) → t < J .T → isEmpty J t ≡ false
         → Chosen J palette (J .S) (J .C) t
         × (getD (assignDef J palette h .after .out) t 0 ≡ winner J palette (J .S) (J .C) t)
         × (getD (assignDef J palette h .after .hints) t 0 ≡ winner J palette (J .S) (J .C) t)
     -- any two lists of hints give one number, and each tile one subpalette
     pub any-hints : (out h k : List ℕ) → length h ≡ length k
-        → (assignDef J palette (tileMemory h out) .number ≡ assignDef J palette (tileMemory k out) .number)
+        → (assignDef J palette (tileMemory h out) .answer ≡ assignDef J palette (tileMemory k out) .answer)
         × (assignDef J palette (tileMemory h out) .after .out ≡ assignDef J palette (tileMemory k out) .after .out)
     -- an empty one gets 0, and keeps its hint
-    pub empty : (h : TileMemory) → assignAnswer J palette h ≡ 0 → (t : ℕ) → t < J .T → isEmpty J t ≡ true
+    pub empty : (h : TileMemory) → assignAnswer J palette h .number ≡ 0 → (t : ℕ) → t < J .T → isEmpty J t ≡ true
         → (getD (assignDef J palette h .after .out) t 0 ≡ 0) × (getD (assignDef J palette h .after .hints) t 0 ≡ getD (h .hints) t 0)
 
 -- ---- one draw of a run
@@ -136,9 +140,8 @@ pub record Hints-apart (m x : Memory) : Type 0 where
   pub many : length (m .hints) ≡ length (x .hints)
 
 -- what one call came to on each of two memories
-pub record Same-but-hints (x y : Outcome) : Type 0 where
-  pub number : x .number ≡ y .number
-  pub drew : x .drew ≡ y .drew
+pub record Same-but-hints (x y : Outcome Advanced Memory) : Type 0 where
+  pub answer : x .answer ≡ y .answer
   pub after : Hints-apart (x .after) (y .after)
 
 -- a call: a start from a seed, an advance by an allotment, a hand-in of colours
@@ -147,18 +150,22 @@ pub data Request : Type 0 where
   advance : ℕ → Request
   hand-in : List Float → Request
 
+-- a start and a hand-in make no draw
+abbrev pub drawless : Outcome Refusal Memory → Outcome Advanced Memory
+drawless x = outcome (advanced (x .answer) 0) (x .after)
+
 module _ (K : Course) where
-  unfoldable pub called : Memory → Request → Outcome
-  called m (start seed) = startCall K m seed
+  unfoldable pub called : Memory → Request → Outcome Advanced Memory
+  called m (start seed) = drawless (startCall K m seed)
   called m (advance a) = advanceCall K m a
-  called m (hand-in reduced) = handInCall K m reduced
+  called m (hand-in reduced) = drawless (handInCall K m reduced)
 
   -- the memory that calls in a row leave, whatever each of them answered
   unfoldable pub left : List Request → Memory → Memory
   left [] m = m
   left (c ∷ cs) m = left cs (called m c .after)
 
-  -- after any calls, refused ones too, the next one comes to the same on both: number, draws reported, both palettes, order and record;
+  -- after any calls, refused ones too, the next one comes to the same on both: number, index, draws reported, both palettes, order and record;
   -- so do the samples that it draws and the result
   pub record Whatever-hints (m x : Memory) : Type 0 where
     pub calls : (cs : List Request) (c : Request) → Same-but-hints (called (left cs m) c) (called (left cs x) c)
@@ -175,8 +182,8 @@ pub record Second : Type 0 where
   -- the draw itself
   pub draw : (K : Course) (m : Memory) → Accepted K m → Moves K (sampleAt (stateOf m)) (stateOf m) (draw K (stateOf m))
   -- an accepted advance is such draws, as many as it reports
-  pub advance : (K : Course) (m : Memory) (a : ℕ) → advanceAnswer K m ≡ 0 → Draws K (stateOf m) (sampled K a (stateOf m)) (stateOf (advanceCall K m a .after))
-  pub advance-many : (K : Course) (m : Memory) (a : ℕ) → advanceAnswer K m ≡ 0 → length (sampled K a (stateOf m)) ≡ advanceCall K m a .drew
+  pub advance : (K : Course) (m : Memory) (a : ℕ) → advanceAnswer K m .number ≡ 0 → Draws K (stateOf m) (sampled K a (stateOf m)) (stateOf (advanceCall K m a .after))
+  pub advance-many : (K : Course) (m : Memory) (a : ℕ) → advanceAnswer K m .number ≡ 0 → length (sampled K a (stateOf m)) ≡ advanceCall K m a .answer .draws
   -- by one draw inside a round: of the memory before and after
-  pub one-draw : (K : Course) (m : Memory) → advanceAnswer K m ≡ 0 → 2 ≤ getD (m .words) 3 0 → Moves K (sampleAt (stateOf m)) (stateOf m) (stateOf (advanceCall K m 1 .after))
+  pub one-draw : (K : Course) (m : Memory) → advanceAnswer K m .number ≡ 0 → 2 ≤ getD (m .words) 3 0 → Moves K (sampleAt (stateOf m)) (stateOf m) (stateOf (advanceCall K m 1 .after))
   pub whatever-hints : (K : Course) (m x : Memory) → Hints-apart m x → Whatever-hints K m x

@@ -10,8 +10,7 @@ use Rattle.bits.specs.Bits.{bits}
 use Rattle.format.specs.Format.{Res, fault, got, clear, encode}
 use Rattle.sheet_format.specs.Sheet.{Sheet, edition1, sheet}
 use Rattle.sheet_format.specs.Opened.{misopened}
-use Rattle.sheet.specs.Sheets.{Room, roomy, readDef}
-use Rattle.demands.specs.First.{numberOfReading}
+use Rattle.sheet.specs.Sheets.{Room, roomy, refusalOfReading, readDef}
 
 -- bytes that are a sheet's: those of one that can be written, and not too many
 pub record Well-formed (bytes : List ℕ) : Type 0 where
@@ -22,7 +21,7 @@ pub record Well-formed (bytes : List ℕ) : Type 0 where
 
 -- a field is cut short, or behind the last one there is a spare bit set, or a byte
 abbrev pub unended : Res Sheet → Bool
-unended (fault n) = eqb n 13
+unended (fault n i) = eqb n 13
 unended (got x r) = not (ltb (length r) 8 && clear r)
 
 -- there is room
@@ -30,7 +29,7 @@ abbrev pub enough : Room → Bool
 enough h = roomy (length (h .tiles)) (length (h .colours)) (length (h .counts)) (length (h .palette))
 
 abbrev pub number : List ℕ → Room → ℕ
-number bytes h = numberOfReading (readDef bytes h .answer)
+number bytes h = refusalOfReading (readDef bytes h .answer) .number
 
 -- what the fields give, before anything is asked of what stands behind them
 abbrev pub fields : List ℕ → Res Sheet

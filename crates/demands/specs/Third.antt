@@ -8,13 +8,15 @@ use lib.ListN.{length, getD, take}
 use lib.Ieee.{Float}
 use Rattle.lists.specs.Count.{count}
 use Rattle.lists.specs.Firsts.{firsts}
+use Rattle.answer.specs.Rules.{nothing}
+use Rattle.answer.specs.Outcome.{outcome}
 use Rattle.cycle.specs.Cycle.{drawAt}
 use Rattle.cycle.specs.Even.{Even}
 use Rattle.cycle.specs.Tenth.{tenth}
 use Rattle.quantizer.specs.Course.{Course, b}
 use Rattle.run_stages.specs.State.{draws}
 use Rattle.run_stages.specs.Stages.{advance}
-use Rattle.run_stages.specs.Calls.{Memory, stateOf, outcome, startAnswer, advanceAnswer, handInAnswer, startCall, advanceCall, handInCall}
+use Rattle.run_stages.specs.Calls.{Memory, stateOf, advanced as answered, startAnswer, advanceAnswer, handInAnswer, startCall, advanceCall, handInCall}
 use Rattle.run_stages.specs.History.{Run}
 use Rattle.run_calls.specs.Accepted.{Accepted}
 
@@ -37,9 +39,9 @@ pub record Evenly (K : Course) (seed : ℕ) (m : Memory) (ds : List ℕ) : Type 
 -- accepted calls that lead from m to x: all colours handed in, in their order, and the number of all draws reported
 pub data Row (K : Course) : Memory → List (List Float) → ℕ → Memory → Type 0 where
   none : {m : Memory} → Row K m [] 0 m
-  advanced : {m x : Memory} {hs : List (List Float)} {d : ℕ} (a : ℕ) → advanceAnswer K m ≡ 0
-      → Row K (advanceCall K m a .after) hs d x → Row K m hs (advanceCall K m a .drew + d) x
-  handedIn : {m x : Memory} {hs : List (List Float)} {d : ℕ} (reduced : List Float) → handInAnswer K m reduced ≡ 0
+  advanced : {m x : Memory} {hs : List (List Float)} {d : ℕ} (a : ℕ) → advanceAnswer K m .number ≡ 0
+      → Row K (advanceCall K m a .after) hs d x → Row K m hs (advanceCall K m a .answer .draws + d) x
+  handedIn : {m x : Memory} {hs : List (List Float)} {d : ℕ} (reduced : List Float) → handInAnswer K m reduced .number ≡ 0
       → Row K (handInCall K m reduced .after) hs d x → Row K m (reduced ∷ hs) d x
 
 -- from one memory the same hand-ins and as many draws in all lead to one memory
@@ -52,12 +54,12 @@ pub record Third (K : Course) : Type 0 where
   pub evenly : (seed : ℕ) {m : Memory} {ds : List ℕ} → Run K seed m ds → Evenly K seed m ds
   pub any-division : Any-division K
   -- to advance by a and then by c, with no stop between, is to advance by a + c
-  pub any-size : (m : Memory) (a c : ℕ) → advanceAnswer K m ≡ 0 → draws (advance K a (stateOf m) .rec .stage) ≡ true
+  pub any-size : (m : Memory) (a c : ℕ) → advanceAnswer K m .number ≡ 0 → draws (advance K a (stateOf m) .rec .stage) ≡ true
       → advanceCall K m (a + c)
-      ≡ outcome 0 (advanceCall K m a .drew + advanceCall K (advanceCall K m a .after) c .drew) (advanceCall K (advanceCall K m a .after) c .after)
+      ≡ outcome (answered nothing (advanceCall K m a .answer .draws + advanceCall K (advanceCall K m a .after) c .answer .draws)) (advanceCall K (advanceCall K m a .after) c .after)
   -- with fewer than ten samples there are no draws: the start goes straight to the first stop
-  pub straight : b K ≡ 0 → (m : Memory) (seed : ℕ) → startAnswer K m ≡ 0 → getD (startCall K m seed .after .words) 1 0 ≡ 3
+  pub straight : b K ≡ 0 → (m : Memory) (seed : ℕ) → startAnswer K m .number ≡ 0 → getD (startCall K m seed .after .words) 1 0 ≡ 3
   -- the draws that a call reports are those that its record has more, in refused calls too
-  pub reported : (m : Memory) (a : ℕ) → getD (advanceCall K m a .after .words) 4 0 ≡ getD (m .words) 4 0 + advanceCall K m a .drew
+  pub reported : (m : Memory) (a : ℕ) → getD (advanceCall K m a .after .words) 4 0 ≡ getD (m .words) 4 0 + advanceCall K m a .answer .draws
   -- b is the Rust's f32 tenth, cut to a whole number
   pub tenths : (n : ℕ) → n ≤ 16384 → tenth n ≡ n / 10

@@ -7,7 +7,9 @@ use lib.Dec.{T}
 use lib.Pow.{areBytes}
 use lib.ListN.{length, take}
 use lib.Seq.{sets}
+use Rattle.answer.specs.declared.Refusal.{Refusal}
 use Rattle.color.specs.Color.{Bounded}
+use Rattle.answer.specs.Outcome.{outcome}
 use Rattle.format.specs.Format.{refused, accepted}
 use Rattle.sheet_format.specs.Sheet.{Sheet, edition1, readSheet}
 use Rattle.sheet_format.specs.Lists.{floats}
@@ -15,7 +17,7 @@ use Rattle.sheet.specs.Sheets.{jobIn}
 use Rattle.fit_lines.specs.Lines.{refusedLine}
 use Rattle.train_samples.specs.Samples.{unitsTo}
 use Rattle.train_text.specs.Trained.{unitCourse, trainedPalette}
-use Rattle.train_text.specs.Train.{trainOutcome, trainDef}
+use Rattle.train_text.specs.Train.{trainDef}
 
 -- the samples of a sheet's job: all its counts, added up
 abbrev pub samples : Sheet → ℕ
@@ -38,7 +40,7 @@ pub record Trained-as (x y : Sheet) : Type 0 where
 module _ (bytes room : List ℕ) where
   -- the bytes that are written, where `bytes` are read and `room` is lent
   abbrev pub written : List ℕ
-  written = take (trainDef bytes room .bytes) (trainDef bytes room .after)
+  written = take (trainDef bytes room .answer) (trainDef bytes room .after)
 
   -- they are a sheet that the reader accepts, x trained, in as many bytes
   pub record Read-back (x : Sheet) : Type 0 where
@@ -49,16 +51,16 @@ module _ (bytes room : List ℕ) where
 
   -- they are the line of refusal n
   abbrev pub Line : ℕ → Type 0
-  Line n = trainDef bytes room ≡ trainOutcome (length (refusedLine n)) (sets room 0 (refusedLine n))
+  Line n = trainDef bytes room ≡ outcome (length (refusedLine n)) (sets room 0 (refusedLine n))
 
   -- a sheet with some samples and not too many is trained; a sheet with none, one with more, and what is no sheet get their number
   pub record Writes : Type 0 where
     pub sheet : (x : Sheet) → readSheet edition1 bytes ≡ accepted x → 1 ≤ samples x → samples x ≤ 16384 → Read-back x
     pub none : (x : Sheet) → readSheet edition1 bytes ≡ accepted x → samples x ≡ 0 → Line 1
     pub many : (x : Sheet) → readSheet edition1 bytes ≡ accepted x → 16384 < samples x → Line 2
-    pub no-sheet : (n : ℕ) → readSheet edition1 bytes ≡ refused n → Line n
+    pub no-sheet : (e : Refusal) → readSheet edition1 bytes ≡ refused e → Line (e .number)
 
 -- for all bytes, in room for any sheet; in less room nothing is written
 pub record Trained : Type 0 where
   pub writes : (bytes room : List ℕ) → T (areBytes bytes) → 65536 ≤ length room → Writes bytes room
-  pub no-room : (bytes room : List ℕ) → length room < 65536 → trainDef bytes room ≡ trainOutcome 0 room
+  pub no-room : (bytes room : List ℕ) → length room < 65536 → trainDef bytes room ≡ outcome 0 room

@@ -1,53 +1,78 @@
--- What a forwarder tells is what the call below it ensures, on the sizes made of its numbers; and an advance's answer fits its 64 bits. Assumes nothing.
+-- What a forwarder tells is what the call below it ensures, on the sizes made of its numbers; and it fits 64 bits. Assumes nothing.
 use Prim.Native.Nat.{ℕ, _≤_}
 use mathlib.Core.Path.{_≡_, sym, ap, subst, _∙_}
 use mathlib.Core.List.{List}
-use native.Mathlib.Nat.{zero-add}
 use native.Mathlib.Omega.{arith}
 use lib.Ieee.{Float}
+use Rattle.answer.specs.declared.Refusal.{Refusal}
+use Rattle.answer.specs.Outcome.{Outcome, outcome}
+use Rattle.answer.specs.Words.{word, told}
 use Rattle.job.specs.declared.Sizes.{Sizes}
-use Rattle.job.specs.Job.{jobOf}
+use Rattle.job.specs.Job.{Job, jobOf}
+use Rattle.job.specs.Bad.{mostIndex}
 use Rattle.quantizer.specs.Course.{Course, courseOf}
-use Rattle.run_stages.specs.Calls.{Memory, Outcome, outcome, copiedTo, startCall, advanceCall, handInCall, resultCall}
+use Rattle.run_stages.specs.declared.Advanced.{Advanced}
+use Rattle.run_stages.specs.Calls.{Memory, startCall, advanceCall, handInCall, resultCall}
 use Rattle.assign.specs.Assign as assigning
-use Rattle.dunkafeto_told.specs.Packed.{packed, told}
-use Rattle.dunkafeto.specs.Told.{toldRun, toldColours, toldTiles}
-use Rattle.dunkafeto.proofs.Few.{draws-few}
+use Rattle.dunkafeto.specs.Told.{toldAdvance}
+use Rattle.dunkafeto.proofs.Few.{start-few, hand-in-few, result-few, advance-few, draws-few, assign-few}
 
--- the number alone is the answer of a call that makes no draw
-run-told : (number : ℕ) (m : Memory) (x : Outcome) → outcome number 0 m ≡ x → told number m ≡ toldRun x
-unfolding toldRun
-run-told number m x e = ap (λ (k : ℕ). told k m) (sym (zero-add number)) ∙ ap toldRun e
+-- ---- a call that answers with nothing or a refusal: what is told, and that it fits
+module _ {M : Type 0} (r : Refusal) (after : M) (x : Outcome Refusal M) (e : outcome r after ≡ x) where
+  telling : (w : ℕ) → w ≡ word r 0 → outcome w after ≡ told x
+  unfolding told
+  telling w f = ap (λ (k : ℕ). outcome k after) f ∙ ap told e
 
--- z are the sizes that the numbers y make
+  fitting : x .answer .index ≤ mostIndex → (r .index ≤ 0xffff_ffff) × (0 ≤ 0xffff_ffff)
+  fitting h = let few : r .index ≤ mostIndex = subst (λ (y : Outcome Refusal M). y .answer .index ≤ mostIndex) (sym e) h in (omega arith, omega arith)
+
+-- ---- the five calls. z are the sizes that the numbers y make
 module _ (z y : Sizes) (same : z ≡ y) (tiles : List ℕ) (colours : List Float) (counts : List ℕ) where
-  pub assign-told : (palette : List Float) (h : assigning.TileMemory) (number : ℕ) (after : assigning.TileMemory)
-      → assigning.outcome number after ≡ assigning.assignDef (jobOf z tiles colours counts) palette h
-      → told number after ≡ toldTiles (assigning.assignDef (jobOf y tiles colours counts) palette h)
-  unfolding toldTiles
-  assign-told palette h number after e =
-      ap (λ (k : ℕ). told k after) (sym (zero-add number))
-      ∙ ap toldTiles (e ∙ ap (λ (x : Sizes). assigning.assignDef (jobOf x tiles colours counts) palette h) same)
+  pub assign-told : (palette : List Float) (h : assigning.TileMemory) (r : Refusal) (after : assigning.TileMemory)
+      → outcome r after ≡ assigning.assignDef (jobOf z tiles colours counts) palette h
+      → (w : ℕ) → w ≡ word r 0 → outcome w after ≡ told (assigning.assignDef (jobOf y tiles colours counts) palette h)
+  assign-told palette h r after e w f = telling r after _ (e ∙ ap (λ (x : Sizes). assigning.assignDef (jobOf x tiles colours counts) palette h) same) w f
 
   module _ (samples : List ℕ) where
     -- the course of such sizes
     abbrev on : Sizes → Course
     on x = courseOf x tiles colours counts samples
 
-    pub start-told : (m : Memory) (seed number : ℕ) (after : Memory) → outcome number 0 after ≡ startCall (on z) m seed → told number after ≡ toldRun (startCall (on y) m seed)
-    start-told m seed number after e = run-told number after _ (e ∙ ap (λ (x : Sizes). startCall (on x) m seed) same)
+    pub start-told : (m : Memory) (seed : ℕ) (r : Refusal) (after : Memory) → outcome r after ≡ startCall (on z) m seed
+        → (w : ℕ) → w ≡ word r 0 → outcome w after ≡ told (startCall (on y) m seed)
+    start-told m seed r after e w f = telling r after _ (e ∙ ap (λ (x : Sizes). startCall (on x) m seed) same) w f
 
-    pub hand-in-told : (m : Memory) (reduced : List Float) (number : ℕ) (after : Memory) → outcome number 0 after ≡ handInCall (on z) m reduced → told number after ≡ toldRun (handInCall (on y) m reduced)
-    hand-in-told m reduced number after e = run-told number after _ (e ∙ ap (λ (x : Sizes). handInCall (on x) m reduced) same)
+    pub hand-in-told : (m : Memory) (reduced : List Float) (r : Refusal) (after : Memory) → outcome r after ≡ handInCall (on z) m reduced
+        → (w : ℕ) → w ≡ word r 0 → outcome w after ≡ told (handInCall (on y) m reduced)
+    hand-in-told m reduced r after e w f = telling r after _ (e ∙ ap (λ (x : Sizes). handInCall (on x) m reduced) same) w f
 
-    pub advance-told : (m : Memory) (a number draws : ℕ) (after : Memory) → outcome number draws after ≡ advanceCall (on z) m a
-        → (answer : ℕ) → answer ≡ packed number draws → told answer after ≡ toldRun (advanceCall (on y) m a)
-    unfolding toldRun
-    advance-told m a number draws after e answer f = ap (λ (k : ℕ). told k after) f ∙ ap toldRun (e ∙ ap (λ (x : Sizes). advanceCall (on x) m a) same)
+    pub result-told : (m : Memory) (out : List Float) (r : Refusal) (after : List Float) → outcome r after ≡ resultCall (on z) m out
+        → (w : ℕ) → w ≡ word r 0 → outcome w after ≡ told (resultCall (on y) m out)
+    result-told m out r after e w f = telling r after _ (e ∙ ap (λ (x : Sizes). resultCall (on x) m out) same) w f
 
-    pub result-told : (m : Memory) (out : List Float) (number : ℕ) (after : List Float) → copiedTo number after ≡ resultCall (on z) m out → told number after ≡ toldColours (resultCall (on y) m out)
-    unfolding toldColours
-    result-told m out number after e = ap (λ (k : ℕ). told k after) (sym (zero-add number)) ∙ ap toldColours (e ∙ ap (λ (x : Sizes). resultCall (on x) m out) same)
+    pub advance-told : (m : Memory) (a : ℕ) (r : Advanced) (after : Memory) → outcome r after ≡ advanceCall (on z) m a
+        → (w : ℕ) → w ≡ word (r .refusal) (r .draws) → outcome w after ≡ toldAdvance (advanceCall (on y) m a)
+    unfolding toldAdvance
+    advance-told m a r after e w f = ap (λ (k : ℕ). outcome k after) f ∙ ap toldAdvance (e ∙ ap (λ (x : Sizes). advanceCall (on x) m a) same)
 
-pub few : (K : Course) (m : Memory) (a number draws : ℕ) (after : Memory) → outcome number draws after ≡ advanceCall K m a → draws ≤ 0xffff_ffff
-few K m a number draws after e = omega (arith, subst (λ (x : Outcome). x .drew ≤ 81950) (sym e) (draws-few K m a))
+-- ---- each answer fits
+pub assign-fits : (J : Job) (palette : List Float) (h : assigning.TileMemory) (r : Refusal) (after : assigning.TileMemory)
+    → outcome r after ≡ assigning.assignDef J palette h → (r .index ≤ 0xffff_ffff) × (0 ≤ 0xffff_ffff)
+assign-fits J palette h r after e = fitting r after _ e (assign-few J palette h)
+
+module _ (K : Course) (m : Memory) where
+  pub start-fits : (seed : ℕ) (r : Refusal) (after : Memory) → outcome r after ≡ startCall K m seed → (r .index ≤ 0xffff_ffff) × (0 ≤ 0xffff_ffff)
+  start-fits seed r after e = fitting r after _ e (start-few K m seed)
+
+  pub hand-in-fits : (reduced : List Float) (r : Refusal) (after : Memory) → outcome r after ≡ handInCall K m reduced → (r .index ≤ 0xffff_ffff) × (0 ≤ 0xffff_ffff)
+  hand-in-fits reduced r after e = fitting r after _ e (hand-in-few K m reduced)
+
+  pub result-fits : (out : List Float) (r : Refusal) (after : List Float) → outcome r after ≡ resultCall K m out → (r .index ≤ 0xffff_ffff) × (0 ≤ 0xffff_ffff)
+  result-fits out r after e = fitting r after _ e (result-few K m out)
+
+  pub advance-fits : (a : ℕ) (r : Advanced) (after : Memory) → outcome r after ≡ advanceCall K m a → (r .refusal .index ≤ 0xffff_ffff) × (r .draws ≤ 0xffff_ffff)
+  advance-fits a r after e =
+      let back = sym e in (
+        omega (arith, subst (λ (y : Outcome Advanced Memory). y .answer .refusal .index ≤ mostIndex) back (advance-few K m a)),
+        omega (arith, subst (λ (y : Outcome Advanced Memory). y .answer .draws ≤ 81950) back (draws-few K m a)),
+      )

@@ -1,3 +1,2 @@
 pub mod Forwards
-pub mod Apart
 pub mod Few

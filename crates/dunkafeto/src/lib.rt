@@ -1,13 +1,14 @@
 // The calls for C and Rust hosts: forwarders only, each with the contract of what it forwards to. Assumes nothing.
-// The answer is one number, draws times 256 and the answer number (crate dunkafeto_told). A slice is a pointer and a length in C.
+// The answer is one number, a value times 256 and the answer number (`answer::word`). A slice is a pointer and a length in C.
 ghost use mathlib.Core.Path.{_≡_};
 ghost use Rattle.job.specs.Job.{sizesOf, jobOf};
 ghost use Rattle.quantizer.specs.Course.{courseOf};
 ghost use Rattle.run_stages.specs.Calls.{memory, startCall, advanceCall, handInCall, resultCall};
 ghost use Rattle.assign_tiles.specs.Tiles.{tileMemory};
 ghost use Rattle.assign.specs.Assign.{assignDef};
-ghost use Rattle.dunkafeto_told.specs.Packed.{told};
-ghost use Rattle.dunkafeto.specs.Told.{toldRun, toldColours, toldTiles};
+ghost use Rattle.answer.specs.Outcome.{outcome};
+ghost use Rattle.answer.specs.Words.{told};
+ghost use Rattle.dunkafeto.specs.Told.{toldAdvance};
 
 // Starts a run, as `run_start::start`. It makes no draw.
 #[no_mangle]
@@ -28,13 +29,13 @@ pub extern "C" fn dunkafeto_start(
     least: &mut [f32],
     words: &mut [u64],
 ) -> u64
-    ensures { λ r. ⌜ told r (memory (now (order .exit)) (now (hints .exit)) (now (palette .exit)) (now (least .exit)) (now (words .exit)))
-        ≡ toldRun
+    ensures { λ r. ⌜ outcome r (memory (now (order .exit)) (now (hints .exit)) (now (palette .exit)) (now (least .exit)) (now (words .exit)))
+        ≡ told
         (startCall (courseOf (sizesOf s c t n weight) (now (tiles .entry)) (now (colours .entry)) (now (counts .entry)) (now (samples .entry)))
         (memory (now (order .entry)) (now (hints .entry)) (now (palette .entry)) (now (least .entry)) (now (words .entry))) seed) ⌝ }
 {
     let z = job::sizes_of(s, c, t, n, weight);
-    let number = run_start::start(
+    let refusal = run_start::start(
         z,
         seed,
         tiles,
@@ -47,7 +48,7 @@ pub extern "C" fn dunkafeto_start(
         least,
         words,
     );
-    number as u64
+    answer::word(refusal, 0)
 }
 
 // Makes the draws of a run, at most `allotment`, as `run_advance::advance`.
@@ -69,8 +70,8 @@ pub extern "C" fn dunkafeto_advance(
     words: &mut [u64],
     allotment: u64,
 ) -> u64
-    ensures { λ r. ⌜ told r (memory (now (order .exit)) (now (hints .exit)) (now (palette .exit)) (now (least .exit)) (now (words .exit)))
-        ≡ toldRun
+    ensures { λ r. ⌜ outcome r (memory (now (order .exit)) (now (hints .exit)) (now (palette .exit)) (now (least .exit)) (now (words .exit)))
+        ≡ toldAdvance
         (advanceCall (courseOf (sizesOf s c t n weight) (now (tiles .entry)) (now (colours .entry)) (now (counts .entry)) (now (samples .entry)))
         (memory (now (order .entry)) (now (hints .entry)) (now (palette .entry)) (now (least .entry)) (now (words .entry))) allotment) ⌝ }
 {
@@ -88,7 +89,8 @@ pub extern "C" fn dunkafeto_advance(
         words,
         allotment,
     );
-    dunkafeto_told::pack(a.number, a.draws)
+    let refusal = a.refusal;
+    answer::word(refusal, a.draws)
 }
 
 // Hands in reduced colours at a stop, as `run_hand_in::hand_in`. It makes no draw.
@@ -110,14 +112,14 @@ pub extern "C" fn dunkafeto_hand_in(
     words: &mut [u64],
     reduced: &[f32],
 ) -> u64
-    ensures { λ r. ⌜ told r (memory (now (order .entry)) (now (hints .exit)) (now (palette .exit)) (now (least .entry)) (now (words .exit)))
-        ≡ toldRun
+    ensures { λ r. ⌜ outcome r (memory (now (order .entry)) (now (hints .exit)) (now (palette .exit)) (now (least .entry)) (now (words .exit)))
+        ≡ told
         (handInCall (courseOf (sizesOf s c t n weight) (now (tiles .entry)) (now (colours .entry)) (now (counts .entry)) (now (samples .entry)))
         (memory (now (order .entry)) (now (hints .entry)) (now (palette .entry)) (now (least .entry)) (now (words .entry)))
         (now (reduced .entry))) ⌝ }
 {
     let z = job::sizes_of(s, c, t, n, weight);
-    let number = run_hand_in::hand_in(
+    let refusal = run_hand_in::hand_in(
         z,
         tiles,
         colours,
@@ -130,7 +132,7 @@ pub extern "C" fn dunkafeto_hand_in(
         words,
         reduced,
     );
-    number as u64
+    answer::word(refusal, 0)
 }
 
 // Copies the colours of a finished run to `out`, as `run_result::result`.
@@ -152,13 +154,13 @@ pub extern "C" fn dunkafeto_result(
     words: &[u64],
     out: &mut [f32],
 ) -> u64
-    ensures { λ r. ⌜ told r (now (out .exit))
-        ≡ toldColours
+    ensures { λ r. ⌜ outcome r (now (out .exit))
+        ≡ told
         (resultCall (courseOf (sizesOf s c t n weight) (now (tiles .entry)) (now (colours .entry)) (now (counts .entry)) (now (samples .entry)))
         (memory (now (order .entry)) (now (hints .entry)) (now (palette .entry)) (now (least .entry)) (now (words .entry))) (now (out .entry))) ⌝ }
 {
     let z = job::sizes_of(s, c, t, n, weight);
-    let number = run_result::result(
+    let refusal = run_result::result(
         z,
         tiles,
         colours,
@@ -171,7 +173,7 @@ pub extern "C" fn dunkafeto_result(
         words,
         out,
     );
-    number as u64
+    answer::word(refusal, 0)
 }
 
 // For each tile the subpalette that fits it best, as `assign::assign`. It belongs to no run.
@@ -188,12 +190,12 @@ pub extern "C" fn dunkafeto_assign(
     hints: &mut [u32],
     out: &mut [u32],
 ) -> u64
-    ensures { λ r. ⌜ told r (tileMemory (now (hints .exit)) (now (out .exit)))
-        ≡ toldTiles
+    ensures { λ r. ⌜ outcome r (tileMemory (now (hints .exit)) (now (out .exit)))
+        ≡ told
         (assignDef (jobOf (sizesOf s c t 0 weight) (now (tiles .entry)) (now (colours .entry)) (now (counts .entry))) (now (palette .entry))
         (tileMemory (now (hints .entry)) (now (out .entry)))) ⌝ }
 {
     let z = job::sizes_of(s, c, t, 0, weight);
-    let number = assign::assign(z, tiles, colours, counts, palette, hints, out);
-    number as u64
+    let refusal = assign::assign(z, tiles, colours, counts, palette, hints, out);
+    answer::word(refusal, 0)
 }

@@ -1,5 +1,5 @@
 // Forwarders to the single fit and `best_two`. Assumes nothing.
-// Each gives the number; what else there is to give goes through the references, which stay on a refusal.
+// Each gives the number, and in `fault` the index of a refusal; what is found goes through the other references, which a refusal leaves.
 use fits_outcome::Pair;
 use fits_outcome::Single;
 
@@ -16,6 +16,7 @@ pub extern "C" fn probe_single_fit(
     hints: &mut [u32],
     index: &mut usize,
     dist: &mut f32,
+    fault: &mut usize,
 ) -> u32 {
     let z = job::sizes_of(s, c, t, 0, weight);
     match fits::single_fit(z, tiles, colours, counts, palette, hints) {
@@ -24,7 +25,10 @@ pub extern "C" fn probe_single_fit(
             *dist = near.dist;
             0
         }
-        Single::Refused(number) => number,
+        Single::Refused(e) => {
+            *fault = e.index;
+            e.number
+        }
     }
 }
 
@@ -43,6 +47,7 @@ pub extern "C" fn probe_public_best_two(
     dist: &mut f32,
     next: &mut usize,
     second: &mut f32,
+    fault: &mut usize,
 ) -> u32 {
     let z = job::sizes_of(s, c, t, 0, weight);
     match fits_two::best_two(z, tiles, colours, counts, palette, hints) {
@@ -53,6 +58,9 @@ pub extern "C" fn probe_public_best_two(
             *second = two.second;
             0
         }
-        Pair::Refused(number) => number,
+        Pair::Refused(e) => {
+            *fault = e.index;
+            e.number
+        }
     }
 }

@@ -9,7 +9,7 @@ fn zero_of(given: bool, r: u8, g: u8, b: u8) -> Zero {
     Zero::Absent
 }
 
-// Gives the number, and in `entries` how many were written.
+// Gives the number, in `entries` how many were written, and in `fault` the index of a refusal.
 #[no_mangle]
 pub extern "C" fn probe_group(
     p: usize,
@@ -24,6 +24,7 @@ pub extern "C" fn probe_group(
     entry_counts: &mut [u32],
     index: &mut [u32],
     entries: &mut usize,
+    fault: &mut usize,
 ) -> u32 {
     let zero = zero_of(given, r, g, b);
     match group::group(
@@ -40,6 +41,9 @@ pub extern "C" fn probe_group(
             *entries = n;
             0
         }
-        Grouped::Refused(number) => number,
+        Grouped::Refused(e) => {
+            *fault = e.index;
+            e.number
+        }
     }
 }

@@ -1,5 +1,5 @@
 // Forwarders to the sheet's reader and writer. Assumes nothing.
-// Each gives the number; what else there is to give goes through the references, which stay on a refusal.
+// Each gives the number, and in `fault` the index of a refusal; what else there is goes through the other references, which a refusal leaves.
 use sheet::Reading;
 use sheet::Writing;
 
@@ -14,9 +14,13 @@ pub extern "C" fn probe_sheet_read(
     each: &mut usize,
     many: &mut usize,
     heavy: &mut f32,
+    fault: &mut usize,
 ) -> u32 {
     match sheet::read(bytes, tiles, colours, counts, palette) {
-        Reading::Refused(number) => number,
+        Reading::Refused(e) => {
+            *fault = e.index;
+            e.number
+        }
         Reading::Sheet(z) => {
             *subs = z.s;
             *each = z.c;
@@ -39,10 +43,14 @@ pub extern "C" fn probe_sheet_write(
     palette: &[f32],
     dst: &mut [u8],
     size: &mut usize,
+    fault: &mut usize,
 ) -> u32 {
     let z = job::sizes_of(s, c, t, 0, weight);
     match sheet::write(z, tiles, colours, counts, palette, dst) {
-        Writing::Refused(number) => number,
+        Writing::Refused(e) => {
+            *fault = e.index;
+            e.number
+        }
         Writing::Bytes(n) => {
             *size = n;
             0

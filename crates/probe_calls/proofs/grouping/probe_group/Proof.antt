@@ -12,8 +12,8 @@ group-requires c κs = tt
 enum-known-n : tie.Need-enum-known-n
 enum-known-n c = search needs
 
-enum-known-number : tie.Need-enum-known-number
-enum-known-number c = search needs
+enum-known-e : tie.Need-enum-known-e
+enum-known-e c = search needs
 
 same-length : tie.Need-same-length
 same-length c = let after-group = c .before .before .before .before .before .before .before .before .before .before .before in after-group .group .kept .1 .1 .1 .1 .0
@@ -60,5 +60,5 @@ returns-2 c = tt
 pub probe-group-spec : {M : Type 1} → statement M
 probe-group-spec =
     tie.close
-    (tie.spec zero-of-requires group-requires enum-known-n enum-known-number same-length same-length-2 same-length-3 same-length-4 returns
+    (tie.spec zero-of-requires group-requires enum-known-n enum-known-e same-length same-length-2 same-length-3 same-length-4 returns
     same-length-5 same-length-6 same-length-7 same-length-8 returns-2)

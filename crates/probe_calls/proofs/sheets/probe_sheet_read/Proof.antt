@@ -6,8 +6,8 @@ use Rattle.probe_calls.proofs.sheets.probe_sheet_read.Tie as tie
 read-requires : tie.Need-read-requires
 read-requires c κs = tt
 
-enum-known-number : tie.Need-enum-known-number
-enum-known-number c = search needs
+enum-known-e : tie.Need-enum-known-e
+enum-known-e c = search needs
 
 enum-known-z : tie.Need-enum-known-z
 enum-known-z c = search needs
@@ -45,5 +45,5 @@ returns-2 c = tt
 pub probe-sheet-read-spec : {M : Type 1} → statement M
 probe-sheet-read-spec =
     tie.close
-    (tie.spec read-requires enum-known-number enum-known-z same-length same-length-2 same-length-3 same-length-4 returns same-length-5 same-length-6
+    (tie.spec read-requires enum-known-e enum-known-z same-length same-length-2 same-length-3 same-length-4 returns same-length-5 same-length-6
     same-length-7 same-length-8 returns-2)
