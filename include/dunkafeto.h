@@ -2,7 +2,7 @@
  *
  * Link with libdunkafeto.a (`./build dunkafeto`; for Linux on x86-64 and on aarch64, with the same bits on both). Nothing is
  * allocated, nothing is kept between calls, no call reads or writes a file, a clock or memory that it was not lent. Every call answers
- * every input that keeps to "What the caller owes" below: each checks all its arguments itself. 8 KiB of stack are enough (5,096 bytes
+ * every input that keeps to "What the caller owes" below: each checks all its arguments itself. 8 KiB of stack are enough (5,112 bytes
  * measured for the largest job); the one function that is called from outside is memset.
  *
  * A job is S subpalettes of C colours, and T tiles, each with its colours and how often each occurs. Colours are Oklab: three
@@ -49,7 +49,7 @@
  *             }
  *         }
  *         if (dunkafeto_number(answer) != DUNKAFETO_DONE) {
- *             printf("refused: %s\n", dunkafeto_says(dunkafeto_number(answer)));
+ *             printf("refused: %s, index %lu\n", dunkafeto_says(dunkafeto_number(answer)), (unsigned long)dunkafeto_index(answer));
  *             return 1;
  *         }
  *         for (int i = 0; i < CELLS; i += 3)
@@ -74,29 +74,31 @@ extern "C" {
 #define DUNKAFETO_MOST_SAMPLES 16384      /* n is 1 up to this, else 1 where it is 0 and 2 where it is above */
 #define DUNKAFETO_MOST_TILE_COLOURS 16384 /* of all tiles together, else 5 */
 #define DUNKAFETO_TILE_SIZE 64            /* colours of a tile are 0 up to this, else 5; its counts sum to at most this, else 6 */
-#define DUNKAFETO_MOST_COMPONENT 2.0f     /* magnitude of a component that the host gives, else 7; of one a run holds: 4 */
+#define DUNKAFETO_MOST_COMPONENT 2.0f     /* magnitude of a component given, else 7, or 17 if handed in; of one a run holds: 4, else 16 */
 #define DUNKAFETO_MOST_WEIGHT 16.0f       /* weight is above 0 and at most this, else 4 */
 #define DUNKAFETO_WORDS 6                 /* words of a run's record */
 
-/* ---- Numbers. Of several faults the first in the order 2, 3, 1, 4, 5, 6, 7 (job), 8, 10, 7 (working colours), 9, 11,
- * 7 (handed-in colours) decides. These five calls give 0 to 11; 12 to 15 belong to other calls of the same table. */
+/* ---- Numbers. Of several faults the first in the order 2, 3, 1, 4, 5, 6, 7, 8, 10, 16, 9, 11, 17 decides. These five calls give 0 to
+ * 11, 16 and 17; 12 to 15 belong to other calls of the same table. 7, 16 and 17 name an entry: see dunkafeto_index. */
 enum dunkafeto_numbers {
     DUNKAFETO_DONE = 0,
-    DUNKAFETO_NO_SAMPLES = 1,    /* n is 0 */
-    DUNKAFETO_SIZES = 2,         /* S, C or T is outside its range, or n is above 16,384 */
-    DUNKAFETO_LENGTHS = 3,       /* a slice is longer or shorter than the sizes ask */
-    DUNKAFETO_WEIGHT = 4,        /* the weight is not above 0, is above 16, or is NaN */
-    DUNKAFETO_TILES = 5,         /* tiles leave a gap or overlap, one has above 64 colours, or all above 16,384 or not as many as are lent */
-    DUNKAFETO_COUNTS = 6,        /* a colour counted 0 times, or a tile more than 64 */
-    DUNKAFETO_COMPONENTS = 7,    /* a component given is above 2 in magnitude, or one that a run holds above 4, or either is not finite */
-    DUNKAFETO_SAMPLES = 8,       /* a sample's tile is not there, or has no such colour */
-    DUNKAFETO_ORDER = 9,         /* an entry of the order is n or more */
-    DUNKAFETO_RECORD = 10,       /* the record breaks one of its rules */
-    DUNKAFETO_MOMENT = 11,       /* advance at a stop or finish, hand_in elsewhere than at a stop, result before the finish */
-    DUNKAFETO_SHEET_HEAD = 12,   /* the first four bytes or the edition are not a sheet's */
-    DUNKAFETO_SHEET_BYTES = 13,  /* a sheet ends too soon, goes on by a bit or a byte, or has more than 65,536 bytes */
-    DUNKAFETO_SAME_COLOUR = 14,  /* grouping: pixels of the same bytes whose Oklab bits differ */
-    DUNKAFETO_EMPTY_TILE = 15    /* the single fit's tile has no colour */
+    DUNKAFETO_NO_SAMPLES = 1,       /* n is 0 */
+    DUNKAFETO_SIZES = 2,            /* S, C or T is outside its range, or n is above 16,384 */
+    DUNKAFETO_LENGTHS = 3,          /* a slice is longer or shorter than the sizes ask */
+    DUNKAFETO_WEIGHT = 4,           /* the weight is not above 0, is above 16, or is NaN */
+    DUNKAFETO_TILES = 5,            /* tiles leave a gap or overlap, one has above 64 colours, all above 16,384 or not as many as lent */
+    DUNKAFETO_COUNTS = 6,           /* a colour counted 0 times, or a tile more than 64 */
+    DUNKAFETO_COMPONENTS = 7,       /* a component of a job's colour is above 2 in magnitude or not finite */
+    DUNKAFETO_SAMPLES = 8,          /* a sample's tile is not there, or has no such colour */
+    DUNKAFETO_ORDER = 9,            /* an entry of the order is n or more */
+    DUNKAFETO_RECORD = 10,          /* the record breaks one of its rules */
+    DUNKAFETO_MOMENT = 11,          /* advance at a stop or finish, hand_in elsewhere than at a stop, result before the finish */
+    DUNKAFETO_SHEET_HEAD = 12,      /* the first four bytes or the edition are not a sheet's */
+    DUNKAFETO_SHEET_BYTES = 13,     /* a sheet ends too soon, goes on by a bit or a byte, or has more than 65,536 bytes */
+    DUNKAFETO_SAME_COLOUR = 14,     /* grouping: pixels of the same bytes whose Oklab bits differ */
+    DUNKAFETO_EMPTY_TILE = 15,      /* the single fit's tile has no colour */
+    DUNKAFETO_WORKING_COLOURS = 16, /* a component of palette, or in stage 2 of least, is above 4 in magnitude or not finite */
+    DUNKAFETO_HANDED_COLOURS = 17   /* a component handed in is above 2 in magnitude or not finite */
 };
 
 /* ---- The record: six words, which start writes and the others keep. Read them freely; write none. */
@@ -120,13 +122,26 @@ enum dunkafeto_stages {
     DUNKAFETO_FINISHED = 7
 };
 
-/* ---- The answer of a call: draws made, times 256, and the number. */
+/* ---- The answer of a call: a value times 256, and the number. The value is the draws made where the number is DUNKAFETO_DONE, and
+ * the index of the entry at fault where it is any other. */
 
 /* The number: DUNKAFETO_DONE, or why the call refused. */
 static inline uint32_t dunkafeto_number(uint64_t answer) { return (uint32_t)(answer & 255u); }
 
 /* The draws that the call made: 0 for each refusal and for each call but advance. At most 81,900. */
-static inline uint64_t dunkafeto_draws(uint64_t answer) { return answer >> 8; }
+static inline uint64_t dunkafeto_draws(uint64_t answer) { return dunkafeto_number(answer) == DUNKAFETO_DONE ? answer >> 8 : 0; }
+
+/* The index of the first bad entry: 0 where the call is done, and for each number but 7, 16 and 17. It counts colours from 0, not
+ * components.
+ *
+ *     7     assign: colours of the palette are 0 to s * c - 1, colour k of the tiles is s * c + k (palette before tiles)
+ *           start, advance, hand_in, result: colour k of the tiles is k
+ *     16    colours of palette are 0 to s * c - 1, colour k of least is s * c + k (palette before least)
+ *     17    colour k of reduced is k
+ *
+ * Colour k of a palette is colour k % c of subpalette k / c. Colour k of the tiles is colour k - tiles[2 * i] of the tile i that has
+ * tiles[2 * i] <= k < tiles[2 * i] + tiles[2 * i + 1]. hosts/c/entry.c puts both into words. */
+static inline size_t dunkafeto_index(uint64_t answer) { return dunkafeto_number(answer) == DUNKAFETO_DONE ? 0 : (size_t)(answer >> 8); }
 
 /* Whether a stage is one for advance. */
 static inline int dunkafeto_draws_in(uint64_t stage) { return stage < 3 || stage == 4; }
@@ -156,6 +171,8 @@ static inline const char *dunkafeto_says(uint32_t number) {
         "the sheet is cut short, has a spare bit set or bytes after it, or is too large",
         "equal reduced colours have different Oklab bits",
         "the tile is empty",
+        "a working colour's component is too large or not finite",
+        "a handed-in colour's component is too large or not finite",
     };
     return number < sizeof words / sizeof words[0] ? words[number] : "no such number";
 }
@@ -175,8 +192,8 @@ static inline const char *dunkafeto_says(uint32_t number) {
  *
  *     order     n                 the order of the samples                                 below n (9)
  *     hints     t                 per tile the subpalette that is tried first              any
- *     palette   3 * s * c         the colours, subpalette by subpalette: l, a, b           finite, magnitude at most 4 (7)
- *     least     3 * s * c         a second palette, in use in stage 2                      the same, in stage 2 only (7)
+ *     palette   3 * s * c         the colours, subpalette by subpalette: l, a, b           finite, magnitude at most 4 (16)
+ *     least     3 * s * c         a second palette, in use in stage 2                      the same, in stage 2 only (16)
  *     words     6                 the record                                               its rules (10)
  *
  * A length other than that in the second column is number 3.
@@ -207,7 +224,7 @@ uint64_t dunkafeto_advance(size_t s, size_t c, size_t t, size_t n, float weight,
                            uint64_t *words, size_t words_len, uint64_t allotment);
 
 /* Hands in the palette's colours as the console shows them: `reduced` has 3 * s * c components (3), finite and of magnitude at most
- * 2 (7). Only at a stop, stages 3, 5, 6 (11). Writes hints, palette and words. */
+ * 2 (17). Only at a stop, stages 3, 5, 6 (11). Writes hints, palette and words. */
 uint64_t dunkafeto_hand_in(size_t s, size_t c, size_t t, size_t n, float weight,
                            const uint32_t *tiles, size_t tiles_len, const float *colours, size_t colours_len,
                            const uint32_t *counts, size_t counts_len, const uint32_t *samples, size_t samples_len,

@@ -9,6 +9,7 @@
 #include <unistd.h>
 
 #include "bytes.h"
+#include "entry.h"
 #include "file.h"
 #include "state.h"
 
@@ -42,10 +43,19 @@ static int complain_of_file(const char *doing, const char *name) {
     return NO_FILE;
 }
 
-static int refused(int status, const char *what, uint32_t number) {
-    fprintf(stderr, "host: %s: refused %" PRIu32 ": %s\n", what, number, dunkafeto_says(number));
+static int refused(int status, const char *what, uint64_t answer, Entry entry) {
+    uint32_t number = dunkafeto_number(answer);
+    const char *colon = *entry.words == '\0' ? "" : ": ";
+    fprintf(stderr, "host: %s: refused %" PRIu32 ": %s%s%s\n", what, number, dunkafeto_says(number), colon, entry.words);
     return status;
 }
+
+/* By a call of the run. */
+static int run_refused(int status, const char *what, uint64_t answer, const Run *run) {
+    return refused(status, what, answer, entry_of(answer, run->sheet, 0));
+}
+
+static int done(uint64_t answer) { return dunkafeto_number(answer) == DUNKAFETO_DONE; }
 
 /* One line that is written again and again, for a person who watches. */
 static void show_progress(const Run *run) {
@@ -113,12 +123,12 @@ static int read_sheet(const Options *o, Sheet *sheet, uint64_t *key) {
     static unsigned char bytes[SHEET_MOST_BYTES + 1]; /* one more, to see that a sheet is too large */
     const char *name = o->sheet == NULL ? "standard input" : o->sheet;
     size_t len;
-    uint32_t number;
+    uint64_t answer;
     if (!file_read(o->sheet, bytes, sizeof bytes, &len))
         return complain_of_file("read", name);
-    number = sheet_read(sheet, bytes, len);
-    if (number != DUNKAFETO_DONE)
-        return refused(REFUSED, name, number);
+    answer = sheet_read(sheet, bytes, len);
+    if (!done(answer))
+        return refused(REFUSED, name, answer, entry_of(answer, sheet, sheet->s * sheet->c));
     *key = state_key(bytes, len, o->seed);
     return GOOD;
 }
@@ -126,7 +136,7 @@ static int read_sheet(const Options *o, Sheet *sheet, uint64_t *key) {
 /* Goes on from the state file, or gives -1 where there is none. */
 static int resume(const Options *o, Run *run, uint64_t key) {
     StateFault fault = o->state == NULL ? STATE_ABSENT : state_load(run, key, o->state);
-    uint32_t number;
+    uint64_t answer;
     if (fault == STATE_ABSENT)
         return -1;
     if (fault == STATE_UNREADABLE)
@@ -135,9 +145,9 @@ static int resume(const Options *o, Run *run, uint64_t key) {
         fprintf(stderr, "host: state file %s %s; it is left as it is\n", o->state, state_says(fault));
         return BAD_STATE;
     }
-    number = run_check(run);
-    if (number != DUNKAFETO_DONE)
-        return refused(BAD_STATE, o->state, number);
+    answer = run_check(run);
+    if (!done(answer))
+        return run_refused(BAD_STATE, o->state, answer, run);
     fprintf(stderr, "resumed at draw %" PRIu64 "\n", run->words[DUNKAFETO_MADE]);
     return GOOD;
 }
@@ -150,19 +160,19 @@ static int save(const Options *o, const Run *run, uint64_t key) {
 
 static int train(const Options *o, Run *run, uint64_t key) {
     int status = resume(o, run, key);
-    uint32_t number = DUNKAFETO_DONE;
+    uint64_t answer = DUNKAFETO_DONE;
     if (status > GOOD)
         return status;
     if (status < GOOD)
-        number = run_start(run, o->seed);
-    while (number == DUNKAFETO_DONE && !run_finished(run)) {
-        number = run_step(run, o->every);
+        answer = run_start(run, o->seed);
+    while (done(answer) && !run_finished(run)) {
+        answer = run_step(run, o->every);
         show_progress(run);
-        status = number == DUNKAFETO_DONE ? save(o, run, key) : GOOD;
+        status = done(answer) ? save(o, run, key) : GOOD;
         if (status != GOOD)
             return status;
     }
-    return number == DUNKAFETO_DONE ? GOOD : refused(REFUSED, "job", number);
+    return done(answer) ? GOOD : run_refused(REFUSED, "job", answer, run);
 }
 
 static int write_sheet(const Options *o, const Sheet *sheet) {
@@ -182,19 +192,19 @@ static int work(const Options *o) {
     static Sheet sheet;
     static Run run;
     uint64_t key = 0;
-    uint32_t number;
+    uint64_t answer;
     int status = read_sheet(o, &sheet, &key);
     if (status != GOOD)
         return status;
-    number = run_prepare(&run, &sheet);
-    if (number != DUNKAFETO_DONE)
-        return refused(REFUSED, "job", number);
+    answer = run_prepare(&run, &sheet);
+    if (!done(answer))
+        return run_refused(REFUSED, "job", answer, &run);
     status = train(o, &run, key);
     if (status != GOOD)
         return status;
-    number = run_result(&run, sheet.palette);
-    if (number != DUNKAFETO_DONE)
-        return refused(REFUSED, "job", number);
+    answer = run_result(&run, sheet.palette);
+    if (!done(answer))
+        return run_refused(REFUSED, "job", answer, &run);
     return write_sheet(o, &sheet);
 }
 

@@ -29,7 +29,7 @@ static int add_samples(Run *run, uint32_t tile, uint32_t place, uint32_t count) 
     return 1;
 }
 
-uint32_t run_prepare(Run *run, const Sheet *sheet) {
+uint64_t run_prepare(Run *run, const Sheet *sheet) {
     memset(run, 0, sizeof *run);
     run->sheet = sheet;
     for (uint32_t tile = 0; tile < sheet->t; tile++) {
@@ -41,25 +41,23 @@ uint32_t run_prepare(Run *run, const Sheet *sheet) {
     return run->n == 0 ? DUNKAFETO_NO_SAMPLES : DUNKAFETO_DONE;
 }
 
-uint32_t run_start(Run *run, uint64_t seed) {
-    return dunkafeto_number(dunkafeto_start(SIZES(run), seed, TABLES(run), MEMORY(run)));
-}
+uint64_t run_start(Run *run, uint64_t seed) { return dunkafeto_start(SIZES(run), seed, TABLES(run), MEMORY(run)); }
 
-uint32_t run_step(Run *run, uint64_t most) {
+uint64_t run_step(Run *run, uint64_t most) {
     float reduced[MOST_CELLS];
     if (dunkafeto_draws_in(run->words[DUNKAFETO_STAGE]))
-        return dunkafeto_number(dunkafeto_advance(SIZES(run), TABLES(run), MEMORY(run), most));
+        return dunkafeto_advance(SIZES(run), TABLES(run), MEMORY(run), most);
     console_reduce(run->palette, reduced, run_cells(run) / 3);
-    return dunkafeto_number(dunkafeto_hand_in(SIZES(run), TABLES(run), MEMORY(run), reduced, run_cells(run)));
+    return dunkafeto_hand_in(SIZES(run), TABLES(run), MEMORY(run), reduced, run_cells(run));
 }
 
-uint32_t run_result(const Run *run, float *palette) {
-    return dunkafeto_number(dunkafeto_result(SIZES(run), TABLES(run), MEMORY(run), palette, run_cells(run)));
+uint64_t run_result(const Run *run, float *palette) {
+    return dunkafeto_result(SIZES(run), TABLES(run), MEMORY(run), palette, run_cells(run));
 }
 
 /* `result` makes every check of the memory before it looks at the moment, and only copies. */
-uint32_t run_check(const Run *run) {
+uint64_t run_check(const Run *run) {
     float unused[MOST_CELLS];
-    uint32_t number = run_result(run, unused);
-    return number == DUNKAFETO_MOMENT && !run_finished(run) ? DUNKAFETO_DONE : number;
+    uint64_t answer = run_result(run, unused);
+    return dunkafeto_number(answer) == DUNKAFETO_MOMENT && !run_finished(run) ? DUNKAFETO_DONE : answer;
 }

@@ -15,21 +15,21 @@ typedef struct {
     uint64_t words[DUNKAFETO_WORDS];
 } Run;
 
-/* Each call below gives the library's number, DUNKAFETO_DONE or why it refused. */
+/* Each call below gives the library's answer: of its number DUNKAFETO_DONE, or why it refused and which entry. */
 
 /* Makes the samples of the sheet. It refuses as the library would where there are none or too many. */
-uint32_t run_prepare(Run *run, const Sheet *sheet);
+uint64_t run_prepare(Run *run, const Sheet *sheet);
 
-uint32_t run_start(Run *run, uint64_t seed);
+uint64_t run_start(Run *run, uint64_t seed);
 
 /* Makes up to `most` draws, or, at a stop, hands in the colours that the console shows. */
-uint32_t run_step(Run *run, uint64_t most);
+uint64_t run_step(Run *run, uint64_t most);
 
 /* Whether the library accepts the run's memory, which may come from a file. Writes nothing. */
-uint32_t run_check(const Run *run);
+uint64_t run_check(const Run *run);
 
 /* Copies the colours of a finished run. */
-uint32_t run_result(const Run *run, float *palette);
+uint64_t run_result(const Run *run, float *palette);
 
 size_t run_cells(const Run *run);
 int run_finished(const Run *run);

@@ -13,13 +13,15 @@ typedef struct {
     const unsigned char *from;
     unsigned char *to;
     size_t bits, at;
-    uint32_t fault;
+    uint64_t fault; /* an answer */
 } Bits;
 
-static void refuse(Bits *b, uint32_t number) {
+static void refuse_at(Bits *b, uint32_t number, size_t index) {
     if (b->fault == DUNKAFETO_DONE)
-        b->fault = number;
+        b->fault = (uint64_t)index << 8 | number;
 }
+
+static void refuse(Bits *b, uint32_t number) { refuse_at(b, number, 0); }
 
 /* A field of up to 32 bits; 0 where it is cut short. */
 static uint32_t take(Bits *b, unsigned width) {
@@ -39,17 +41,18 @@ static void give(Bits *b, uint32_t value, unsigned width) {
             b->to[b->at / 8] |= (unsigned char)(1u << (7 - b->at % 8));
 }
 
-/* A component is finite and of magnitude 2 at most; the comparison is false for NaN. */
-static float take_component(Bits *b) {
+/* A component of the colour of an index is finite and of magnitude 2 at most; the comparison is false for NaN. */
+static float take_component(Bits *b, size_t index) {
     float x = float_of(take(b, 32));
     if (!(x >= -DUNKAFETO_MOST_COMPONENT && x <= DUNKAFETO_MOST_COMPONENT))
-        refuse(b, DUNKAFETO_COMPONENTS);
+        refuse_at(b, DUNKAFETO_COMPONENTS, index);
     return x;
 }
 
-static void take_colours(Bits *b, float *to, size_t components) {
-    for (size_t i = 0; i < components && b->fault == DUNKAFETO_DONE; i++)
-        to[i] = take_component(b);
+/* So many colours, of indexes from `first` on. */
+static void take_colours(Bits *b, float *to, size_t colours, size_t first) {
+    for (size_t i = 0; i < 3 * colours && b->fault == DUNKAFETO_DONE; i++)
+        to[i] = take_component(b, first + i / 3);
 }
 
 /* Opening, edition, sizes, weight. */
@@ -80,7 +83,7 @@ static void take_tile(Bits *b, Sheet *sheet, size_t tile) {
         if (b->fault != DUNKAFETO_DONE)
             return; /* so a count was read, and a sheet with that many bits has a place for it in ours */
         sheet->counts[sheet->colours_of_tiles] = count;
-        take_colours(b, sheet->colours + 3 * sheet->colours_of_tiles, 3);
+        take_colours(b, sheet->colours + 3 * sheet->colours_of_tiles, 1, sheet->s * sheet->c + sheet->colours_of_tiles);
         sheet->colours_of_tiles++;
     }
 }
@@ -92,14 +95,14 @@ static void take_end(Bits *b) {
         refuse(b, DUNKAFETO_SHEET_BYTES);
 }
 
-uint32_t sheet_read(Sheet *sheet, const unsigned char *bytes, size_t len) {
+uint64_t sheet_read(Sheet *sheet, const unsigned char *bytes, size_t len) {
     Bits b = {bytes, NULL, 8 * len, 0, DUNKAFETO_DONE};
     memset(sheet, 0, sizeof *sheet);
     if (len > SHEET_MOST_BYTES)
         return DUNKAFETO_SHEET_BYTES;
     take_head(&b, sheet);
     if (b.fault == DUNKAFETO_DONE)
-        take_colours(&b, sheet->palette, 3 * sheet->s * sheet->c);
+        take_colours(&b, sheet->palette, sheet->s * sheet->c, 0);
     for (size_t i = 0; i < sheet->t && b.fault == DUNKAFETO_DONE; i++)
         take_tile(&b, sheet, i);
     if (b.fault == DUNKAFETO_DONE)

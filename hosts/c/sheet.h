@@ -22,8 +22,9 @@ typedef struct {
     uint32_t counts[SHEET_MOST_TILE_COLOURS];    /* pixels that have the colour */
 } Sheet;
 
-/* Reads a sheet: DUNKAFETO_DONE, or the number of its first fault. */
-uint32_t sheet_read(Sheet *sheet, const unsigned char *bytes, size_t len);
+/* Reads a sheet: an answer as the library's, DUNKAFETO_DONE or the number of the first fault with its index, which for
+ * DUNKAFETO_COMPONENTS counts the palette's colours and then the tiles'. Of a refused sheet there is what stands before the fault. */
+uint64_t sheet_read(Sheet *sheet, const unsigned char *bytes, size_t len);
 
 /* Writes a sheet that was read, with any palette, and gives its length; there is room for SHEET_MOST_BYTES. */
 size_t sheet_write(const Sheet *sheet, unsigned char *bytes);

@@ -24,6 +24,10 @@ static void component_above_2(Sheet *sheet) { sheet->colours[5] = -2.0000002f; }
 static void component_nan(Sheet *sheet) { sheet->colours[0] = NAN; }
 static void palette_above_2(Sheet *sheet) { sheet->palette[2] = 2.0000002f; }
 static void palette_infinite(Sheet *sheet) { sheet->palette[0] = INFINITY; }
+static void two_components(Sheet *sheet) { sheet->colours[2] = sheet->colours[3] = NAN; }
+static void palette_and_tile(Sheet *sheet) { sheet->palette[2] = sheet->colours[0] = NAN; }
+static void count_and_component(Sheet *sheet) { sheet->counts[1] = 64, sheet->colours[3] = NAN; }
+static void component_and_count(Sheet *sheet) { sheet->colours[0] = NAN, sheet->counts[1] = 64; }
 static void weight_16(Sheet *sheet) { sheet->weight = 16.0f; }
 static void weight_above_16(Sheet *sheet) { sheet->weight = 16.000002f; }
 static void weight_0(Sheet *sheet) { sheet->weight = 0.0f; }
@@ -44,37 +48,45 @@ static const struct {
     const char *name;
     Edit *edit;
     uint32_t number;
+    size_t index;
 } edits[] = {
-    {"in order", nothing, 0},
-    {"counts of 64", counts_of_64, 0},
-    {"counts of 65", counts_of_65, 6},
-    {"component 2", component_2, 0},
-    {"component above 2", component_above_2, 7},
-    {"component NaN", component_nan, 7},
-    {"palette above 2", palette_above_2, 7},
-    {"palette infinite", palette_infinite, 7},
-    {"weight 16", weight_16, 0},
-    {"weight above 16", weight_above_16, 4},
-    {"weight 0", weight_0, 4},
-    {"weight NaN", weight_nan, 4},
-    {"sizes 16, 16 and 1,024", all_sizes, 0},
-    {"64 colours in a tile", tile_of_64, 0},
-    {"65 colours in a tile", tile_of_65, 5},
+    {"in order", nothing, 0, 0},
+    {"counts of 64", counts_of_64, 0, 0},
+    {"counts of 65", counts_of_65, 6, 0},
+    {"component 2", component_2, 0, 0},
+    {"component above 2", component_above_2, 7, 2},
+    {"component NaN", component_nan, 7, 1},
+    {"palette above 2", palette_above_2, 7, 0},
+    {"palette infinite", palette_infinite, 7, 0},
+    {"two components", two_components, 7, 1},
+    {"palette and tile", palette_and_tile, 7, 0},
+    {"a count, then a component", count_and_component, 6, 0},
+    {"a component, then a count", component_and_count, 7, 1},
+    {"weight 16", weight_16, 0, 0},
+    {"weight above 16", weight_above_16, 4, 0},
+    {"weight 0", weight_0, 4, 0},
+    {"weight NaN", weight_nan, 4, 0},
+    {"sizes 16, 16 and 1,024", all_sizes, 0, 0},
+    {"64 colours in a tile", tile_of_64, 0, 0},
+    {"65 colours in a tile", tile_of_65, 5, 0},
 };
 
 static unsigned char bytes[SHEET_MOST_BYTES + 1];
 
-static void report(const char *name, uint32_t found, uint32_t expected) {
-    printf("%s sheet, %s: %" PRIu32 "\n", found == expected ? "passed" : "failed", name, expected);
+static void report_at(const char *name, uint64_t answer, uint32_t number, size_t index) {
+    int good = dunkafeto_number(answer) == number && dunkafeto_index(answer) == index && dunkafeto_draws(answer) == 0;
+    printf("%s sheet, %s: %" PRIu32 " at %zu\n", good ? "passed" : "failed", name, number, index);
 }
 
+static void report(const char *name, uint64_t answer, uint32_t number) { report_at(name, answer, number, 0); }
+
 /* What is accepted comes back whole; tiles past the second are empty and begin where that ends. */
-static uint32_t back(const Sheet *sheet, size_t len) {
+static uint64_t back(const Sheet *sheet, size_t len) {
     static Sheet read;
-    uint32_t number = sheet_read(&read, bytes, len);
+    uint64_t answer = sheet_read(&read, bytes, len);
     for (size_t i = 2; i < sheet->t; i++)
         read.tiles[2 * i] = 0;
-    return number == DUNKAFETO_DONE && memcmp(sheet, &read, sizeof read) != 0 ? UINT32_MAX : number;
+    return answer == DUNKAFETO_DONE && memcmp(sheet, &read, sizeof read) != 0 ? UINT64_MAX : answer;
 }
 
 int main(void) {
@@ -84,7 +96,7 @@ int main(void) {
         fill(&sheet);
         edits[i].edit(&sheet);
         len = sheet_write(&sheet, bytes);
-        report(edits[i].name, back(&sheet, len), edits[i].number);
+        report_at(edits[i].name, back(&sheet, len), edits[i].number, edits[i].index);
     }
     fill(&sheet);
     sheet.t = 3; /* 407 bits, so that one is spare */

@@ -1,5 +1,5 @@
-/* Each number that the five calls give, by a lent memory with one fault: the number is the expected one, no draws are reported, and
- * nothing is written. Prints a line for each: 'passed NAME' or 'failed NAME'. */
+/* Each number that the five calls give, by a lent memory with one fault, or with two of which the first in order decides: number and
+ * index are the expected ones, no draws are reported, and nothing is written. Prints a line for each: 'passed NAME' or 'failed NAME'. */
 #include <inttypes.h>
 #include <math.h>
 #include <stdio.h>
@@ -54,14 +54,16 @@ static void fill(Lent *m) {
 
 static void report(const char *name, int good) { printf("%s %s\n", good ? "passed" : "failed", name); }
 
-/* One call on the memory: the number is the expected one, and a refusal reports and writes nothing. */
-static void expect(const char *name, Call *call, Lent *m, uint32_t number) {
+/* One call on the memory: number and index are the expected ones, and a refusal reports no draws and writes nothing. */
+static void expect_at(const char *name, Call *call, Lent *m, uint32_t number, size_t index) {
     static Lent before;
     memcpy(&before, m, sizeof before);
     uint64_t answer = call(m);
-    int quiet = number == DUNKAFETO_DONE || (answer == number && memcmp(&before, m, sizeof before) == 0);
-    report(name, dunkafeto_number(answer) == number && quiet);
+    int quiet = number == DUNKAFETO_DONE || (dunkafeto_draws(answer) == 0 && memcmp(&before, m, sizeof before) == 0);
+    report(name, dunkafeto_number(answer) == number && dunkafeto_index(answer) == index && quiet);
 }
+
+static void expect(const char *name, Call *call, Lent *m, uint32_t number) { expect_at(name, call, m, number, 0); }
 
 /* ---- faults */
 typedef void Fault(Lent *m);
@@ -81,21 +83,38 @@ static void no_count(Lent *m) { m->counts[1] = 0; }
 static void high_count(Lent *m) { m->counts[1] = 64; }
 static void large_colour(Lent *m) { m->colours[0] = 2.0000002f; }
 static void nan_colour(Lent *m) { m->colours[8] = NAN; }
+static void two_colours(Lent *m) { m->colours[5] = -3.0f, m->colours[6] = NAN; }
 static void sample_of_empty_tile(Lent *m) { m->samples[0] = 1; }
 static void sample_of_no_tile(Lent *m) { m->samples[0] = T; }
 static void large_order(Lent *m) { m->order[N - 1] = N; }
 static void stage_8(Lent *m) { m->words[DUNKAFETO_STAGE] = 8; }
 static void one_draw_more(Lent *m) { m->words[DUNKAFETO_MADE]++; }
 static void large_working(Lent *m) { m->palette[0] = 4.0000005f; }
+static void nan_working(Lent *m) { m->palette[CELLS - 1] = NAN; }
+static void two_working(Lent *m) { m->palette[7] = INFINITY, m->palette[3] = -5.0f; }
+static void working_and_order(Lent *m) { m->palette[6] = NAN, m->order[0] = N; }
+static void working_and_record(Lent *m) { m->palette[6] = NAN, m->words[DUNKAFETO_STAGE] = 8; }
+static void working_and_colour(Lent *m) { m->palette[0] = NAN, m->colours[3] = NAN; }
+static void nan_least(Lent *m) { m->least[CELLS - 1] = NAN; }
+static void two_least(Lent *m) { m->least[9] = INFINITY, m->least[5] = -4.0000005f; }
+static void least_and_working(Lent *m) { m->least[0] = NAN, m->palette[CELLS - 1] = NAN; }
+static void least_and_order(Lent *m) { m->least[0] = NAN, m->order[0] = N; }
 static void infinite_handed_in(Lent *m) { m->other[CELLS - 1] = INFINITY; }
+static void large_handed_in(Lent *m) { m->other[0] = 2.0000002f; }
+static void two_handed_in(Lent *m) { m->other[8] = NAN, m->other[3] = -2.5f; }
+static void handed_in_and_working(Lent *m) { m->other[0] = NAN, m->palette[9] = NAN; }
 static void short_other(Lent *m) { m->other_len--; }
 static void large_palette(Lent *m) { m->palette[0] = 2.5f; }
+static void nan_palette(Lent *m) { m->palette[CELLS - 1] = NAN; }
+static void two_of_palette(Lent *m) { m->palette[9] = NAN, m->palette[5] = 2.0000002f; }
+static void palette_and_colour(Lent *m) { m->palette[9] = NAN, m->colours[0] = NAN; }
 static void short_out(Lent *m) { m->out_len--; }
 
 typedef struct {
     const char *name;
     Fault *fault;
     uint32_t number;
+    size_t index;
 } Case;
 
 /* Tries each fault on a copy of the memory. */
@@ -105,72 +124,111 @@ static void each(const char *what, Call *call, const Lent *good, const Case *cas
         char name[80];
         memcpy(&m, good, sizeof m);
         cases[i].fault(&m);
-        snprintf(name, sizeof name, "%s, %s: %" PRIu32, what, cases[i].name, cases[i].number);
-        expect(name, call, &m, cases[i].number);
+        snprintf(name, sizeof name, "%s, %s: %" PRIu32 " at %zu", what, cases[i].name, cases[i].number, cases[i].index);
+        expect_at(name, call, &m, cases[i].number, cases[i].index);
     }
 }
 
 #define EACH(what, call, good, cases) each(what, call, good, cases, sizeof cases / sizeof cases[0])
 
 static const Case of_job[] = {
-    {"in order", none, 0},
-    {"no samples", no_samples, 1},
-    {"17 subpalettes", many_subpalettes, 2},
-    {"no tiles", no_tiles, 2},
-    {"16,385 samples", many_samples, 2},
-    {"a hint too few", short_hints, 3},
-    {"an order entry too few", short_order, 3},
-    {"five words", short_words, 3},
-    {"a component too few", short_colours, 3},
-    {"weight 0", no_weight, 4},
-    {"weight NaN", nan_weight, 4},
-    {"a gap in the tiles", gap_in_tiles, 5},
-    {"a count of 0", no_count, 6},
-    {"counts of 65", high_count, 6},
-    {"a component above 2", large_colour, 7},
-    {"a component NaN", nan_colour, 7},
-    {"a sample of an empty tile", sample_of_empty_tile, 8},
-    {"a sample of no tile", sample_of_no_tile, 8},
+    {"in order", none, 0, 0},
+    {"no samples", no_samples, 1, 0},
+    {"17 subpalettes", many_subpalettes, 2, 0},
+    {"no tiles", no_tiles, 2, 0},
+    {"16,385 samples", many_samples, 2, 0},
+    {"a hint too few", short_hints, 3, 0},
+    {"an order entry too few", short_order, 3, 0},
+    {"five words", short_words, 3, 0},
+    {"a component too few", short_colours, 3, 0},
+    {"weight 0", no_weight, 4, 0},
+    {"weight NaN", nan_weight, 4, 0},
+    {"a gap in the tiles", gap_in_tiles, 5, 0},
+    {"a count of 0", no_count, 6, 0},
+    {"counts of 65", high_count, 6, 0},
+    {"the first colour above 2", large_colour, 7, 0},
+    {"the last colour NaN", nan_colour, 7, COLOURS - 1},
+    {"two colours", two_colours, 7, 1},
+    {"a sample of an empty tile", sample_of_empty_tile, 8, 0},
+    {"a sample of no tile", sample_of_no_tile, 8, 0},
 };
 
+/* At another stage than 2, where the second palette is not in use. */
 static const Case of_memory[] = {
-    {"stage 8", stage_8, 10},
-    {"a draw too many", one_draw_more, 10},
-    {"a working component above 4", large_working, 7},
-    {"an order entry n", large_order, 9},
+    {"stage 8", stage_8, 10, 0},
+    {"a draw too many", one_draw_more, 10, 0},
+    {"the first working colour above 4", large_working, 16, 0},
+    {"the last working colour NaN", nan_working, 16, S * C - 1},
+    {"two working colours", two_working, 16, 1},
+    {"a working colour and the order", working_and_order, 16, 2},
+    {"a working colour and the record", working_and_record, 10, 0},
+    {"a working colour and a tile's", working_and_colour, 7, 1},
+    {"an order entry n", large_order, 9, 0},
+    {"a second palette that is not in use", nan_least, 0, 0},
+};
+
+static const Case in_stage_2[] = {
+    {"two working colours", two_working, 16, 1},
+    {"the last kept colour NaN", nan_least, 16, 2 * S * C - 1},
+    {"two kept colours", two_least, 16, S * C + 1},
+    {"a kept colour and a working one", least_and_working, 16, S * C - 1},
+    {"a kept colour and the order", least_and_order, 16, S * C},
 };
 
 static const Case at_a_stop[] = {
-    {"in order", none, 0},
-    {"a colour too few", short_other, 3},
-    {"an infinite colour", infinite_handed_in, 7},
+    {"a colour too few", short_other, 3, 0},
+    {"the last handed-in colour infinite", infinite_handed_in, 17, S * C - 1},
+    {"the first handed-in colour above 2", large_handed_in, 17, 0},
+    {"two handed-in colours", two_handed_in, 17, 1},
+    {"a handed-in colour and a working one", handed_in_and_working, 16, 3},
 };
 
 static const Case of_assign[] = {
-    {"in order", none, 0},
-    {"17 subpalettes", many_subpalettes, 2},
-    {"a place too few", short_out, 3},
-    {"weight 0", no_weight, 4},
-    {"a gap in the tiles", gap_in_tiles, 5},
-    {"a count of 0", no_count, 6},
-    {"a palette component above 2", large_palette, 7},
+    {"in order", none, 0, 0},
+    {"17 subpalettes", many_subpalettes, 2, 0},
+    {"a place too few", short_out, 3, 0},
+    {"weight 0", no_weight, 4, 0},
+    {"a gap in the tiles", gap_in_tiles, 5, 0},
+    {"a count of 0", no_count, 6, 0},
+    {"the first palette colour above 2", large_palette, 7, 0},
+    {"the last palette colour NaN", nan_palette, 7, S * C - 1},
+    {"two palette colours", two_of_palette, 7, 1},
+    {"a palette colour and a tile's", palette_and_colour, 7, 3},
+    {"the first tile colour above 2", large_colour, 7, S * C},
+    {"the last tile colour NaN", nan_colour, 7, S * C + COLOURS - 1},
+    {"two tile colours", two_colours, 7, S * C + 1},
 };
 
-/* From the start to the finish, with each call at its moment and at another's. */
-static void run_through(Lent *m) {
+/* From the start to the first stop, with each call at its moment and at another's. */
+static void run_to_stop(Lent *m) {
+    uint64_t answer;
     EACH("start", start, m, of_job);
     start(m);
     EACH("advance", advance, m, of_job);
     EACH("advance", advance, m, of_memory);
     expect("hand_in while drawing: 11", hand_in, m, DUNKAFETO_MOMENT);
     expect("result while drawing: 11", result, m, DUNKAFETO_MOMENT);
-    report("advance reports the draws that it makes", dunkafeto_draws(advance(m)) == 3 && m->words[DUNKAFETO_MADE] == 3);
+    m->other[0] = NAN;
+    expect("hand_in of NaN while drawing: 11", hand_in, m, DUNKAFETO_MOMENT);
+    answer = advance(m);
+    report("advance reports the draws that it makes", dunkafeto_draws(answer) == 3 && m->words[DUNKAFETO_MADE] == 3);
+    report("advance that made draws has no index", dunkafeto_number(answer) == DUNKAFETO_DONE && dunkafeto_index(answer) == 0);
+    while (m->words[DUNKAFETO_STAGE] != DUNKAFETO_REPLACING)
+        advance(m);
+    EACH("advance in stage 2", advance, m, in_stage_2);
+    EACH("hand_in in stage 2", hand_in, m, in_stage_2);
+    EACH("result in stage 2", result, m, in_stage_2);
     while (dunkafeto_draws_in(m->words[DUNKAFETO_STAGE]))
         advance(m);
+}
+
+/* From the first stop to the finish. */
+static void run_to_finish(Lent *m) {
     memcpy(m->other, m->palette, sizeof m->other);
     expect("advance at a stop: 11", advance, m, DUNKAFETO_MOMENT);
-    EACH("hand_in", hand_in, m, at_a_stop);
+    EACH("hand_in", hand_in, m, of_job);
     EACH("hand_in", hand_in, m, of_memory);
+    EACH("hand_in", hand_in, m, at_a_stop);
     while (m->words[DUNKAFETO_STAGE] != DUNKAFETO_FINISHED)
         if (dunkafeto_number(advance(m)) == DUNKAFETO_MOMENT) {
             memcpy(m->other, m->palette, sizeof m->other);
@@ -178,8 +236,8 @@ static void run_through(Lent *m) {
         }
     expect("advance when finished: 11", advance, m, DUNKAFETO_MOMENT);
     expect("hand_in when finished: 11", hand_in, m, DUNKAFETO_MOMENT);
+    EACH("result", result, m, of_job);
     EACH("result", result, m, of_memory);
-    expect("result when finished: 0", result, m, DUNKAFETO_DONE);
     report("a whole run makes (S + C + 18) * (n / 10) draws", m->words[DUNKAFETO_MADE] == dunkafeto_all_draws(S, C, N));
 }
 
@@ -199,7 +257,8 @@ int main(void) {
     static Lent m;
     fill(&m);
     EACH("assign", assign, &m, of_assign);
-    run_through(&m);
+    run_to_stop(&m);
+    run_to_finish(&m);
     no_elements();
     return 0;
 }

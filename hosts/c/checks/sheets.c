@@ -45,37 +45,39 @@ static uint64_t with_memory(uint64_t before, const Run *run) {
 }
 
 /* The checksum goes on over the subpalettes of the tiles, by the trained palette. */
-static uint32_t with_subpalettes(uint64_t *memory, const Sheet *sheet) {
+static uint64_t with_subpalettes(uint64_t *memory, const Sheet *sheet) {
     static uint32_t hints[DUNKAFETO_MOST_TILES], subpalettes[DUNKAFETO_MOST_TILES];
     uint64_t answer = dunkafeto_assign(sheet->s, sheet->c, sheet->t, sheet->weight, sheet->tiles, 2 * sheet->t, sheet->colours,
                                        3 * sheet->colours_of_tiles, sheet->counts, sheet->colours_of_tiles, sheet->palette,
                                        3 * sheet->s * sheet->c, hints, sheet->t, subpalettes, sheet->t);
     *memory = with_u32s(*memory, subpalettes, sheet->t);
-    return dunkafeto_number(answer);
+    return answer;
 }
 
-/* Makes the sheet of a line and trains it: the line's two checksums, or the number of a refusal. */
-static uint32_t train(Line *line) {
+static int done(uint64_t answer) { return dunkafeto_number(answer) == DUNKAFETO_DONE; }
+
+/* Makes the sheet of a line and trains it: the line's two checksums, or the answer that refused. */
+static uint64_t train(Line *line) {
     static Sheet sheet;
     static Run run;
     static unsigned char bytes[SHEET_MOST_BYTES];
-    uint32_t number;
+    uint64_t answer;
     drawn_sheet(&sheet, line->s, line->c, line->t, line->seed);
-    number = run_prepare(&run, &sheet);
-    if (number == DUNKAFETO_DONE)
-        number = run_start(&run, line->seed);
+    answer = run_prepare(&run, &sheet);
+    if (done(answer))
+        answer = run_start(&run, line->seed);
     line->memory = with_memory(FNV_START, &run);
-    while (number == DUNKAFETO_DONE && !run_finished(&run)) {
-        number = run_step(&run, ALLOTMENT);
+    while (done(answer) && !run_finished(&run)) {
+        answer = run_step(&run, ALLOTMENT);
         line->memory = with_memory(line->memory, &run);
     }
-    if (number == DUNKAFETO_DONE)
-        number = run_result(&run, sheet.palette);
-    if (number == DUNKAFETO_DONE)
-        number = with_subpalettes(&line->memory, &sheet);
-    if (number == DUNKAFETO_DONE)
+    if (done(answer))
+        answer = run_result(&run, sheet.palette);
+    if (done(answer))
+        answer = with_subpalettes(&line->memory, &sheet);
+    if (done(answer))
         line->sheet = fnv1a(FNV_START, bytes, sheet_write(&sheet, bytes));
-    return number;
+    return answer;
 }
 
 /* Within the sizes that there is room for. */
@@ -100,7 +102,7 @@ static int replay(void) {
         if (!is_line(&want, fields) || text[end] != '\0')
             return useless(text, "no line of a list");
         got = want;
-        if (train(&got) != DUNKAFETO_DONE)
+        if (!done(train(&got)))
             return useless(text, "refused");
         sheets++;
         differ += got.sheet != want.sheet || got.memory != want.memory;
@@ -118,7 +120,7 @@ static int make(uint64_t count) {
             line.s = 1 + drawn_next(&state) % 8;
             line.c = 1 + drawn_next(&state) % 8;
         }
-        if (train(&line) != DUNKAFETO_DONE)
+        if (!done(train(&line)))
             return USELESS;
         printf("%" PRIu64 " %" PRIu64 " %" PRIu64 " %" PRIu64 " %016" PRIx64 " %016" PRIx64 "\n", line.seed, line.s, line.c, line.t, line.sheet,
                line.memory);

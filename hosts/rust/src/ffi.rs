@@ -13,19 +13,18 @@ const _: () = assert!(size_of::<Tile>() == 8 && align_of::<Tile>() == align_of::
 const _: () = assert!(size_of::<Sample>() == 8 && align_of::<Sample>() == align_of::<u32>());
 const _: () = assert!(size_of::<Colour>() == 12 && align_of::<Colour>() == align_of::<f32>());
 
-/// The draws, or why the call was refused: an answer is the draws times 256 and the number.
-fn told(answer: u64) -> Result<u64, Refusal> {
-    match Refusal::from_number((answer & 255) as u8) {
-        None => Ok(answer >> 8),
-        Some(refusal) => Err(refusal),
-    }
+/// The draws, or why the call was refused: an answer is a value times 256 and the number, and the value is the draws where the
+/// number is 0, an index where it is not. `palette` is how many palette colours that index counts among those of the job.
+fn told(answer: u64, job: &Job, palette: usize) -> Result<u64, Refusal> {
+    let (number, value) = ((answer & 255) as u8, answer >> 8);
+    Refusal::told(number, value as usize, job, palette).map_or(Ok(value), Err)
 }
 
 /// Calls a function of a run's with the job and the memory, which `$pointer` lends, and what is its own: `$first` after the
 /// weight, `$own` at the end.
 macro_rules! with_run {
-    ($call:ident, $job:ident, $memory:ident, $pointer:ident / $sometimes:ident, [$($first:expr),*] $(, $own:expr)*) => {
-        told(unsafe {
+    ($call:ident, $job:ident, $memory:ident, $pointer:ident / $sometimes:ident, [$($first:expr),*] $(, $own:expr)*) => {{
+        let answer = unsafe {
             $call(
                 $job.subpalettes,
                 $job.colours_each,
@@ -53,8 +52,9 @@ macro_rules! with_run {
                 $memory.record.len(),
                 $($own,)*
             )
-        })
-    };
+        };
+        told(answer, $job, 0)
+    }};
 }
 
 pub fn start(job: &Job, memory: &mut Memory) -> Result<u64, Refusal> {
@@ -78,7 +78,7 @@ pub fn result(job: &Job, memory: &Memory, out: &mut [Colour]) -> Result<u64, Ref
 }
 
 pub fn assign(job: &Job, palette: &[Colour], hints: &mut [u32], out: &mut [u32]) -> Result<u64, Refusal> {
-    told(unsafe {
+    let answer = unsafe {
         dunkafeto_assign(
             job.subpalettes,
             job.colours_each,
@@ -97,5 +97,6 @@ pub fn assign(job: &Job, palette: &[Colour], hints: &mut [u32], out: &mut [u32])
             out.as_mut_ptr(),
             out.len(),
         )
-    })
+    };
+    told(answer, job, job.palette_len())
 }

@@ -5,8 +5,9 @@
 //! those that its console has. The same job and seed give the same colours on every machine, however the run is divided
 //! into calls, and whether or not it was saved and taken up again. [`assign`] then gives each tile its subpalette.
 //!
-//! Every call checks all that it is given. What it does not accept it refuses with a [`Refusal`]: then it made no draw and
-//! wrote nothing. The library behind the calls allocates nothing and shares nothing between runs.
+//! Every call checks all that it is given. What it does not accept it refuses with a [`Refusal`], which names the first bad
+//! colour where it is a colour's fault: then it made no draw and wrote nothing. The library behind the calls allocates
+//! nothing and shares nothing between runs.
 //!
 //! ```
 //! use dunkafeto::{assign, console, Tiles, Trainer};
@@ -29,6 +30,7 @@
 #![warn(missing_docs)]
 
 pub mod console;
+mod entry;
 #[allow(unsafe_code, missing_docs)]
 mod exports;
 #[allow(unsafe_code)]
@@ -45,6 +47,7 @@ mod trainer;
 #[doc = include_str!("../../../docs/HOSTS.md")]
 struct HostsDocument;
 
+pub use entry::{Entry, EntryKind};
 pub use job::{Colour, Job, Sample, Tile, Tiles, MOST_COLOURS, MOST_SAMPLES, MOST_SUBPALETTES, MOST_TILES};
 pub use memory::Memory;
 pub use refusal::Refusal;

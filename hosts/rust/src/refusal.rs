@@ -1,18 +1,21 @@
-//! Why a call was refused: the answer numbers of docs/SCOPE.md.
+//! Why a call was refused: the answer numbers of docs/SCOPE.md, three of them with the colour at fault.
 
 use std::fmt;
+use std::mem::discriminant;
+
+use crate::entry::{Entry, EntryKind};
+use crate::job::Job;
 
 /// Why a call was refused. A refused call made no draw and wrote nothing.
 ///
-/// Of several faults the first in the order 2, 3, 1, 4, 5, 6, 7 (job), 8, 10, 7 (working colours), 9, 11, 7 (handed-in
-/// colours) decides. [`SameColour`](Refusal::SameColour) and [`EmptyTile`](Refusal::EmptyTile) belong to calls that are
-/// not exported to hosts; they stand here because the table is one.
+/// Of several faults the first in the order 2, 3, 1, 4, 5, 6, 7, 8, 10, 16, 9, 11, 17 decides, and of several bad colours
+/// the first. [`SameColour`](Refusal::SameColour) and [`EmptyTile`](Refusal::EmptyTile) belong to calls that are not
+/// exported to hosts; they stand here because the table is one.
 ///
 /// ```
 /// use dunkafeto::Refusal;
 ///
-/// assert_eq!(Refusal::Moment.number(), 11);
-/// assert_eq!(Refusal::from_number(11), Some(Refusal::Moment));
+/// assert_eq!((Refusal::Moment.number(), Refusal::Moment.index()), (11, 0));
 /// assert_eq!(Refusal::Moment.to_string(), "refused 11: the call does not belong to this moment of the run");
 /// ```
 #[derive(Clone, Copy, Debug, PartialEq, Eq, Hash)]
@@ -30,8 +33,14 @@ pub enum Refusal {
     Tiles,
     /// 6: a colour is counted 0 times, or a tile more than 64.
     Counts,
-    /// 7: a component that was given is above 2 in magnitude, or one that a run holds above 4, or either is not finite.
-    Components,
+    /// 7: a component of a job's colour is above 2 in magnitude or not finite.
+    JobColour {
+        /// In [`assign`](crate::assign) and in sheets 0 to S·C−1 for the palette and S·C + k for colour k of the tiles; in the
+        /// calls of a run k for colour k of the tiles.
+        index: usize,
+        /// The same colour, named.
+        entry: Entry,
+    },
     /// 8: a sample's tile is not there, or has no such colour.
     Samples,
     /// 9: an entry of the order is n or more.
@@ -49,19 +58,41 @@ pub enum Refusal {
     SameColour,
     /// 15: the single fit's tile has no colour.
     EmptyTile,
+    /// 16: a component that a run holds is above 4 in magnitude or not finite.
+    WorkingColour {
+        /// 0 to S·C−1 for the first palette, S·C + k for colour k of the second, which is looked at in stage 2 alone.
+        index: usize,
+        /// The same colour, named.
+        entry: Entry,
+    },
+    /// 17: a component handed in is above 2 in magnitude or not finite.
+    HandedInColour {
+        /// The place among the colours handed in.
+        index: usize,
+        /// The same colour, named.
+        entry: Entry,
+    },
     /// A number that the table of this edition does not have: the library is of a later one.
-    Unknown(u8),
+    Unknown {
+        /// The number.
+        number: u8,
+        /// The index that came with it.
+        index: usize,
+    },
 }
 
+/// For the table alone: each refusal has its own.
+const ANY: Entry = Entry::of_palette(EntryKind::Palette, 0, 1);
+
 /// Each number with its refusal and message; a number stands at its own place, less 1.
-const TABLE: [(Refusal, &str); 15] = [
+const TABLE: [(Refusal, &str); 17] = [
     (Refusal::NoSamples, "there are no samples"),
     (Refusal::Sizes, "too few or too many subpalettes, colours, tiles or samples"),
-    (Refusal::Lengths, "a slice has a length other than the sizes imply"),
+    (Refusal::Lengths, "a lent slice has the wrong length"),
     (Refusal::Weight, "the weight is not above 0 and at most 16"),
     (Refusal::Tiles, "the tile table is not consecutive, a tile has more than 64 colours, or the total is wrong"),
     (Refusal::Counts, "a count is 0, or a tile's counts sum to more than 64"),
-    (Refusal::Components, "a colour's component is too large or not finite"),
+    (Refusal::JobColour { index: 0, entry: ANY }, "a colour's component is too large or not finite"),
     (Refusal::Samples, "a sample names no tile or no colour of it"),
     (Refusal::Order, "an entry of the order is too large"),
     (Refusal::Record, "the run's record breaks its rules"),
@@ -70,40 +101,74 @@ const TABLE: [(Refusal, &str); 15] = [
     (Refusal::SheetBytes, "the sheet is cut short, has a spare bit set or bytes after it, or is too large"),
     (Refusal::SameColour, "equal reduced colours have different Oklab bits"),
     (Refusal::EmptyTile, "the tile is empty"),
+    (Refusal::WorkingColour { index: 0, entry: ANY }, "a working colour's component is too large or not finite"),
+    (Refusal::HandedInColour { index: 0, entry: ANY }, "a handed-in colour's component is too large or not finite"),
 ];
 
 impl Refusal {
-    /// The refusal that has a number; none has 0, which says done.
-    pub fn from_number(number: u8) -> Option<Self> {
+    /// The refusal that a call tells by number and index; none has the number 0, which says done. `palette` is how many palette
+    /// colours the call counts among those of the job, before the tiles' own.
+    pub(crate) fn told(number: u8, index: usize, job: &Job, palette: usize) -> Option<Self> {
         let place = usize::from(number).checked_sub(1)?;
-        Some(TABLE.get(place).map_or(Refusal::Unknown(number), |row| row.0))
+        let handed_in = |colour| Entry::of_palette(EntryKind::HandedIn, colour, job.colours_each);
+        Some(match TABLE.get(place).map(|row| row.0) {
+            None => Refusal::Unknown { number, index },
+            Some(Refusal::JobColour { .. }) => Refusal::JobColour { index, entry: Entry::of_job(job, index, palette) },
+            Some(Refusal::WorkingColour { .. }) => {
+                Refusal::WorkingColour { index, entry: Entry::of_memory(job, index) }
+            }
+            Some(Refusal::HandedInColour { .. }) => Refusal::HandedInColour { index, entry: handed_in(index) },
+            Some(other) => other,
+        })
     }
 
     /// Its number in the scope's table.
     pub fn number(self) -> u8 {
         match self {
-            Refusal::Unknown(number) => number,
+            Refusal::Unknown { number, .. } => number,
             known => 1 + self::place(known),
+        }
+    }
+
+    /// The index of the colour at fault, as the library counts; 0 where no colour is.
+    pub fn index(self) -> usize {
+        match self {
+            Refusal::JobColour { index, .. }
+            | Refusal::WorkingColour { index, .. }
+            | Refusal::HandedInColour { index, .. }
+            | Refusal::Unknown { index, .. } => index,
+            _ => 0,
+        }
+    }
+
+    /// The colour at fault, where one is.
+    pub fn entry(self) -> Option<Entry> {
+        match self {
+            Refusal::JobColour { entry, .. }
+            | Refusal::WorkingColour { entry, .. }
+            | Refusal::HandedInColour { entry, .. } => Some(entry),
+            _ => None,
         }
     }
 
     /// What is wrong, in words.
     pub fn message(self) -> &'static str {
         match self {
-            Refusal::Unknown(_) => "the library refused with a number that this crate does not know",
+            Refusal::Unknown { .. } => "the library refused with a number that this crate does not know",
             known => TABLE[usize::from(self::place(known))].1,
         }
     }
 }
 
-/// The place of a known refusal in the table.
+/// The place of a known refusal in the table, whatever its colour.
 fn place(known: Refusal) -> u8 {
-    TABLE.iter().take_while(|row| row.0 != known).count() as u8
+    TABLE.iter().take_while(|row| discriminant(&row.0) != discriminant(&known)).count() as u8
 }
 
 impl fmt::Display for Refusal {
     fn fmt(&self, f: &mut fmt::Formatter<'_>) -> fmt::Result {
-        write!(f, "refused {}: {}", self.number(), self.message())
+        write!(f, "refused {}: {}", self.number(), self.message())?;
+        self.entry().map_or(Ok(()), |entry| write!(f, ": {entry}"))
     }
 }
 
@@ -112,20 +177,64 @@ impl std::error::Error for Refusal {}
 #[cfg(test)]
 mod tests {
     use super::*;
+    use crate::job::Tiles;
+
+    /// By a call on a job of two subpalettes of three colours, and tiles of two colours, none, and three.
+    fn told(number: u8, index: usize, palette: usize) -> Option<Refusal> {
+        let mut tiles = Tiles::new();
+        [2, 0, 3].iter().for_each(|&colours| tiles.push(vec![([0.0; 3], 1); colours]));
+        Refusal::told(number, index, &tiles.job(2, 3, 1.0, &[], 0), palette)
+    }
 
     #[test]
     fn numbers_and_refusals_go_both_ways() {
-        assert_eq!(Refusal::from_number(0), None);
+        assert_eq!(told(0, 5, 6), None);
         for number in 1..=255 {
-            assert_eq!(Refusal::from_number(number).unwrap().number(), number);
+            assert_eq!(told(number, 5, 6).unwrap().number(), number);
         }
     }
 
     #[test]
-    fn every_message_is_its_own() {
-        for number in 1..=16 {
-            let said = |number| Refusal::from_number(number).unwrap().message();
+    fn only_colours_have_an_index() {
+        for number in 1..=17 {
+            let refusal = told(number, 5, 6).unwrap();
+            let named = matches!(number, 7 | 16 | 17);
+            assert_eq!((refusal.index(), refusal.entry().is_some()), (if named { 5 } else { 0 }, named), "{number}");
+        }
+        assert_eq!(told(18, 5, 6), Some(Refusal::Unknown { number: 18, index: 5 }));
+    }
+
+    /// The header has the same messages, so that both hosts say the same.
+    #[test]
+    fn every_message_is_its_own_and_the_header_s() {
+        let header = include_str!("../../../include/dunkafeto.h");
+        for number in 1..=17 {
+            let said = |number| told(number, 0, 0).unwrap().message();
             assert!((1..number).all(|other| said(other) != said(number)), "{number}");
+            assert!(header.contains(&format!("\"{}\",\n", said(number))), "{number}");
+        }
+    }
+
+    #[test]
+    fn colours_in_words() {
+        for (number, index, palette, words) in [
+            (7, 0, 6, "palette colour 0 (subpalette 0, colour 0)"),
+            (7, 5, 6, "palette colour 5 (subpalette 1, colour 2)"),
+            (7, 6, 6, "tile 0, colour 0"),
+            (7, 7, 6, "tile 0, colour 1"),
+            (7, 8, 6, "tile 2, colour 0"),
+            (7, 10, 6, "tile 2, colour 2"),
+            (7, 0, 0, "tile 0, colour 0"),
+            (7, 4, 0, "tile 2, colour 2"),
+            (16, 0, 0, "working colour 0 (subpalette 0, colour 0)"),
+            (16, 5, 0, "working colour 5 (subpalette 1, colour 2)"),
+            (16, 6, 0, "kept colour 0 (subpalette 0, colour 0)"),
+            (16, 10, 0, "kept colour 4 (subpalette 1, colour 1)"),
+            (17, 3, 0, "handed-in colour 3 (subpalette 1, colour 0)"),
+        ] {
+            let refusal = told(number, index, palette).unwrap();
+            assert_eq!(refusal.to_string(), format!("refused {number}: {}: {words}", refusal.message()));
+            assert_eq!(refusal.index(), index);
         }
     }
 }

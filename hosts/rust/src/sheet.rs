@@ -1,5 +1,6 @@
 //! The fit sheet: a palette and its tiles in a file of bits.
 
+use crate::entry::{Entry, EntryKind};
 use crate::job::{Colour, Job, Sample, Tiles};
 use crate::refusal::Refusal;
 
@@ -36,7 +37,7 @@ pub struct Sheet {
 }
 
 impl Sheet {
-    /// Reads a sheet, or gives the number of its first fault in the order of its fields: 4, 5, 6, 7, 12 or 13.
+    /// Reads a sheet, or gives its first fault in the order of its fields: 4, 5, 6, 7 with the colour, 12 or 13.
     pub fn read(bytes: &[u8]) -> Result<Self, Refusal> {
         if bytes.len() > MOST_BYTES {
             return Err(Refusal::SheetBytes);
@@ -50,13 +51,17 @@ impl Sheet {
         if !(weight > 0.0 && weight <= 16.0) {
             return Err(Refusal::Weight);
         }
-        let palette = (0..s * c).map(|_| bits.colour()).collect::<Result<_, _>>()?;
-        let mut tiles = Tiles::new();
-        for _ in 0..t {
-            tiles.push(bits.tile()?);
+        let [s, c, t] = [s, c, t].map(|size| size as usize);
+        let of_palette = |colour| Entry::of_palette(EntryKind::Palette, colour, c);
+        let palette = (0..s * c).map(|index| bits.colour(index, of_palette(index))).collect::<Result<_, _>>()?;
+        let (mut tiles, mut first) = (Tiles::new(), 0);
+        for part in 0..t {
+            let tile = bits.tile(s * c, part, first)?;
+            first += tile.len();
+            tiles.push(tile);
         }
         bits.end()?;
-        Ok(Sheet { subpalettes: s as usize, colours_each: c as usize, weight, palette, tiles })
+        Ok(Sheet { subpalettes: s, colours_each: c, weight, palette, tiles })
     }
 
     /// The sheet's bytes. What [`assign`](crate::assign) refuses is refused here with the same number, 2 to 7; then a sheet
@@ -108,30 +113,31 @@ impl Reader<'_> {
         Ok(value)
     }
 
-    fn colour(&mut self) -> Result<Colour, Refusal> {
+    fn colour(&mut self, index: usize, entry: Entry) -> Result<Colour, Refusal> {
         let mut colour = [0.0; 3];
         for component in &mut colour {
             *component = f32::from_bits(self.field(32)?);
             if component.is_nan() || component.abs() > 2.0 {
-                return Err(Refusal::Components);
+                return Err(Refusal::JobColour { index, entry });
             }
         }
         Ok(colour)
     }
 
-    fn tile(&mut self) -> Result<Vec<(Colour, u32)>, Refusal> {
+    /// The tile of a place in the table, after so many colours of the palette and `first` of the tiles before it.
+    fn tile(&mut self, palette: usize, part: usize, first: usize) -> Result<Vec<(Colour, u32)>, Refusal> {
         let colours = self.field(7)?;
         if colours > 64 {
             return Err(Refusal::Tiles);
         }
         let (mut tile, mut sum) = (Vec::new(), 0);
-        for _ in 0..colours {
+        for place in 0..colours as usize {
             let count = self.field(6)? + 1;
             sum += count;
             if sum > 64 {
                 return Err(Refusal::Counts);
             }
-            tile.push((self.colour()?, count));
+            tile.push((self.colour(palette + first + place, Entry::of_tile(part, first, place))?, count));
         }
         Ok(tile)
     }

@@ -120,7 +120,7 @@ impl<'a> Trainer<'a> {
         Ok(Trainer { job, memory })
     }
 
-    /// Takes up a run from its memory, whoever kept it. The library checks job and memory: 1 to 8, 10 for the record, 7 for
+    /// Takes up a run from its memory, whoever kept it. The library checks job and memory: 1 to 8, 10 for the record, 16 for
     /// working colours, 9 for the order. That the memory belongs to this job it cannot know, beyond sizes.
     pub fn resume(job: Job<'a>, memory: Memory) -> Result<Self, Refusal> {
         let trainer = Trainer { job, memory };
@@ -140,7 +140,7 @@ impl<'a> Trainer<'a> {
     }
 
     /// Hands in S·C colours as the console shows them, and goes on up to the next draw, stop or finish. Refused with 3 for
-    /// another number of colours, 11 elsewhere than at a stop, 7 for a component above 2 in magnitude or not finite.
+    /// another number of colours, 11 elsewhere than at a stop, 17 for a component above 2 in magnitude or not finite.
     pub fn hand_in(&mut self, reduced: &[Colour]) -> Result<Moment, Refusal> {
         ffi::hand_in(&self.job, &mut self.memory, reduced)?;
         Ok(self.moment())

@@ -7,8 +7,8 @@ use std::path::PathBuf;
 use std::process::{Command, Output, Stdio};
 use std::time::Duration;
 
-use common::Rng;
-use dunkafeto::{console, Sheet, Tiles, Trainer};
+use common::{spoiled, Rng};
+use dunkafeto::{checksum, console, Sheet, Stage, Tiles, Trainer};
 
 /// A folder of the test's own, removed at its end.
 struct Room(PathBuf);
@@ -141,6 +141,72 @@ fn statuses() {
     assert_eq!(status(&["in", "-o", "absent/out"]), Some(4));
     assert!(String::from_utf8_lossy(&room.run(&["cut"]).stderr).contains("refused 13:"));
     assert!(String::from_utf8_lossy(&room.run(&["empty"]).stderr).contains("refused 1:"));
+}
+
+/// What it says of a sheet with bad colours, to the last byte: 4 subpalettes of 4 colours, tiles of 16.
+#[test]
+fn a_bad_sheet_s_colour_is_named() {
+    let room = Room::new("named");
+    for (bad, words) in [
+        (&[12][..], "palette colour 12 (subpalette 3, colour 0)"),
+        (&[9, 6], "palette colour 6 (subpalette 1, colour 2)"),
+        (&[16, 15], "palette colour 15 (subpalette 3, colour 3)"),
+        (&[16], "tile 0, colour 0"),
+        (&[16 + 3 * 16 + 2], "tile 3, colour 2"),
+        (&[16 + 64, 16 + 63], "tile 3, colour 15"),
+    ] {
+        fs::write(room.file("in"), spoiled(&sheet(8, 4, 4), bad)).unwrap();
+        let said = room.run(&["in", "-o", "out"]);
+        let expected = format!("host: in: refused 7: a colour's component is too large or not finite: {words}\n");
+        assert_eq!((said.status.code(), String::from_utf8(said.stderr).unwrap()), (Some(1), expected));
+        assert!(!room.file("out").exists());
+    }
+}
+
+/// The state of a run on a sheet in stage 2, changed by a stranger who knows the key and the checksum.
+fn state_of(sheet: &Sheet, change: impl FnOnce(&mut [u8])) -> Vec<u8> {
+    let key = checksum(&[&sheet.write().unwrap()[..], &[0; 8], b"rgb555\0"].concat());
+    let samples = sheet.tiles.samples();
+    let mut trainer = Trainer::start(sheet.job(&samples, 0)).unwrap();
+    while trainer.stage() != Stage::Replacing {
+        trainer.advance(10).unwrap();
+    }
+    let mut bytes = trainer.save(key);
+    let end = bytes.len() - 8;
+    change(&mut bytes[..end]);
+    let sum = checksum(&bytes[..end]);
+    bytes[end..].copy_from_slice(&sum.to_le_bytes());
+    bytes
+}
+
+/// What it says of a state with bad colours, to the last byte. The 16 colours of the palette and the 16 that are kept stand
+/// before the record's 48 bytes, each has 12.
+#[test]
+fn a_bad_state_s_colour_is_named() {
+    let room = Room::new("state");
+    let sheet = sheet(8, 4, 4);
+    fs::write(room.file("in"), sheet.write().unwrap()).unwrap();
+    for (bad, words) in [
+        (&[0][..], "working colour 0 (subpalette 0, colour 0)"),
+        (&[9, 7], "working colour 7 (subpalette 1, colour 3)"),
+        (&[16, 15], "working colour 15 (subpalette 3, colour 3)"),
+        (&[16], "kept colour 0 (subpalette 0, colour 0)"),
+        (&[25, 22], "kept colour 6 (subpalette 1, colour 2)"),
+    ] {
+        let bytes = state_of(&sheet, |bytes| {
+            let colours = bytes.len() - 48 - 12 * 32;
+            bad.iter().for_each(|at| bytes[colours + 12 * at..][..4].copy_from_slice(&f32::NAN.to_le_bytes()));
+        });
+        fs::write(room.file("run"), &bytes).unwrap();
+        let said = room.run(&["in", "-o", "out", "--state", "run"]);
+        let expected =
+            format!("host: run: refused 16: a working colour's component is too large or not finite: {words}\n");
+        assert_eq!((said.status.code(), String::from_utf8(said.stderr).unwrap()), (Some(3), expected));
+        assert!(fs::read(room.file("run")).unwrap() == bytes);
+        assert!(!room.file("out").exists());
+    }
+    fs::write(room.file("run"), state_of(&sheet, |_| {})).unwrap();
+    assert!(room.run(&["in", "-o", "out", "--state", "run"]).status.success());
 }
 
 #[test]

@@ -1,9 +1,12 @@
-//! Each answer number through the safe calls, at its edge where it has one, and that a refusal leaves everything as it was.
+//! Each answer number through the safe calls, at its edge where it has one, with the colour that it names, and that a refusal
+//! leaves everything as it was.
 
 mod common;
 
-use common::{above, reduced, to_stop, Case, Rng};
-use dunkafeto::{assign, Job, Memory, Refusal, Sample, Sheet, Tile, Tiles, Trainer};
+use std::fmt::Debug;
+
+use common::{above, reduced, spoiled, to_stop, Case, Rng};
+use dunkafeto::{assign, Colour, Job, Memory, Refusal, Sample, Sheet, Tile, Tiles, Trainer};
 
 const GREY: [f32; 3] = [0.5, 0.0, 0.0];
 
@@ -11,6 +14,14 @@ fn tiles(each: &[&[u32]]) -> Tiles {
     let mut tiles = Tiles::new();
     each.iter().for_each(|counts| tiles.push(counts.iter().map(|&count| (GREY, count))));
     tiles
+}
+
+/// The call was refused with this number, at this index, and names this colour.
+#[track_caller]
+fn names<T: Debug>(found: Result<T, Refusal>, number: u8, index: usize, words: &str) {
+    let refusal = found.unwrap_err();
+    assert_eq!((refusal.number(), refusal.index()), (number, index));
+    assert_eq!(refusal.entry().map(|entry| entry.to_string()).as_deref(), Some(words));
 }
 
 fn started(job: Job) -> Result<(), Refusal> {
@@ -107,22 +118,103 @@ fn number_6_counts() {
 }
 
 #[test]
-fn number_7_components() {
+fn number_7_at_its_edge() {
     for wrong in [above(2.0), -3.0, f32::INFINITY, f32::NAN] {
-        let colours = [[0.5, wrong, 0.0], GREY];
-        assert_eq!(start_of(|job| job.colours = &colours), Err(Refusal::Components), "{wrong}");
-        let tiles = tiles(&[&[1]]);
-        assert_eq!(assign(&tiles.job(1, 1, 1.0, &[], 0), &colours[..1], &mut [0]), Err(Refusal::Components));
+        let colours = [GREY, [0.5, wrong, 0.0]];
+        names(start_of(|job| job.colours = &colours), 7, 1, "tile 0, colour 1");
+        let (tiles, palette) = (tiles(&[&[1]]), &colours[1..]);
+        let assigned = assign(&tiles.job(1, 1, 1.0, &[], 0), palette, &mut [0]);
+        names(assigned, 7, 0, "palette colour 0 (subpalette 0, colour 0)");
     }
     assert_eq!(start_of(|job| job.colours = &[[2.0, -2.0, 2.0], GREY]), Ok(()));
-    let case = Case::any(&mut Rng(7));
-    let mut trainer = Trainer::start(case.job()).unwrap();
+}
+
+/// Two subpalettes of three colours; tiles of two colours, none, one and three, of which some are spoiled.
+fn spoiled_case(bad: &[usize]) -> Case {
+    let mut colours = vec![GREY; 6];
+    spoil(&mut colours, bad);
+    let mut tiles = Tiles::new();
+    for places in [0..2, 2..2, 2..3, 3..6] {
+        tiles.push(colours[places].iter().map(|&colour| (colour, 20)));
+    }
+    let samples = tiles.samples();
+    Case { subpalettes: 2, colours_each: 3, weight: 1.0, tiles, samples, seed: 3 }
+}
+
+fn spoil(colours: &mut [Colour], bad: &[usize]) {
+    bad.iter().for_each(|&at| colours[at][at % 3] = f32::NAN);
+}
+
+#[test]
+fn number_7_names_the_first_tile_colour_of_a_run_s_job() {
+    let good = spoiled_case(&[]);
+    let mut trainer = Trainer::start(good.job()).unwrap();
     to_stop(&mut trainer);
-    let (before, mut colours) = (trainer.memory().clone(), reduced(&trainer));
-    colours[0][2] = -above(2.0);
-    assert_eq!(trainer.hand_in(&colours), Err(Refusal::Components));
+    for (bad, index, words) in [
+        (&[0][..], 0, "tile 0, colour 0"),
+        (&[1], 1, "tile 0, colour 1"),
+        (&[2], 2, "tile 2, colour 0"),
+        (&[5], 5, "tile 3, colour 2"),
+        (&[5, 4], 4, "tile 3, colour 1"),
+        (&[3, 2], 2, "tile 2, colour 0"),
+    ] {
+        let case = spoiled_case(bad);
+        names(started(case.job()), 7, index, words);
+        names(Trainer::resume(case.job(), trainer.memory().clone()), 7, index, words);
+    }
+}
+
+#[test]
+fn number_7_names_the_first_colour_of_palette_and_tiles() {
+    for (bad, bad_tiles, index, words) in [
+        (&[0][..], &[][..], 0, "palette colour 0 (subpalette 0, colour 0)"),
+        (&[5], &[], 5, "palette colour 5 (subpalette 1, colour 2)"),
+        (&[4, 3], &[], 3, "palette colour 3 (subpalette 1, colour 0)"),
+        (&[5], &[0], 5, "palette colour 5 (subpalette 1, colour 2)"),
+        (&[], &[0], 6, "tile 0, colour 0"),
+        (&[], &[2], 8, "tile 2, colour 0"),
+        (&[], &[5, 4], 10, "tile 3, colour 1"),
+    ] {
+        let Case { subpalettes, colours_each, weight, tiles, .. } = spoiled_case(bad_tiles);
+        let mut palette = vec![GREY; 6];
+        spoil(&mut palette, bad);
+        let mut hints = [9; 4];
+        names(assign(&tiles.job(2, 3, weight, &[], 0), &palette, &mut hints), 7, index, words);
+        assert_eq!(hints, [9; 4]);
+        names(Sheet { subpalettes, colours_each, weight, palette, tiles }.write(), 7, index, words);
+        let all: Vec<usize> = bad.iter().copied().chain(bad_tiles.iter().map(|at| 6 + at)).collect();
+        names(Sheet::read(&spoiled(&good_sheet(), &all)), 7, index, words);
+    }
+}
+
+fn good_sheet() -> Sheet {
+    let Case { subpalettes, colours_each, weight, tiles, .. } = spoiled_case(&[]);
+    Sheet { subpalettes, colours_each, weight, palette: vec![GREY; 6], tiles }
+}
+
+#[test]
+fn number_17_names_the_first_colour_handed_in() {
+    let case = spoiled_case(&[]);
+    let mut trainer = Trainer::start(case.job()).unwrap();
+    let before = trainer.memory().clone();
+    assert_eq!(trainer.hand_in(&[[f32::NAN; 3]; 6]), Err(Refusal::Moment));
     assert_eq!(trainer.memory(), &before);
-    colours[0][2] = -2.0;
+    to_stop(&mut trainer);
+    let before = trainer.memory().clone();
+    for (bad, index, words) in [
+        (&[0][..], 0, "handed-in colour 0 (subpalette 0, colour 0)"),
+        (&[5], 5, "handed-in colour 5 (subpalette 1, colour 2)"),
+        (&[4, 3], 3, "handed-in colour 3 (subpalette 1, colour 0)"),
+    ] {
+        let mut colours = reduced(&trainer);
+        spoil(&mut colours, bad);
+        names(trainer.hand_in(&colours), 17, index, words);
+        assert_eq!(trainer.memory(), &before);
+    }
+    let mut colours = reduced(&trainer);
+    colours[1][2] = -above(2.0);
+    names(trainer.hand_in(&colours), 17, 1, "handed-in colour 1 (subpalette 0, colour 1)");
+    colours[1][2] = -2.0;
     assert!(trainer.hand_in(&colours).is_ok());
 }
 
@@ -159,12 +251,44 @@ fn a_stranger_s_memory_is_checked_by_the_library() {
     assert_eq!(resumed(|memory| memory.order[39] = 40), Err(Refusal::Order));
     assert_eq!(resumed(|memory| memory.order[0] = u32::MAX), Err(Refusal::Order));
     assert_eq!(resumed(|memory| memory.palette[0][0] = 4.0), Ok(()));
-    assert_eq!(resumed(|memory| memory.palette[0][0] = above(4.0)), Err(Refusal::Components));
-    assert_eq!(resumed(|memory| memory.least[0][1] = f32::NAN), Err(Refusal::Components));
+    let working = "working colour 0 (subpalette 0, colour 0)";
+    names(resumed(|memory| memory.palette[0][0] = above(4.0)), 16, 0, working);
     assert_eq!(resumed(|memory| memory.order.truncate(39)), Err(Refusal::Lengths));
     assert_eq!(resumed(|memory| memory.hints.truncate(1)), Err(Refusal::Lengths));
     assert_eq!(resumed(|memory| memory.palette.truncate(1)), Err(Refusal::Lengths));
     assert_eq!(resumed(|memory| memory.least.truncate(1)), Err(Refusal::Lengths));
+}
+
+/// What a run of two subpalettes of three colours, in stage 0 or 2, is told where colours of its memory are spoiled.
+fn spoiled_run(stage: u64, bad: &[usize], kept: &[usize], change: impl FnOnce(&mut Memory)) -> Result<(), Refusal> {
+    let case = spoiled_case(&[]);
+    let job = case.job();
+    let mut trainer = Trainer::start(job).unwrap();
+    while trainer.memory().record[1] != stage {
+        trainer.advance(1).unwrap();
+    }
+    let mut memory = trainer.into_memory();
+    spoil(&mut memory.palette, bad);
+    spoil(&mut memory.least, kept);
+    change(&mut memory);
+    Trainer::resume(job, memory).map(drop)
+}
+
+#[test]
+fn number_16_names_the_first_colour_of_both_palettes() {
+    for (bad, kept, index, words) in [
+        (&[0][..], &[][..], 0, "working colour 0 (subpalette 0, colour 0)"),
+        (&[5], &[0], 5, "working colour 5 (subpalette 1, colour 2)"),
+        (&[4, 3], &[3], 3, "working colour 3 (subpalette 1, colour 0)"),
+        (&[], &[0], 6, "kept colour 0 (subpalette 0, colour 0)"),
+        (&[], &[5, 4], 10, "kept colour 4 (subpalette 1, colour 1)"),
+    ] {
+        names(spoiled_run(2, bad, kept, |_| {}), 16, index, words);
+        names(spoiled_run(2, bad, kept, |memory| memory.order[0] = u32::MAX), 16, index, words);
+        assert_eq!(spoiled_run(2, bad, kept, |memory| memory.record[4] += 1), Err(Refusal::Record));
+        let expected = if bad.is_empty() { Ok(()) } else { spoiled_run(2, bad, kept, |_| {}) };
+        assert_eq!(spoiled_run(0, bad, kept, |_| {}), expected, "the second palette is in use in stage 2 alone");
+    }
 }
 
 #[test]

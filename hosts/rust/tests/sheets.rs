@@ -66,7 +66,8 @@ fn a_wrong_sheet_is_not_written() {
     assert_eq!(wrong(&|sheet| sheet.weight = 0.0), Some(Refusal::Weight));
     assert_eq!(wrong(&|sheet| sheet.tiles.push([([0.0; 3], 1); 65])), Some(Refusal::Tiles));
     assert_eq!(wrong(&|sheet| sheet.tiles.push([([0.0; 3], 65)])), Some(Refusal::Counts));
-    assert_eq!(wrong(&|sheet| sheet.palette[1][2] = f32::NAN), Some(Refusal::Components));
+    let component = wrong(&|sheet| sheet.palette[1][2] = f32::NAN).unwrap();
+    assert_eq!((component.number(), component.index()), (7, 1));
     let full = |tiles: usize| wrong(&|sheet| (0..tiles).for_each(|_| sheet.tiles.push([([0.0; 3], 1); 64])));
     assert_eq!(full(80), None);
     assert_eq!(full(81), Some(Refusal::SheetBytes));

@@ -146,16 +146,16 @@ fn key(sheet: &[u8], seed: u64) -> u64 {
 fn train(options: &Options, job: Job, key: u64) -> Result<Vec<[f32; 3]>, Failure> {
     let mut trainer = match resumed(options, job, key)? {
         Some(trainer) => trainer,
-        None => Trainer::start(job).doing(REFUSED, "the job")?,
+        None => Trainer::start(job).doing(REFUSED, "job")?,
     };
     while trainer.moment() != Moment::Finished {
-        step(&mut trainer, options.every).doing(REFUSED, "the job")?;
+        step(&mut trainer, options.every).doing(REFUSED, "job")?;
         show_progress(&trainer);
         if let Some(state) = &options.state {
             replace(state, &trainer.save(key)).doing(NO_FILE, state.display())?;
         }
     }
-    trainer.result().doing(REFUSED, "the job")
+    trainer.result().doing(REFUSED, "job")
 }
 
 /// Up to `most` draws, or at a stop the hand-in of what the console shows.
@@ -174,7 +174,7 @@ fn resumed<'a>(options: &Options, job: Job<'a>, key: u64) -> Result<Option<Train
         Err(why) if why.kind() == ErrorKind::NotFound => return Ok(None),
         read => read.doing(NO_FILE, state.display())?,
     };
-    let trainer = Trainer::restore(job, key, &bytes).doing(BAD_STATE, format!("state file {}", state.display()))?;
+    let trainer = Trainer::restore(job, key, &bytes).doing(BAD_STATE, state.display())?;
     say(format_args!("resumed at draw {}\n", trainer.draws_made()));
     Ok(Some(trainer))
 }

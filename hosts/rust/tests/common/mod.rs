@@ -1,7 +1,7 @@
 //! Jobs from a seed, for the tests.
 #![allow(dead_code)] // each test program uses some of it
 
-use dunkafeto::{console, Colour, Job, Moment, Sample, Tiles, Trainer};
+use dunkafeto::{console, Colour, Job, Moment, Sample, Sheet, Tiles, Trainer};
 
 /// SplitMix64.
 pub struct Rng(pub u64);
@@ -73,6 +73,23 @@ pub fn largest() -> Case {
     }
     let samples = tiles.samples();
     Case { subpalettes: 16, colours_each: 16, weight: 2.15, tiles, samples, seed: 1 }
+}
+
+/// The bytes of a sheet, with the last component NaN of the colours of these indexes: the palette's, then the tiles'.
+pub fn spoiled(sheet: &Sheet, bad: &[usize]) -> Vec<u8> {
+    let mut bytes = sheet.write().unwrap();
+    let colours = sheet.palette.len();
+    let mut ends: Vec<usize> = (1..=colours).map(|colour| 86 + 96 * colour).collect();
+    let mut at = 86 + 96 * colours;
+    for (tile, _) in sheet.tiles.iter() {
+        at += 7;
+        ends.extend((1..=tile.len()).map(|colour| at + 102 * colour));
+        at += 102 * tile.len();
+    }
+    for bit in bad.iter().flat_map(|&index| ends[index] - 32..ends[index]) {
+        bytes[bit / 8] |= 0x80 >> (bit % 8);
+    }
+    bytes
 }
 
 /// What the console shows for the working colours.
