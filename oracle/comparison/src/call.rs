@@ -3,7 +3,7 @@
 use terms::{Held, Job, Palette};
 
 use crate::lent::nans;
-use crate::table::Given;
+use crate::table::{Given, Refusal};
 use crate::tally::Same;
 
 #[derive(Clone, Debug)]
@@ -36,7 +36,7 @@ pub enum Ask {
 
 #[derive(Clone, Debug)]
 pub struct Outcome {
-    pub number: u32,
+    pub refusal: Refusal,
     pub draws: u64,
     pub memory: Memory,
     /// What was handed in, or the room for the result.
@@ -126,10 +126,10 @@ impl Ask {
 }
 
 impl Outcome {
-    /// A number, no draw, nothing written.
-    pub fn unchanged(number: u32, call: &Call, ask: &Ask) -> Self {
+    /// A number with its index, no draw, nothing written.
+    pub fn unchanged(refusal: Refusal, call: &Call, ask: &Ask) -> Self {
         let colours = ask.colours().unwrap_or_default().to_vec();
-        Outcome { number, draws: 0, memory: call.memory.clone(), colours, kept: true }
+        Outcome { refusal, draws: 0, memory: call.memory.clone(), colours, kept: true }
     }
 
     /// All floats that are lent to be written, as they are left.
@@ -148,7 +148,7 @@ impl Same for Memory {
 
 impl Same for Outcome {
     fn same(&self, other: &Outcome) -> bool {
-        let told = (self.number, self.draws, self.kept) == (other.number, other.draws, other.kept);
+        let told = (self.refusal, self.draws, self.kept) == (other.refusal, other.draws, other.kept);
         told && self.memory.same(&other.memory) && self.colours[..].untouched(&other.colours)
     }
 }

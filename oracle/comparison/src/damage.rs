@@ -1,5 +1,6 @@
 //! Damaged copies of good jobs: each damage touches one rule of docs/SCOPE.md, at its limit or far past it.
 
+pub mod entries;
 pub mod runs;
 pub mod sheets;
 

@@ -2,6 +2,7 @@
 
 mod calls;
 mod edges;
+mod entries;
 mod groups;
 mod leaves;
 mod own;
@@ -28,7 +29,7 @@ pub struct Kind {
     pub compare: fn(&mut Rng, u64, &mut Tally),
 }
 
-pub const KINDS: [&[Kind]; 11] = [
+pub const KINDS: [&[Kind]; 12] = [
     own::KINDS,
     leaves::KINDS,
     palettes::KINDS,
@@ -38,6 +39,7 @@ pub const KINDS: [&[Kind]; 11] = [
     calls::KINDS,
     runs::KINDS,
     sheets::KINDS,
+    entries::KINDS,
     edges::KINDS,
     programs::KINDS,
 ];

@@ -6,7 +6,7 @@ use std::process::{Command, Stdio};
 
 use crate::call::{Ask, Call, Memory, Outcome};
 use crate::ours;
-use crate::table::Given;
+use crate::table::{Given, Refusal};
 
 /// The argument that makes this program the other process.
 pub const TAKE_UP: &str = "take-up";
@@ -148,7 +148,8 @@ impl Saved {
     }
 
     fn put_outcome(&mut self, outcome: &Outcome) {
-        self.put(outcome.number.into());
+        self.put(outcome.refusal.number.into());
+        self.put(outcome.refusal.index as u64);
         self.put(outcome.draws);
         self.put_memory(&outcome.memory);
         self.put_floats(&outcome.colours);
@@ -157,7 +158,7 @@ impl Saved {
 
     fn take_outcome(&mut self) -> Outcome {
         Outcome {
-            number: self.take() as u32,
+            refusal: Refusal { number: self.take() as u32, index: self.take() as usize },
             draws: self.take(),
             memory: self.take_memory(),
             colours: self.take_floats(),

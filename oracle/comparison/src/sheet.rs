@@ -5,7 +5,7 @@ pub mod trained;
 
 use terms::{Palette, Tile};
 
-use crate::table;
+use crate::table::{self, Refusal};
 
 pub const MOST_BYTES: usize = 65_536;
 
@@ -21,13 +21,15 @@ pub struct Sheet {
 struct Bits<'a> {
     bytes: &'a [u8],
     at: usize,
+    /// Colours read before, of palette and tiles alike.
+    colours: usize,
 }
 
 impl Bits<'_> {
     /// A field of k bits; one that is cut short is 13.
-    fn field(&mut self, k: usize) -> Result<u32, u32> {
+    fn field(&mut self, k: usize) -> Result<u32, Refusal> {
         if self.at + k > 8 * self.bytes.len() {
-            return Err(13);
+            return refused(13);
         }
         let mut value = 0;
         for _ in 0..k {
@@ -38,27 +40,28 @@ impl Bits<'_> {
         Ok(value)
     }
 
-    fn colour(&mut self) -> Result<terms::Colour, u32> {
+    fn colour(&mut self) -> Result<terms::Colour, Refusal> {
         let mut colour = [0.0; 3];
         for component in &mut colour {
             *component = f32::from_bits(self.field(32)?);
             if !table::within(&[*component], 2.0) {
-                return Err(7);
+                return Err(Refusal { number: 7, index: self.colours });
             }
         }
+        self.colours += 1;
         Ok(colour)
     }
 
-    fn tile(&mut self) -> Result<Tile, u32> {
+    fn tile(&mut self) -> Result<Tile, Refusal> {
         let n = self.field(7)?;
         if n > 64 {
-            return Err(5);
+            return refused(5);
         }
         let mut tile = Tile::default();
         for _ in 0..n {
             tile.counts.push(self.field(6)? + 1);
             if tile.counts.iter().sum::<u32>() > 64 {
-                return Err(6);
+                return refused(6);
             }
             tile.colours.push(self.colour()?);
         }
@@ -66,32 +69,37 @@ impl Bits<'_> {
     }
 }
 
-/// The sheet, or the number of its first fault in field order.
-pub fn read(bytes: &[u8]) -> Result<Sheet, u32> {
+/// A fault that names no entry.
+fn refused<T>(number: u32) -> Result<T, Refusal> {
+    Err(number.into())
+}
+
+/// The sheet, or the number of its first fault in field order, with the index of a colour.
+pub fn read(bytes: &[u8]) -> Result<Sheet, Refusal> {
     if bytes.len() > MOST_BYTES {
-        return Err(13);
+        return refused(13);
     }
-    let mut bits = Bits { bytes, at: 0 };
+    let mut bits = Bits { bytes, at: 0, colours: 0 };
     if bits.field(32)? != 0x5446_4954 {
-        return Err(12);
+        return refused(12);
     }
     if bits.field(4)? != 1 {
-        return Err(12);
+        return refused(12);
     }
     let (s, c, t) = (bits.field(4)? + 1, bits.field(4)? + 1, bits.field(10)? + 1);
     let weight = f32::from_bits(bits.field(32)?);
     if !table::weight(weight) {
-        return Err(4);
+        return refused(4);
     }
     let palette = (0..s).map(|_| (0..c).map(|_| bits.colour()).collect()).collect::<Result<_, _>>()?;
     let tiles = (0..t).map(|_| bits.tile()).collect::<Result<_, _>>()?;
     while bits.at % 8 != 0 {
         if bits.field(1)? != 0 {
-            return Err(13);
+            return refused(13);
         }
     }
     if bits.at / 8 != bytes.len() {
-        return Err(13);
+        return refused(13);
     }
     Ok(Sheet { weight, palette, tiles })
 }

@@ -1,6 +1,21 @@
-//! The answer numbers of docs/SCOPE.md, read independently of our definitions: plain tests in the order that it gives.
+//! The answer numbers of docs/SCOPE.md and their indexes, read independently of our definitions: plain tests in the order that it gives.
 
 use terms::{Colour, Palette, Tile};
+
+/// A number of the scope's table, 0 where nothing is wrong, and the index of the entry at fault, 0 where the number names none. Of two
+/// colours at fault the lesser is told: their numbers rise in the order of the tests.
+#[derive(Clone, Copy, Debug, Default, PartialEq, Eq, PartialOrd, Ord)]
+pub struct Refusal {
+    pub number: u32,
+    pub index: usize,
+}
+
+/// With no entry.
+impl From<u32> for Refusal {
+    fn from(number: u32) -> Self {
+        Refusal { number, index: 0 }
+    }
+}
 
 /// What every call with a job is given, as a stranger may give it.
 #[derive(Clone, Debug)]
@@ -50,9 +65,18 @@ pub fn colours(numbers: &[f32]) -> Vec<Colour> {
     numbers.as_chunks().0.to_vec()
 }
 
-/// The first number whose test fails, or 0.
-pub fn first(tests: &[(u32, &dyn Fn() -> bool)]) -> u32 {
-    tests.iter().find(|(_, passes)| !passes()).map_or(0, |(number, _)| *number)
+/// Where a test fails: the index of the entry at fault.
+pub type Fault = Option<usize>;
+
+/// The first number whose test fails, and the index that goes with it.
+pub fn first(tests: &[(u32, &dyn Fn() -> Fault)]) -> Refusal {
+    let failed = |(number, test): &(u32, &dyn Fn() -> Fault)| test().map(|index| Refusal { number: *number, index });
+    tests.iter().find_map(failed).unwrap_or_default()
+}
+
+/// The fault of a test that names no entry.
+pub fn unless(passes: bool) -> Fault {
+    if passes { None } else { Some(0) }
 }
 
 pub fn sizes(given: &Given) -> bool {
@@ -92,15 +116,20 @@ pub fn within(numbers: &[f32], limit: f32) -> bool {
     numbers.iter().all(|x| x.is_finite() && x.abs() <= limit)
 }
 
-/// The scope's number for a call without samples, whose own tests of numbers 2 and 3 are given.
-pub fn plain(given: &Given, palette: &[f32], own_sizes: bool, own_lengths: bool) -> u32 {
+/// The first colour with a component that is not within the limit, counted through one slice after the other.
+pub fn bad_colour(slices: &[&[f32]], limit: f32) -> Fault {
+    slices.iter().flat_map(|numbers| numbers.chunks(3)).position(|colour| !within(colour, limit))
+}
+
+/// What the scope says of a call without samples, whose own tests of numbers 2 and 3 are given.
+pub fn plain(given: &Given, palette: &[f32], own_sizes: bool, own_lengths: bool) -> Refusal {
     first(&[
-        (2, &|| sizes(given) && own_sizes),
-        (3, &|| lengths(given) && palette.len() == 3 * given.s * given.c && own_lengths),
-        (4, &|| weight(given.weight)),
-        (5, &|| table(given)),
-        (6, &|| counts(given)),
-        (7, &|| within(palette, 2.0) && within(&given.colours, 2.0)),
+        (2, &|| unless(sizes(given) && own_sizes)),
+        (3, &|| unless(lengths(given) && palette.len() == 3 * given.s * given.c && own_lengths)),
+        (4, &|| unless(weight(given.weight))),
+        (5, &|| unless(table(given))),
+        (6, &|| unless(counts(given))),
+        (7, &|| bad_colour(&[palette, &given.colours], 2.0)),
     ])
 }
 

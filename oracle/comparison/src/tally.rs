@@ -4,6 +4,8 @@ use std::collections::BTreeMap;
 
 use terms::Colour;
 
+use crate::table::Refusal;
+
 #[derive(Default)]
 pub struct Tally {
     pub compared: u64,
@@ -35,11 +37,15 @@ impl Tally {
         *self.counts.entry(name).or_default() += number;
     }
 
-    /// A public call, and the number that is its right answer.
-    pub fn answered(&mut self, call: &'static str, number: u32) {
+    /// A public call, and the number and index that are its right answer.
+    pub fn answered(&mut self, call: &'static str, right: impl Into<Refusal>) {
+        let Refusal { number, index } = right.into();
         self.add(call, 1);
         if number != 0 {
             *self.refusals.entry(number).or_default() += 1;
+        }
+        if index != 0 {
+            self.add("indexes above 0", 1);
         }
     }
 
@@ -103,7 +109,7 @@ macro_rules! same_as_equal {
     })* };
 }
 
-same_as_equal!(u8, u32, u64, usize, bool);
+same_as_equal!(u8, u32, u64, usize, bool, Refusal);
 
 impl<T: Same> Same for [T] {
     fn same(&self, other: &[T]) -> bool {

@@ -18,6 +18,7 @@ unsafe extern "C" {
         hints_len: usize,
         index: &mut usize,
         dist: &mut f32,
+        fault: &mut usize,
     ) -> u32;
     pub fn probe_public_best_two(
         s: usize,
@@ -38,6 +39,7 @@ unsafe extern "C" {
         dist: &mut f32,
         next: &mut usize,
         second: &mut f32,
+        fault: &mut usize,
     ) -> u32;
     pub fn probe_group(
         p: usize,
@@ -58,5 +60,6 @@ unsafe extern "C" {
         index: *mut u32,
         index_len: usize,
         entries: &mut usize,
+        fault: &mut usize,
     ) -> u32;
 }

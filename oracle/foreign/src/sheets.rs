@@ -16,6 +16,7 @@ unsafe extern "C" {
         c: &mut usize,
         t: &mut usize,
         weight: &mut f32,
+        fault: &mut usize,
     ) -> u32;
     pub fn probe_sheet_write(
         s: usize,
@@ -33,5 +34,6 @@ unsafe extern "C" {
         dst: *mut u8,
         dst_len: usize,
         size: &mut usize,
+        fault: &mut usize,
     ) -> u32;
 }

@@ -1,5 +1,5 @@
 //! The calls of the library that ships, as Rust has them, on a job and memory of any lengths: none asks anything of its caller. Each
-//! answers the draws times 256 and the number.
+//! answers in a word, a value times 256 and the number.
 
 use crate::{
     dunkafeto_advance, dunkafeto_assign, dunkafeto_hand_in, dunkafeto_result, dunkafeto_start, lend, lend_run,
@@ -37,6 +37,12 @@ pub struct Memory {
     pub record: [u64; 6],
 }
 
+/// What a word says: the number, the index of what is refused, the draws of what is done.
+pub fn said(word: u64) -> (u32, usize, u64) {
+    let (number, value) = ((word & 255) as u32, word >> 8);
+    if number == 0 { (0, 0, value) } else { (number, value as usize, 0) }
+}
+
 pub fn start(job: &Job, memory: &mut Memory, seed: u64) -> u64 {
     unsafe { lend_run!(dunkafeto_start, job, job, memory, mut / mut, [seed]) }
 }
@@ -53,7 +59,6 @@ pub fn result(job: &Job, memory: &Memory, out: &mut [f32]) -> u64 {
     unsafe { lend_run!(dunkafeto_result, job, job, memory, ref / ref, [], mut out) }
 }
 
-/// It makes no draw, so that the answer is the number alone.
 pub fn assign(job: &Job, palette: &[f32], hints: &mut [u32], out: &mut [u32]) -> u64 {
     unsafe { lend!(dunkafeto_assign(..job, ref palette, mut hints, mut out)) }
 }

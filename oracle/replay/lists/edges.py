@@ -1,6 +1,6 @@
 #!/usr/bin/env python3
-"""edges.py ORACLE: writes edges and edges.count beside it. Numbers and sheets are those of docs/SCOPE.md; what an accepted call answers and leaves
-is from the answers of the program `oracle` (oracle/README.md). How jobs are made stands in replay/src/edges.rs."""
+"""edges.py ORACLE: writes edges and edges.count beside it. Numbers, indexes and sheets are those of docs/SCOPE.md; what an accepted call
+answers and leaves is from the answers of the program `oracle` (oracle/README.md). How jobs are made stands in replay/src/edges.rs."""
 import os
 import struct
 import subprocess
@@ -9,9 +9,10 @@ import sys
 oracle = sys.argv[1]
 words, cases, compared = [], 0, 0
 FOUND, MASK = 0x7fa5a5a5, 2 ** 64 - 1
-TWO, ABOVE, MINUS = 0x40000000, 0x40000001, 0x80000000
-DONE, SIZE, COUNT, COMPONENT = 0, 2, 6, 7
-START, ADVANCE, HAND_IN, RESULT = 0, 1, 2, 3
+TWO, ABOVE, MINUS, ABOVE_FOUR = 0x40000000, 0x40000001, 0x80000000, 0x40800001
+START, ADVANCE, HAND_IN, RESULT, ADVANCE_DAMAGED = 0, 1, 2, 3, 4
+# what is answered: a number, and the index that goes with it
+DONE, SIZE, COUNT = (0, 0), (2, 0), (6, 0)
 
 
 def bits(x):
@@ -47,18 +48,30 @@ def put(numbers):
     words.extend(numbers)
 
 
-def refused(number):
-    """The number, and that nothing was written."""
+def job_colour(index):
+    return 7, index
+
+
+def working_colour(index):
+    return 16, index
+
+
+def handed_in_colour(index):
+    return 17, index
+
+
+def refused(answer):
+    """The number, its index, and that nothing was written."""
     global compared
-    compared += 2
-    words.append(number)
+    compared += 3
+    words.extend(answer)
 
 
 def done(told, left):
     """The number 0, what is answered, and the digest of what is left."""
     global compared
     compared += 2 + len(told)
-    words.extend([DONE] + [x for n in told + [digest(left)] for x in double(n)])
+    words.extend([0] + [x for n in told + [digest(left)] for x in double(n)])
 
 
 class Job:
@@ -86,14 +99,14 @@ class Job:
 
 
 def run(job, n, seed, calls):
-    """Calls in a row, each with its number; a hand-in's component stands after it."""
+    """Calls in a row, each with its answer; what it is given stands after it."""
     each = len(job.tiles[0])
     put([1] + job.numbers + [n] + double(seed) + [len(calls)])
     states = held(job, n, seed, each, calls)
-    for call, number in calls:
+    for call, answer in calls:
         words.extend(call)
-        if number != DONE:
-            refused(number)
+        if answer != DONE:
+            refused(answer)
             continue
         before, state = states.pop(0)
         room = state[-6 * job.s * job.c:-3 * job.s * job.c] if call == [RESULT] else []
@@ -102,13 +115,15 @@ def run(job, n, seed, calls):
 
 def held(job, n, seed, each, calls):
     """The states before and after each accepted call, by the Rust's run in steps; a result leaves its own."""
-    accepted = [call for call, number in calls if number == DONE]
+    accepted = [call for call, answer in calls if answer == DONE]
     if not accepted:
         return []
     handed = [x for call in accepted if call[0] == HAND_IN for x in job.palette(call[1])]
     request = [job.weight, job.s, job.c, seed, job.t] + job.hints + job.asked_tiles()
     request += [n] + [x for j in range(n) for x in (j % job.t, j // job.t % each)]
-    answer = ask("steps", request + handed + [MASK] * (len(accepted) - 1))
+    # a stop takes no allotment, but there is a word for it
+    allotments = [call[1] << 32 | call[2] if call[0] == ADVANCE else 0 for call in accepted[1:]]
+    answer = ask("steps", request + handed + allotments)
     size = 6 + n + job.t + 6 * job.s * job.c
     states = [answer[i:i + size] for i in range(0, len(answer), size)]
     assert states[-1][1] == 7 and len(states) == len(accepted) - 1, [x[:6] for x in states]
@@ -128,17 +143,17 @@ def sheet(job, palette):
     return [int(text[i:i + 8], 2) for i in range(0, len(text), 8)]
 
 
-def fits(job, component, number):
+def fits(job, component, answer):
     """`assign`, single fit, `best_two` and the writer; the fits take one tile."""
     palette = job.palette(component)
     put([2] + job.numbers + [component])
-    if number != DONE:
-        for of_call in (number, number, number, number):
+    if answer != DONE:
+        for of_call in (answer, answer, answer, answer):
             refused(of_call)
         return
     shown = [job.s, job.c] + palette
-    answer = ask("assign", [job.weight] + shown + [job.t] + job.hints + job.asked_tiles())
-    done([], answer[job.t:] + answer[:job.t])
+    assigned = ask("assign", [job.weight] + shown + [job.t] + job.hints + job.asked_tiles())
+    done([0], assigned[job.t:] + assigned[:job.t])
     for name in ("best_fit", "best_two"):
         *told, hint = ask(name, [job.weight, job.hints[0]] + shown + job.asked_tiles())
         done(told, [hint])
@@ -146,24 +161,24 @@ def fits(job, component, number):
     done([len(written)], written + [FOUND & 255] * (4096 - len(written)))
 
 
-def read(job, component, number):
+def read(job, component, answer):
     palette = job.palette(component)
     written = sheet(job, palette)
     padded = bytes(written + [0] * (-len(written) % 4))
     put([3, len(written)] + list(struct.unpack(">%dI" % (len(padded) // 4), padded)))
-    if number != DONE:
-        return refused(number)
+    if answer != DONE:
+        return refused(answer)
     left = []
     for part, room in zip(job.lists() + (palette,), (2048, 5140, 15420, 768)):
         left += part + [FOUND] * (room - len(part))
     done([job.s, job.c, job.t, job.weight], left)
 
 
-def group(pixels, number):
+def group(pixels, answer):
     p = len(pixels)
     put([4, p] + [x for rgba, colour in pixels for x in [rgba] + colour])
-    if number != DONE:
-        return refused(number)
+    if answer != DONE:
+        return refused(answer)
     count, *rest = ask("group", [0, p] + [x for rgba, colour in pixels for x in [rgba] + colour])
     entries = [rest[5 * i:5 * i + 5] for i in range(count)]
     spare = p - count
@@ -172,16 +187,25 @@ def group(pixels, number):
     done([count], left + [x for entry in entries for x in entry[1:4]] + [FOUND] * 3 * spare)
 
 
-def every(number):
+def advance(draws=MASK):
+    return [ADVANCE] + double(draws)
+
+
+def every(answer):
     """The four calls of a run, refused alike."""
-    return [([START], number), ([ADVANCE], number), ([HAND_IN, TWO], number), ([RESULT], number)]
+    return [([START], answer), (advance(), answer), ([HAND_IN, TWO], answer), ([RESULT], answer)]
 
 
 def whole(first, *others):
-    """A run to its end; the first stop is handed what is refused before what is not."""
-    stops = [([HAND_IN, x], COMPONENT) for x in others] + [([HAND_IN, first], DONE)]
-    ends = [([ADVANCE], DONE), ([HAND_IN, first], DONE), ([HAND_IN, first], DONE), ([RESULT], DONE)]
-    return [([START], DONE), ([ADVANCE], DONE)] + stops + ends
+    """A run of two subpalettes of two colours to its end; the first stop is handed what is refused before what is not."""
+    stops = [([HAND_IN, x], handed_in_colour(3)) for x in others] + [([HAND_IN, first], DONE)]
+    ends = [(advance(), DONE), ([HAND_IN, first], DONE), ([HAND_IN, first], DONE), ([RESULT], DONE)]
+    return [([START], DONE), (advance(), DONE)] + stops + ends
+
+
+def damaged(places):
+    """The components of both working palettes, by their places in a row."""
+    return [([ADVANCE_DAMAGED, place, ABOVE_FOUR | sign], working_colour(place // 3)) for place in places for sign in (0, MINUS)]
 
 
 def small(t=1, total=64, component=TWO):
@@ -198,18 +222,23 @@ fits(small(), TWO, DONE)
 fits(small(total=65), TWO, COUNT)
 read(small(), TWO, DONE)
 read(small(total=65), TWO, COUNT)
-# components: of the tiles, of the palette, of a pixel
+# components: of the tiles, of the palette, of both, of a pixel; tile colours are counted on from the palette's four
 for sign in (0, MINUS):
     run(small(t=2, component=TWO | sign), 10, 9, whole(TWO))
-    run(small(t=2, component=ABOVE | sign), 10, 9, every(COMPONENT))
+    run(small(t=2, component=ABOVE | sign), 10, 9, every(job_colour(3)))
     for call in (fits, read):
         call(small(component=TWO | sign), TWO | sign, DONE)
-        call(small(component=ABOVE | sign), TWO, COMPONENT)
-        call(small(), ABOVE | sign, COMPONENT)
+        call(small(component=ABOVE | sign), TWO, job_colour(5))
+        call(small(), ABOVE | sign, job_colour(3))
+        call(small(component=ABOVE | sign), ABOVE | sign, job_colour(3))
     colour = [bits(0.5), bits(-0.25)]
     pixels = [(0x010203ff, [0, 0, 0]), (0x040506ff, colour + [TWO | sign]), (0x040506ff, colour + [TWO | sign])]
     group(pixels, DONE)
-    group(pixels[:1] + [(0x040506ff, colour + [ABOVE | sign])], COMPONENT)
+    group(pixels[:1] + [(0x040506ff, colour + [ABOVE | sign])], job_colour(1))
+# working colours: of the first palette in stage 0; after five draws, two in a round, of the second too, since stage 2 has begun
+first, *others = whole(TWO)
+stages = [first] + damaged([0, 11]) + [(advance(5), DONE)] + damaged([0, 11, 12, 23])
+run(small(t=2), 20, 10, stages + others)
 
 here = os.path.dirname(os.path.abspath(__file__))
 with open(os.path.join(here, "edges"), "wb") as out:

@@ -1,13 +1,14 @@
 //! The limits that docs/SCOPE.md has run, on both sides, by every public call that they concern. A case's first word says what it
 //! has; values are f32 patterns. Large jobs are made here from a few numbers: S, C, T, the colours of a tile, the sum of its counts, a
 //! component of the last tile colour, the weight; palettes from a component of their last colour.
-//! 1: a job, n samples, a seed of two words, the number of calls. A call is 0 a start, 1 an advance as far as it goes, 2 a component and
-//!    a hand-in, 3 a result. 2: a job and a component, by `assign`, single fit, `best_two` and the sheet's writer.
+//! 1: a job, n samples, a seed of two words, the number of calls. A call is 0 a start, 1 an allotment of two words and an advance, 2 a
+//!    component and a hand-in, 3 a result, 4 a place in both working palettes in a row, a component and an advance on a copy that has it
+//!    there. 2: a job and a component, by `assign`, single fit, `best_two` and the sheet's writer.
 //! 3: a sheet, its number of bytes and its bytes, four to a word. 4: p pixels to group, each r, g, b, a in a word and its Oklab.
 //! After each call its number. Where that is 0, what the call answers, in numbers of two words, and the digest of all memory that it is
-//! lent to write, from 0 as in the list of leaves; any other number has written nothing.
+//! lent to write, from 0 as in the list of leaves; after any other number the index that goes with it, and nothing is written.
 
-use crate::calls::{self, Entries};
+use crate::calls::{self, Answer, Entries};
 use crate::leaves::digested;
 use crate::list::{List, Read};
 use foreign::shipped::{self, Job, Memory};
@@ -32,11 +33,13 @@ pub fn case(list: &mut List) -> Read<()> {
     }
 }
 
-/// Our answer to a call beside the list's: the number, what is answered, and the memory that was lent, before and after.
-fn same_outcome(list: &mut List, number: u64, told: &[u64], lent: &[u64], left: &[u64]) -> Read<()> {
-    let right = u64::from(list.word()?);
+/// Our answer to a call beside the list's: number and index, what is answered, and the memory that was lent, before and after.
+fn same_outcome(list: &mut List, answer: Answer, told: &[u64], lent: &[u64], left: &[u64]) -> Read<()> {
+    let (number, index) = answer;
+    let right = list.word()?;
     list.compare(number == right);
     if right != 0 {
+        list.same_index(index)?;
         list.compare(told.iter().all(|&x| x == 0) && lent == left);
         return Ok(());
     }
@@ -105,17 +108,32 @@ fn run(list: &mut List) -> Read<()> {
 
 fn call(list: &mut List, job: &Job, seed: u64, memory: &mut Memory) -> Read<()> {
     let asked = list.word()?;
+    if asked == 4 {
+        return advance_damaged(list, job, memory.clone());
+    }
     // a result alone is lent room
     let mut room = found(if asked == 3 { memory.palette.len() } else { 0 });
     let lent = held(memory, &room);
     let told = match asked {
         0 => shipped::start(job, memory, seed),
-        1 => shipped::advance(job, memory, u64::MAX),
+        1 => shipped::advance(job, memory, list.double()?),
         2 => shipped::hand_in(job, memory, &palette(job, list.float()?)),
         3 => shipped::result(job, memory, &mut room),
         _ => return list.refuse(format!("there is no call {asked}")),
     };
-    same_outcome(list, told & 255, &[told >> 8], &lent, &held(memory, &room))
+    let (number, index, draws) = shipped::said(told);
+    same_outcome(list, (number, index), &[draws], &lent, &held(memory, &room))
+}
+
+fn advance_damaged(list: &mut List, job: &Job, mut memory: Memory) -> Read<()> {
+    let (place, component) = (list.word()? as usize, list.float()?);
+    match memory.palette.iter_mut().chain(&mut memory.least).nth(place) {
+        Some(x) => *x = component,
+        None => return list.refuse(format!("there is no place {place}")),
+    }
+    let lent = held(&memory, &[]);
+    let (number, index, draws) = shipped::said(shipped::advance(job, &mut memory, u64::MAX));
+    same_outcome(list, (number, index), &[draws], &lent, &held(&memory, &[]))
 }
 
 fn held(memory: &Memory, room: &[f32]) -> Vec<u64> {
@@ -128,23 +146,23 @@ fn fits(list: &mut List) -> Read<()> {
     let lent = words(&[&hints], &[]);
 
     let (mut assigned, mut out) = (hints.clone(), vec![FOUND; job.t]);
-    let number = shipped::assign(&job, &palette, &mut assigned, &mut out);
+    let (number, index, draws) = shipped::said(shipped::assign(&job, &palette, &mut assigned, &mut out));
     let room = words(&[&hints, &vec![FOUND; job.t]], &[]);
-    same_outcome(list, number, &[], &room, &words(&[&assigned, &out], &[]))?;
+    same_outcome(list, (number, index), &[draws], &room, &words(&[&assigned, &out], &[]))?;
 
     let mut left = hints.clone();
-    let (number, index, dist) = calls::single_fit(&job, &palette, &mut left);
-    same_outcome(list, number.into(), &[index as u64, dist.to_bits().into()], &lent, &words(&[&left], &[]))?;
+    let (answer, index, dist) = calls::single_fit(&job, &palette, &mut left);
+    same_outcome(list, answer, &[index as u64, dist.to_bits().into()], &lent, &words(&[&left], &[]))?;
 
     let mut left = hints.clone();
-    let (number, index, dists) = calls::best_two(&job, &palette, &mut left);
+    let (answer, index, dists) = calls::best_two(&job, &palette, &mut left);
     let [dist, second] = dists.map(|x| x.to_bits().into());
-    same_outcome(list, number.into(), &[index as u64, dist, second], &lent, &words(&[&left], &[]))?;
+    same_outcome(list, answer, &[index as u64, dist, second], &lent, &words(&[&left], &[]))?;
 
     let mut dst = vec![FOUND as u8; MOST_BYTES];
     let lent = bytes(&dst);
-    let (number, size) = calls::sheet_write(&job, &palette, &mut dst);
-    same_outcome(list, number.into(), &[size as u64], &lent, &bytes(&dst))
+    let (answer, size) = calls::sheet_write(&job, &palette, &mut dst);
+    same_outcome(list, answer, &[size as u64], &lent, &bytes(&dst))
 }
 
 fn bytes(all: &[u8]) -> Vec<u64> {
@@ -160,10 +178,10 @@ fn sheet(list: &mut List) -> Read<()> {
         Job { tiles: vec![FOUND; entries], counts: vec![FOUND; counts], colours: found(3 * counts), ..Job::default() };
     let mut palette = found(numbers);
     let lent = words(&[&job.tiles, &job.counts], &[&job.colours, &palette]);
-    let number = calls::sheet_read(&sheet, &mut job, &mut palette);
+    let answer = calls::sheet_read(&sheet, &mut job, &mut palette);
     let told = [job.s as u64, job.c as u64, job.t as u64, job.weight.to_bits().into()];
     let left = words(&[&job.tiles, &job.counts], &[&job.colours, &palette]);
-    same_outcome(list, number.into(), &told, &lent, &left)
+    same_outcome(list, answer, &told, &lent, &left)
 }
 
 fn grouping(list: &mut List) -> Read<()> {
@@ -177,6 +195,6 @@ fn grouping(list: &mut List) -> Read<()> {
         Entries { bytes: vec![FOUND as u8; 4 * p], oklab: found(3 * p), counts: vec![FOUND; p], index: vec![FOUND; p] };
     let all = |room: &Entries| [bytes(&room.bytes), words(&[&room.counts, &room.index], &[&room.oklab])].concat();
     let lent = all(&room);
-    let (number, entries) = calls::group(&pixels, &oklab, &mut room);
-    same_outcome(list, number.into(), &[entries as u64], &lent, &all(&room))
+    let (answer, entries) = calls::group(&pixels, &oklab, &mut room);
+    same_outcome(list, answer, &[entries as u64], &lent, &all(&room))
 }

@@ -11,7 +11,7 @@ use crate::damage;
 use crate::lent;
 use crate::ours;
 use crate::reading::fits::{self, Present};
-use crate::table::{self, Given};
+use crate::table::{self, Given, Refusal};
 use crate::tally::Tally;
 
 pub const KINDS: &[Kind] = &[
@@ -42,7 +42,7 @@ impl Call {
         }
     }
 
-    fn good(rng: &mut Rng, t: usize) -> Self {
+    pub fn good(rng: &mut Rng, t: usize) -> Self {
         let colours = Colours::any(rng, 2.0);
         let (s, c) = (jobs::sixteen(rng), jobs::sixteen(rng));
         let palette = jobs::palette(rng, s, c, &colours, 2.0);
@@ -62,8 +62,8 @@ impl Call {
         self
     }
 
-    /// The scope's number, for a call whose own tests of numbers 2 and 3 are given.
-    fn number(&self, own_sizes: bool, own_lengths: bool) -> u32 {
+    /// What the scope says of a call whose own tests of numbers 2 and 3 are given.
+    fn refusal(&self, own_sizes: bool, own_lengths: bool) -> Refusal {
         let lengths = self.hints.len() == self.given.t && own_lengths;
         table::plain(&self.given, &self.palette, own_sizes, lengths)
     }
@@ -101,49 +101,49 @@ fn single_fit(rng: &mut Rng, _: u64, tally: &mut Tally) {
     fitted(&one_tile(rng), tally);
 }
 
-/// Gives the number by the scope's table.
-pub fn fitted(call: &Call, tally: &mut Tally) -> u32 {
-    let mut number = call.number(call.given.t == 1, true);
-    if number == 0 && call.given.counts.is_empty() {
-        number = 15;
+/// Gives what the scope says of it.
+pub fn fitted(call: &Call, tally: &mut Tally) -> Refusal {
+    let mut refusal = call.refusal(call.given.t == 1, true);
+    if refusal.number == 0 && call.given.counts.is_empty() {
+        refusal = 15.into();
     }
-    let mut right = (number, (0, 0.0), call.hints.clone(), true);
-    if number == 0 {
+    let mut right = (refusal, (0, 0.0), call.hints.clone(), true);
+    if refusal.number == 0 {
         let fit = rust(call.given.weight).best_fit(&call.subs(), &call.given.tiles()[0], &[call.hints[0] as usize])[0];
-        right = (0, (fit.index, fit.dist), vec![fit.hint as u32], true);
+        right = (refusal, (fit.index, fit.dist), vec![fit.hint as u32], true);
         call.count_fits(tally);
     }
     let (job, palette, mut hints) = (call.lent(), lent::floats(&call.palette), lent::words(&call.hints));
     let (answer, index, dist) = ours::single_fit(&job, &palette, &mut hints);
     let kept = job.untouched() && palette.untouched() && hints.guarded();
-    tally.answered("single fit", number);
+    tally.answered("single fit", refusal);
     tally.left(call.floats());
     tally.same((answer, (index, dist), hints.values().to_vec(), kept), right, || format!("{call:?}"));
-    number
+    refusal
 }
 
 fn best_two(rng: &mut Rng, _: u64, tally: &mut Tally) {
     paired(&one_tile(rng), tally);
 }
 
-/// Gives the number by the scope's table.
-pub fn paired(call: &Call, tally: &mut Tally) -> u32 {
-    let number = call.number(call.given.t == 1, true);
-    let mut right = (number, ((0, 0.0, 0.0), 0), call.hints.clone(), true);
-    if number == 0 {
+/// Gives what the scope says of it.
+pub fn paired(call: &Call, tally: &mut Tally) -> Refusal {
+    let refusal = call.refusal(call.given.t == 1, true);
+    let mut right = (refusal, ((0, 0.0, 0.0), 0), call.hints.clone(), true);
+    if refusal.number == 0 {
         let tile = &call.given.tiles()[0];
         let fit = rust(call.given.weight).best_two(&call.subs(), tile, &[call.hints[0] as usize])[0];
         let next = fits::next_best(&call.subs(), tile, call.given.weight, fit.index);
-        right = (0, ((fit.index, fit.dist, fit.second), next), vec![fit.hint as u32], true);
+        right = (refusal, ((fit.index, fit.dist, fit.second), next), vec![fit.hint as u32], true);
         call.count_fits(tally);
     }
     let (job, palette, mut hints) = (call.lent(), lent::floats(&call.palette), lent::words(&call.hints));
     let (answer, two) = ours::public_best_two(&job, &palette, &mut hints);
     let kept = job.untouched() && palette.untouched() && hints.guarded();
-    tally.answered("best_two", number);
+    tally.answered("best_two", refusal);
     tally.left(call.floats());
     tally.same((answer, (two.known(), two.next), hints.values().to_vec(), kept), right, || format!("{call:?}"));
-    number
+    refusal
 }
 
 /// Every tile of a job by each of the three calls, each time from another hint.
@@ -181,23 +181,23 @@ fn largest(rng: &mut Rng, case: u64, tally: &mut Tally) {
     assigned(&Call::new(rng, &palette, &tiles, 2.15), tally);
 }
 
-/// Gives the number by the scope's table.
-pub fn assigned(call: &Call, tally: &mut Tally) -> u32 {
-    let number = call.number(true, call.out.len() == call.given.t);
-    let mut right = (number, call.hints.clone(), call.out.clone(), true);
-    if number == 0 {
+/// Gives what the scope says of it.
+pub fn assigned(call: &Call, tally: &mut Tally) -> Refusal {
+    let refusal = call.refusal(true, call.out.len() == call.given.t);
+    let mut right = ((refusal, 0), call.hints.clone(), call.out.clone(), true);
+    if refusal.number == 0 {
         let mut hints: Vec<usize> = call.hints.iter().map(|&hint| hint as usize).collect();
         let subs = rust(call.given.weight).assign(&call.subs(), &call.given.tiles(), &mut hints);
         let narrow = |all: Vec<usize>| all.into_iter().map(|x| x as u32).collect();
-        right = (0, narrow(hints), narrow(subs), true);
+        right = ((refusal, 0), narrow(hints), narrow(subs), true);
         call.count_fits(tally);
     }
     let (job, palette) = (call.lent(), lent::floats(&call.palette));
     let (mut hints, mut out) = (lent::words(&call.hints), lent::words(&call.out));
     let answer = ours::assign(&job, &palette, &mut hints, &mut out);
     let kept = job.untouched() && palette.untouched() && hints.guarded() && out.guarded();
-    tally.answered("assign", number);
+    tally.answered("assign", refusal);
     tally.left(call.floats());
     tally.same((answer, hints.values().to_vec(), out.values().to_vec(), kept), right, || format!("{call:?}"));
-    number
+    refusal
 }

@@ -1,6 +1,8 @@
-//! The limits of docs/SCOPE.md, each on both sides, through every public call that they concern. The numbers stand here as they are
-//! read there, beside those of table.rs and reading/.
+//! The limits of docs/SCOPE.md, each on both sides, through every public call that they concern. Numbers and indexes stand here as they
+//! are read there, beside those of table.rs and reading/.
 
+mod entries;
+mod order;
 mod plain;
 mod records;
 mod runs;
@@ -10,6 +12,7 @@ use terms::{Job, Sample, Tile};
 
 use super::{Kind, whole};
 use crate::lent::nans;
+use crate::table::Refusal;
 use crate::tally::Tally;
 
 pub const KINDS: &[Kind] = &[
@@ -17,11 +20,20 @@ pub const KINDS: &[Kind] = &[
     whole("edges of runs", 1, |_, _, tally| runs::compare(tally)),
     whole("edges of records", 1, |_, _, tally| records::compare(tally)),
     whole("edges of sheets", 1, |_, _, tally| sheets::compare(tally)),
+    whole("edges of entries", 1, |rng, _, tally| entries::compare(rng, tally)),
+    whole("edges of order", 1, |rng, _, tally| order::compare(rng, tally)),
 ];
 
-/// The number that the scope has for an edge, beside the one that was compared.
-fn listed(tally: &mut Tally, what: &str, call: &str, compared: u32, number: u32) {
-    tally.same(compared, number, || format!("{what}, {call}: the number read here"));
+const DONE: Refusal = Refusal { number: 0, index: 0 };
+
+/// A number with the index of a colour; what is done has none.
+fn at(number: u32, index: usize) -> Refusal {
+    if number == 0 { DONE } else { Refusal { number, index } }
+}
+
+/// What the scope has for an edge, beside what was compared.
+fn listed(tally: &mut Tally, what: &str, call: &str, compared: impl Into<Refusal>, right: impl Into<Refusal>) {
+    tally.same(compared.into(), right.into(), || format!("{what}, {call}: the number and index read here"));
 }
 
 /// A tile of so many colours, each counted once.

@@ -1,18 +1,20 @@
-//! Grouping: refusals by docs/SCOPE.md's table, entries and indexes by the Rust's `extract`.
+//! Grouping: refusals by docs/SCOPE.md's table, with the pixel that 7 names; entries and indexes by the Rust's `extract`.
 
-use std::collections::HashMap;
+use std::collections::{BTreeSet, HashMap};
 
 use answers::rust;
 use terms::jobs::Colours;
 use terms::rng::Rng;
 
 use super::{Kind, kind};
+use crate::damage;
 use crate::lent::{self, Lent, nans};
 use crate::ours;
+use crate::table::{self, Refusal};
 use crate::tally::Tally;
-use crate::{damage, table};
 
-pub const KINDS: &[Kind] = &[kind("grouping", 20_000, 200_000, grouping)];
+pub const KINDS: &[Kind] =
+    &[kind("grouping", 20_000, 200_000, grouping), kind("damaged pixels", 5_000, 50_000, damaged)];
 
 /// A call of grouping as a stranger may make it.
 #[derive(Clone, Debug)]
@@ -100,11 +102,11 @@ impl Call {
         a != 0 && self.zero != Some([r, g, b])
     }
 
-    /// The scope's number.
-    fn number(&self) -> u32 {
+    /// What the scope says of it.
+    fn refusal(&self) -> Refusal {
         let p = self.p;
         if p > 64 {
-            return 2;
+            return 2.into();
         }
         let lengths = [
             (self.pixels.len(), 4 * p),
@@ -115,20 +117,20 @@ impl Call {
             (self.index.len(), p),
         ];
         if lengths.iter().any(|(lent, implied)| lent != implied) {
-            return 3;
+            return 3.into();
         }
         let oklab = |k: usize| &self.oklab[3 * k..3 * k + 3];
         for k in (0..p).filter(|&k| self.kept(k)) {
             if !table::within(oklab(k), 2.0) {
-                return 7;
+                return Refusal { number: 7, index: k };
             }
             let bits = |k: usize| oklab(k).iter().map(|x| x.to_bits()).collect::<Vec<_>>();
             let before = (0..k).filter(|&j| self.kept(j) && self.pixel(j) == self.pixel(k));
             if before.into_iter().any(|j| bits(j) != bits(k)) {
-                return 14;
+                return 14.into();
             }
         }
-        0
+        0.into()
     }
 
     /// The memory that the Rust's `extract` implies for a call that is accepted, and the number of entries.
@@ -158,10 +160,32 @@ fn grouping(rng: &mut Rng, _: u64, tally: &mut Tally) {
     grouped(&call, tally);
 }
 
-/// Gives the number by the scope's table.
-pub fn grouped(call: &Call, tally: &mut Tally) -> u32 {
-    let number = call.number();
-    let (entries, after) = if number == 0 { call.grouped() } else { (0, call.clone()) };
+/// Right but for one or two pixels, at known places: the first of them that is kept is named.
+fn damaged(rng: &mut Rng, _: u64, tally: &mut Tally) {
+    let p = rng.pick(&[1, 2, 3, 16, 64]);
+    let mut call = Call::of(rng, p);
+    let places: BTreeSet<usize> = (0..rng.among(1, 2)).map(|_| rng.below(p)).collect();
+    for &k in &places {
+        let oklab = &mut call.oklab[3 * k..3 * k + 3];
+        while table::within(oklab, 2.0) {
+            damage::component(rng, oklab, 2.0);
+        }
+    }
+    let bad: Vec<usize> = places.iter().copied().filter(|&k| call.kept(k)).collect();
+    let (counted, right) = match bad[..] {
+        [] => ("no bad pixel kept", 0.into()),
+        [index] => ("7 for one pixel", Refusal { number: 7, index }),
+        [index, ..] => ("7 for the first of two", Refusal { number: 7, index }),
+    };
+    tally.add(counted, 1);
+    let read = grouped(&call, tally);
+    tally.same(read, right, || format!("damaged at {places:?}: the number and index read here"));
+}
+
+/// Gives what the scope says of it.
+pub fn grouped(call: &Call, tally: &mut Tally) -> Refusal {
+    let refusal = call.refusal();
+    let (entries, after) = if refusal.number == 0 { call.grouped() } else { (0, call.clone()) };
 
     let (pixels, oklab) = (lent::bytes(&call.pixels), lent::floats(&call.oklab));
     let mut room = ours::Entries {
@@ -176,12 +200,12 @@ pub fn grouped(call: &Call, tally: &mut Tally) -> u32 {
         (room.counts.values().to_vec(), room.index.values().to_vec()),
         guarded(&pixels, &oklab, &room),
     );
-    tally.answered("grouping", number);
+    tally.answered("grouping", refusal);
     tally.left(call.oklab.iter().chain(&after.entry_oklab));
     let oklab = lent::bits(&after.entry_oklab);
     let right = ((after.entry_bytes, oklab), (after.entry_counts, after.index), true);
-    tally.same((answer, left), ((number, entries), right), || format!("{call:?}"));
-    number
+    tally.same((answer, left), ((refusal, entries), right), || format!("{call:?}"));
+    refusal
 }
 
 /// What is only read is untouched, and so is all around what is written.

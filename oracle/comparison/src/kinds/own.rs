@@ -113,7 +113,7 @@ fn replaced(rng: &mut Rng, _: u64, tally: &mut Tally) {
     tally.same(alike, (0, 0), || "NaNs with the same bits, numbers among them".to_string());
     let call = Call::of(&jobs::job(rng, 60));
     let places = call.memory.palette.len();
-    let left = Outcome::unchanged(7, &call, &Ask::Result(nans(places)));
+    let left = Outcome::unchanged(16.into(), &call, &Ask::Result(nans(places)));
     for (k, made) in (0..places).flat_map(|k| MADE.map(|made| (k, f32::from_bits(made)))) {
         let mut memory = lent::floats(&all[..places]);
         unsafe { *memory.as_mut_ptr().add(k) = made };

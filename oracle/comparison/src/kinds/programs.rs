@@ -49,7 +49,7 @@ fn fit_example(_: &mut Rng, _: u64, tally: &mut Tally) {
 
 fn fits(bytes: &[u8], tally: &mut Tally) {
     match sheet::read(bytes) {
-        Err(number) => tally.answered("program fit", number),
+        Err(refusal) => tally.answered("program fit", refusal.number),
         Ok(sheet) => {
             tally.answered("program fit", 0);
             let blank = sheet.tiles.iter().filter(|tile| tile.counts.is_empty()).count();

@@ -1,5 +1,5 @@
 //! The run's public calls: whole runs in calls of any size, some of them taken up by another process; and single calls on memory
-//! that a stranger made, damaged or not. Number, draws and all lent memory of each call by docs/SCOPE.md as reading/ has it; the
+//! that a stranger made, damaged or not. Number, index, draws and all lent memory of each call by docs/SCOPE.md as reading/ has it; the
 //! runs also beside the Rust, each call beside its stages in steps, stops and result beside its whole run.
 
 use answers::{probed, rust};
@@ -12,6 +12,7 @@ use crate::call::{Ask, Call, Memory, Outcome};
 use crate::damage::runs as damage;
 use crate::lent::nans;
 use crate::reading::run::outcome;
+use crate::table::{self, Refusal};
 use crate::tally::Tally;
 use crate::{ours, saved};
 
@@ -26,20 +27,27 @@ fn calls(rng: &mut Rng, _: u64, tally: &mut Tally) {
     let mut call = damage::good(rng);
     let mut asks = damage::asks(rng, &call);
     damage::damaged(rng, &mut call, &mut asks);
-    asked(&call, &asks, tally);
+    each_asked(&call, &asks, tally);
     if rng.once_in(4) {
-        asked(&call.without_numbers(), &asks, tally);
+        each_asked(&call.without_numbers(), &asks, tally);
     }
 }
 
-fn asked(call: &Call, asks: &[Ask], tally: &mut Tally) {
+fn each_asked(call: &Call, asks: &[Ask], tally: &mut Tally) {
     for ask in asks {
-        let right = outcome(call, ask);
-        tally.answered(ask.name(), right.number);
-        tally.add("draws", right.draws);
-        tally.left(right.floats());
-        tally.same(ours::answer(call, ask), right, || format!("{ask:?} {call:?}"));
+        asked(call, ask, tally);
     }
+}
+
+/// Gives what the scope says of it.
+pub fn asked(call: &Call, ask: &Ask, tally: &mut Tally) -> Refusal {
+    let right = outcome(call, ask);
+    let refusal = right.refusal;
+    tally.answered(ask.name(), refusal);
+    tally.add("draws", right.draws);
+    tally.left(right.floats());
+    tally.same(ours::answer(call, ask), right, || format!("{ask:?} {call:?}"));
+    refusal
 }
 
 /// What a host hands in at a stop.
@@ -135,8 +143,9 @@ impl Whole {
             };
             tally.same(ours.len(), leg.len(), || "calls answered".to_string());
             for (ours, planned) in ours.into_iter().zip(leg) {
-                finished |= matches!(planned.ask, Ask::Result(_)) && planned.right.number == 0;
-                if matches!(planned.ask, Ask::HandIn(_)) && planned.right.number == 0 {
+                let accepted = planned.right.refusal.number == 0;
+                finished |= matches!(planned.ask, Ask::Result(_)) && accepted;
+                if matches!(planned.ask, Ask::HandIn(_)) && accepted {
                     stops.push(self.call.memory.clone());
                 }
                 self.call.memory = planned.right.memory.clone();
@@ -153,11 +162,11 @@ impl Whole {
         for _ in 0..rng.among(1, 8) {
             let ask = self.next(rng, &call);
             let right = outcome(&call, &ask);
-            let accepted = right.number == 0;
+            let accepted = right.refusal.number == 0;
             let draws = match &ask {
                 Ask::Advance(allotment) if accepted => self.steps.advance(*allotment),
                 Ask::HandIn(reduced) if accepted => {
-                    self.handed.push(crate::table::colours(reduced));
+                    self.handed.push(table::colours(reduced));
                     self.steps.hand_in(self.handed.last().unwrap());
                     0
                 }
@@ -193,7 +202,7 @@ impl Whole {
 
     fn same(&self, ours: Outcome, planned: Planned, tally: &mut Tally) {
         let Planned { ask, right, rusts } = planned;
-        tally.answered(ask.name(), right.number);
+        tally.answered(ask.name(), right.refusal);
         tally.add("draws", right.draws);
         tally.left(right.floats());
         let shown = || format!("{ask:?} of seed {:x}, {:?}", self.seed, self.job);

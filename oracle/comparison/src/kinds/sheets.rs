@@ -4,12 +4,13 @@
 use terms::jobs::{self, Colours};
 use terms::rng::Rng;
 
+use super::calls::Call;
 use super::{Kind, kind, whole};
 use crate::damage::sheets::{added, damages};
 use crate::lent::{bits as bits_of, nans};
 use crate::ours::{self, Job};
 use crate::sheet::{self, Sheet};
-use crate::table::Given;
+use crate::table::{Given, Refusal};
 use crate::tally::Tally;
 use crate::{damage, lent, table};
 
@@ -92,7 +93,7 @@ fn written_again(bytes: &[u8], tally: &mut Tally) {
     let found = Given::new(&vec![vec![[0.0; 3]]], &[], 1.0);
     let room = Given { tiles: vec![0; ROOM[0]], colours: vec![0.0; ROOM[1]], counts: vec![0; ROOM[2]], ..found };
     let (mut job, mut palette) = (Job::lent(&room), lent::floats(&vec![0.0; ROOM[3]]));
-    let number = ours::sheet_read(&lent::bytes(bytes), &mut job, &mut palette);
+    let refusal = ours::sheet_read(&lent::bytes(bytes), &mut job, &mut palette);
     let tiles = &job.tiles.values()[..2 * job.t];
     let colours = tiles.chunks(2).map(|entry| entry[1] as usize).sum::<usize>();
     let given = Given {
@@ -107,7 +108,8 @@ fn written_again(bytes: &[u8], tally: &mut Tally) {
     let numbers = &palette.values()[..3 * job.s * job.c];
     let mut dst = lent::bytes(&vec![0; bytes.len()]);
     let wrote = ours::sheet_write(&Job::lent(&given), &lent::floats(numbers), &mut dst);
-    tally.same((number, wrote, dst.values().to_vec()), (0, (0, bytes.len()), bytes.to_vec()), || {
+    let done = Refusal::default();
+    tally.same((refusal, wrote, dst.values().to_vec()), (done, (done, bytes.len()), bytes.to_vec()), || {
         format!("{} bytes", bytes.len())
     });
 }
@@ -139,8 +141,8 @@ fn compare(bytes: &[u8], tally: &mut Tally) {
     read_into(bytes, ROOM, tally);
 }
 
-/// Reads into room of these sizes: what is filled, and what stays. Gives the number by the reading here.
-pub fn read_into(bytes: &[u8], room: [usize; 4], tally: &mut Tally) -> u32 {
+/// Reads into room of these sizes: what is filled, and what stays. Gives what the reading here says of it.
+pub fn read_into(bytes: &[u8], room: [usize; 4], tally: &mut Tally) -> Refusal {
     let found = Given {
         s: 77,
         c: 78,
@@ -152,7 +154,7 @@ pub fn read_into(bytes: &[u8], room: [usize; 4], tally: &mut Tally) -> u32 {
     };
     let found_palette = nans(room[3]);
     let enough = room.iter().zip(ROOM).all(|(has, needs)| *has >= needs);
-    let read = if enough { sheet::read(bytes) } else { Err(3) };
+    let read = if enough { sheet::read(bytes) } else { Err(3.into()) };
     let (mut right, mut right_palette) = (found.clone(), found_palette.clone());
     if let Ok(sheet) = &read {
         let given = Given::new(&sheet.palette, &sheet.tiles, sheet.weight);
@@ -164,10 +166,10 @@ pub fn read_into(bytes: &[u8], room: [usize; 4], tally: &mut Tally) -> u32 {
         right_palette[..numbers.len()].copy_from_slice(&numbers);
     }
 
-    let right_number = read.err().unwrap_or(0);
+    let right_refusal = read.err().unwrap_or_default();
     let (lent_bytes, mut job, mut palette) = (lent::bytes(bytes), Job::lent(&found), lent::floats(&found_palette));
-    let number = ours::sheet_read(&lent_bytes, &mut job, &mut palette);
-    tally.answered("sheet reader", right_number);
+    let refusal = ours::sheet_read(&lent_bytes, &mut job, &mut palette);
+    tally.answered("sheet reader", right_refusal);
     tally.left(right.colours.iter().chain(&right_palette));
     let kept = lent_bytes.untouched() && job.guarded() && palette.guarded();
     let sizes = (job.s, job.c, job.t, job.weight);
@@ -175,11 +177,11 @@ pub fn read_into(bytes: &[u8], room: [usize; 4], tally: &mut Tally) -> u32 {
     let right_sizes = (right.s, right.c, right.t, right.weight);
     let (right_colours, right_palette) = (bits_of(&right.colours), bits_of(&right_palette));
     tally.same(
-        (number, sizes, ours, palette.bits(), kept),
-        (right_number, right_sizes, (right.tiles, right_colours, right.counts), right_palette, true),
+        (refusal, sizes, ours, palette.bits(), kept),
+        (right_refusal, right_sizes, (right.tiles, right_colours, right.counts), right_palette, true),
         || format!("{bytes:02x?}"),
     );
-    right_number
+    right_refusal
 }
 
 /// A job with its palette, damaged or not, into bytes of any number.
@@ -201,31 +203,42 @@ fn writing(rng: &mut Rng, case: u64, tally: &mut Tally) {
     written_into(&given, &numbers, &found, tally);
 }
 
-/// The bytes of the sheet, or the number, whatever the room.
-fn sheet_of(given: &Given, numbers: &[f32]) -> Result<Vec<u8>, u32> {
+/// The job and palette of a call into room for any sheet. Gives what the scope says of it.
+pub fn job_written(call: &Call, tally: &mut Tally) -> Refusal {
+    written_into(&call.given, &call.palette, &[0x5a; 70_000], tally)
+}
+
+/// The sheet of a call's job and palette. Gives what the reading here says of it.
+pub fn job_read(call: &Call, tally: &mut Tally) -> Refusal {
+    let (palette, tiles) = (table::subs(&call.given, &call.palette), call.given.tiles());
+    read_into(&sheet::written(&Sheet { weight: call.given.weight, palette, tiles }), ROOM, tally)
+}
+
+/// The bytes of the sheet, or the refusal, whatever the room.
+fn sheet_of(given: &Given, numbers: &[f32]) -> Result<Vec<u8>, Refusal> {
     match table::plain(given, numbers, true, true) {
-        0 => {}
-        number => return Err(number),
+        Refusal { number: 0, .. } => {}
+        refusal => return Err(refusal),
     }
     let (palette, tiles) = (table::subs(given, numbers), given.tiles());
     let bytes = sheet::written(&Sheet { weight: given.weight, palette, tiles });
-    if bytes.len() > sheet::MOST_BYTES { Err(13) } else { Ok(bytes) }
+    if bytes.len() > sheet::MOST_BYTES { Err(13.into()) } else { Ok(bytes) }
 }
 
-/// Writes where these bytes are found: what is filled, and what stays. Gives the number by the scope's table.
-pub fn written_into(given: &Given, numbers: &[f32], found: &[u8], tally: &mut Tally) -> u32 {
-    let fits = |bytes: Vec<u8>| if bytes.len() <= found.len() { Ok(bytes) } else { Err(3) };
+/// Writes where these bytes are found: what is filled, and what stays. Gives what the scope says of it.
+pub fn written_into(given: &Given, numbers: &[f32], found: &[u8], tally: &mut Tally) -> Refusal {
+    let fits = |bytes: Vec<u8>| if bytes.len() <= found.len() { Ok(bytes) } else { Err(3.into()) };
     let written = sheet_of(given, numbers).and_then(fits);
-    let (number, bytes) = (written.as_ref().err().copied().unwrap_or(0), written.unwrap_or_default());
+    let (refusal, bytes) = (written.as_ref().err().copied().unwrap_or_default(), written.unwrap_or_default());
     let right = [&bytes[..], &found[bytes.len()..]].concat();
 
     let (job, palette, mut dst) = (Job::lent(given), lent::floats(numbers), lent::bytes(found));
     let answer = ours::sheet_write(&job, &palette, &mut dst);
     let kept = job.untouched() && palette.untouched() && dst.guarded();
-    tally.answered("sheet writer", number);
+    tally.answered("sheet writer", refusal);
     tally.left(given.colours.iter().chain(numbers));
-    tally.same((answer, dst.values().to_vec(), kept), ((number, bytes.len()), right, true), || {
+    tally.same((answer, dst.values().to_vec(), kept), ((refusal, bytes.len()), right, true), || {
         format!("{given:?} {numbers:?}")
     });
-    number
+    refusal
 }

@@ -1,7 +1,8 @@
 //! The public calls, which take whatever a stranger lends.
 
+use super::said;
 use crate::lent::{self, Lent};
-use crate::table::Given;
+use crate::table::{Given, Refusal};
 use foreign::ours::Two;
 use foreign::{dunkafeto_assign, lend, probe_group, probe_public_best_two, probe_single_fit};
 
@@ -46,45 +47,44 @@ pub struct Entries {
     pub index: Lent<u32>,
 }
 
-/// The number, and how many entries were written.
+/// The refusal, and how many entries were written.
 pub fn group(
     p: usize,
     pixels: &Lent<u8>,
     oklab: &Lent<f32>,
     zero: Option<[u8; 3]>,
     room: &mut Entries,
-) -> (u32, usize) {
+) -> (Refusal, usize) {
     let [r, g, b] = zero.unwrap_or_default();
-    let mut entries = 0;
+    let (mut entries, mut index) = (0, 0);
     let number = unsafe {
         lend!(probe_group(
             p, ref pixels, ref oklab, zero.is_some(), r, g, b,
-            mut room.bytes, mut room.oklab, mut room.counts, mut room.index, &mut entries
+            mut room.bytes, mut room.oklab, mut room.counts, mut room.index, &mut entries, &mut index
         ))
     };
-    (number, entries)
+    (Refusal { number, index }, entries)
 }
 
-/// The number, the winner and its distance; both stay 0 on a refusal.
-pub fn single_fit(job: &Job, palette: &Lent<f32>, hints: &mut Lent<u32>) -> (u32, usize, f32) {
-    let (mut index, mut dist) = (0, 0.0);
-    let number = unsafe { lend!(probe_single_fit(..job, ref palette, mut hints, &mut index, &mut dist)) };
-    (number, index, dist)
+/// The refusal, the winner and its distance; both stay 0 on a refusal.
+pub fn single_fit(job: &Job, palette: &Lent<f32>, hints: &mut Lent<u32>) -> (Refusal, usize, f32) {
+    let (mut winner, mut dist, mut index) = (0, 0.0, 0);
+    let number = unsafe { lend!(probe_single_fit(..job, ref palette, mut hints, &mut winner, &mut dist, &mut index)) };
+    (Refusal { number, index }, winner, dist)
 }
 
-/// The number, the winner, its distance, the runner-up and the second; all stay 0 on a refusal.
-pub fn public_best_two(job: &Job, palette: &Lent<f32>, hints: &mut Lent<u32>) -> (u32, Two) {
-    let mut two = Two { index: 0, dist: 0.0, next: 0, second: 0.0 };
+/// The refusal, the winner, its distance, the runner-up and the second; all stay 0 on a refusal.
+pub fn public_best_two(job: &Job, palette: &Lent<f32>, hints: &mut Lent<u32>) -> (Refusal, Two) {
+    let (mut two, mut index) = (Two { index: 0, dist: 0.0, next: 0, second: 0.0 }, 0);
     let number = unsafe {
         lend!(probe_public_best_two(
-            ..job, ref palette, mut hints, &mut two.index, &mut two.dist, &mut two.next, &mut two.second
+            ..job, ref palette, mut hints, &mut two.index, &mut two.dist, &mut two.next, &mut two.second, &mut index
         ))
     };
-    (number, two)
+    (Refusal { number, index }, two)
 }
 
-pub fn assign(job: &Job, palette: &Lent<f32>, hints: &mut Lent<u32>, out: &mut Lent<u32>) -> u32 {
-    let told = unsafe { lend!(dunkafeto_assign(..job, ref palette, mut hints, mut out)) };
-    // it makes no draws, so the answer is the number alone
-    u32::try_from(told).unwrap_or(u32::MAX)
+/// The refusal, and the draws, of which it makes none.
+pub fn assign(job: &Job, palette: &Lent<f32>, hints: &mut Lent<u32>, out: &mut Lent<u32>) -> (Refusal, u64) {
+    said(unsafe { lend!(dunkafeto_assign(..job, ref palette, mut hints, mut out)) })
 }

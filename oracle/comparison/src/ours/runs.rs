@@ -1,10 +1,17 @@
-//! The run's public calls as a host has them, from the library that ships: they take whatever a stranger lends, and answer the draws
-//! times 256 and the number.
+//! The run's public calls as a host has them, from the library that ships: they take whatever a stranger lends, and answer in a word.
 
 use super::Job;
 use crate::call::{Ask, Call, Memory, Outcome};
 use crate::lent::{self, Lent};
+use crate::table::Refusal;
+use foreign::shipped;
 use foreign::{dunkafeto_advance, dunkafeto_hand_in, dunkafeto_result, dunkafeto_start, lend_run};
+
+/// What an answer word says: the refusal, and the draws.
+pub fn said(word: u64) -> (Refusal, u64) {
+    let (number, index, draws) = shipped::said(word);
+    (Refusal { number, index }, draws)
+}
 
 /// What comes of a call: lent between guards, made, and all of it looked at afterwards.
 pub fn answer(call: &Call, ask: &Ask) -> Outcome {
@@ -17,8 +24,8 @@ pub fn answer(call: &Call, ask: &Ask) -> Outcome {
         Ask::Result(_) => result(&job, &memory, &mut colours),
     };
     let kept = job.untouched() && memory.guarded() && colours.guarded();
-    let (number, draws) = ((told & 255) as u32, told >> 8);
-    Outcome { number, draws, memory: memory.memory(), colours: colours.values().to_vec(), kept }
+    let (refusal, draws) = said(told);
+    Outcome { refusal, draws, memory: memory.memory(), colours: colours.values().to_vec(), kept }
 }
 
 /// What comes of calls in a row, each on the memory that the one before left.

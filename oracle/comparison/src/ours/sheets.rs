@@ -2,21 +2,24 @@
 
 use super::Job;
 use crate::lent::Lent;
+use crate::table::Refusal;
 use foreign::{lend, probe_sheet_read, probe_sheet_write};
 
-/// The number; the sizes and the weight of the job become the sheet's, its slices and the palette are filled.
-pub fn sheet_read(bytes: &Lent<u8>, job: &mut Job, palette: &mut Lent<f32>) -> u32 {
-    unsafe {
+/// The refusal; the sizes and the weight of the job become the sheet's, its slices and the palette are filled.
+pub fn sheet_read(bytes: &Lent<u8>, job: &mut Job, palette: &mut Lent<f32>) -> Refusal {
+    let mut index = 0;
+    let number = unsafe {
         lend!(probe_sheet_read(
             ref bytes, mut job.tiles, mut job.colours, mut job.counts, mut palette,
-            &mut job.s, &mut job.c, &mut job.t, &mut job.weight
+            &mut job.s, &mut job.c, &mut job.t, &mut job.weight, &mut index
         ))
-    }
+    };
+    Refusal { number, index }
 }
 
-/// The number, and the bytes that the sheet has; 0 on a refusal.
-pub fn sheet_write(job: &Job, palette: &Lent<f32>, dst: &mut Lent<u8>) -> (u32, usize) {
-    let mut size = 0;
-    let number = unsafe { lend!(probe_sheet_write(..job, ref palette, mut dst, &mut size)) };
-    (number, size)
+/// The refusal, and the bytes that the sheet has; 0 on a refusal.
+pub fn sheet_write(job: &Job, palette: &Lent<f32>, dst: &mut Lent<u8>) -> (Refusal, usize) {
+    let (mut size, mut index) = (0, 0);
+    let number = unsafe { lend!(probe_sheet_write(..job, ref palette, mut dst, &mut size, &mut index)) };
+    (Refusal { number, index }, size)
 }

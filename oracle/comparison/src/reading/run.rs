@@ -7,11 +7,11 @@ use super::{draws, record, stages};
 use crate::call::{Ask, Call, Memory, Outcome};
 use crate::table;
 
-/// What the scope says of a call: its number, its draws, and all lent memory after it.
+/// What the scope says of a call: its number and index, its draws, and all lent memory after it.
 pub fn outcome(call: &Call, ask: &Ask) -> Outcome {
-    let number = record::number(call, ask);
-    let mut right = Outcome::unchanged(number, call, ask);
-    if number != 0 {
+    let refusal = record::refusal(call, ask);
+    let mut right = Outcome::unchanged(refusal, call, ask);
+    if refusal.number != 0 {
         return right;
     }
     let mut run = Run::of(call);

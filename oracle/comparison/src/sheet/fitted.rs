@@ -8,7 +8,7 @@ use crate::reading::fits::next_best;
 pub fn fitted(bytes: &[u8]) -> String {
     let sheet = match read(bytes) {
         Ok(sheet) => sheet,
-        Err(number) => return refused(number),
+        Err(refusal) => return refused(refusal.number),
     };
     let rust = answers::rust(sheet.weight);
     let s = sheet.palette.len();
@@ -32,6 +32,7 @@ pub fn fitted(bytes: &[u8]) -> String {
     text
 }
 
+/// A program says no index.
 pub fn refused(number: u32) -> String {
     format!("refused {number}\n")
 }

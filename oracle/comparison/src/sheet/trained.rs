@@ -8,7 +8,7 @@ use super::{Sheet, read, written};
 /// The number that a sheet gets: its own, or that of its samples.
 pub fn number(bytes: &[u8]) -> u32 {
     match read(bytes).map(|sheet| samples(&sheet.tiles).len()) {
-        Err(number) => number,
+        Err(refusal) => refusal.number,
         Ok(0) => 1,
         Ok(n) if n > 16_384 => 2,
         Ok(_) => 0,

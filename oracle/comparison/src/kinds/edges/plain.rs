@@ -3,9 +3,11 @@
 use terms::Tile;
 use terms::rng::Rng;
 
-use super::{around, colours_in_all, component, counted, listed, tiles, weights};
-use crate::kinds::calls::{self, Call};
-use crate::kinds::{groups, sheets};
+use super::{around, at, colours_in_all, component, counted, listed, tiles, weights};
+use crate::kinds::calls::Call;
+use crate::kinds::entries::PLAIN;
+use crate::kinds::groups;
+use crate::table::Refusal;
 use crate::tally::Tally;
 
 pub fn compare(rng: &mut Rng, tally: &mut Tally) {
@@ -19,18 +21,12 @@ fn good(rng: &mut Rng, s: usize, c: usize, tiles: &[Tile], weight: f32) -> Call 
     Call::new(rng, &vec![vec![[0.25, -0.5, 0.5]; c]; s], tiles, weight)
 }
 
-/// Single fit, `best_two`, assign and the writer, and the numbers that they get.
-fn each(tally: &mut Tally, what: &str, call: &Call, numbers: [u32; 4]) {
-    let compared =
-        [calls::fitted(call, tally), calls::paired(call, tally), calls::assigned(call, tally), write(call, tally)];
-    let names = ["single fit", "best_two", "assign", "writer"];
-    for ((name, compared), number) in names.into_iter().zip(compared).zip(numbers) {
-        listed(tally, what, name, compared, number);
+/// Single fit, `best_two`, assign and the writer, and what they get.
+fn each(tally: &mut Tally, what: &str, call: &Call, right: [impl Into<Refusal>; 4]) {
+    for (plain, right) in PLAIN.iter().zip(right) {
+        let compared = (plain.compare)(call, tally);
+        listed(tally, what, plain.name, compared, right);
     }
-}
-
-fn write(call: &Call, tally: &mut Tally) -> u32 {
-    sheets::written_into(&call.given, &call.palette, &[0x5a; 70_000], tally)
 }
 
 fn of_jobs(rng: &mut Rng, tally: &mut Tally) {
@@ -50,11 +46,12 @@ fn of_jobs(rng: &mut Rng, tally: &mut Tally) {
     for (counts, number) in [([63, 1], 0), ([64, 1], 6), ([1, 64], 6), ([0, 1], 6), ([u32::MAX, 1], 6)] {
         whole(&format!("counts {counts:?}"), counted(counts), 2.15, [number; 4]);
     }
-    for (x, number) in around(2.0, 7) {
-        whole(&format!("component {x:?}"), component(x), 2.15, [number; 4]);
-    }
     for (weight, number) in weights() {
         whole(&format!("weight {weight:?}"), tiles(1, 2), weight, [number; 4]);
+    }
+    for (x, number) in around(2.0, 7) {
+        // tile colours are counted on from the four of the palette
+        each(tally, &format!("component {x:?}"), &good(rng, 2, 2, &component(x), 2.15), [at(number, 4); 4]);
     }
 }
 
@@ -62,7 +59,7 @@ fn of_palettes(rng: &mut Rng, tally: &mut Tally) {
     for (x, number) in around(2.0, 7) {
         let mut call = good(rng, 2, 2, &tiles(1, 2), 2.15);
         call.palette[11] = x;
-        each(tally, &format!("palette component {x:?}"), &call, [number; 4]);
+        each(tally, &format!("palette component {x:?}"), &call, [at(number, 3); 4]);
     }
     for more in [false, true] {
         let mut call = good(rng, 2, 2, &tiles(1, 2), 2.15);

@@ -16,7 +16,8 @@ pub fn compare(tally: &mut Tally) {
     without_rounds(tally);
 }
 
-fn belonging(call: &Call) -> Ask {
+/// What belongs to the stage that a run is in.
+pub fn belonging(call: &Call) -> Ask {
     let [_, advance, hand_in, result] = asks(call);
     match call.stage() {
         3 | 5 | 6 => hand_in,

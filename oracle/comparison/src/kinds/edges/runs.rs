@@ -2,12 +2,13 @@
 
 use terms::{Job, Sample};
 
-use super::{around, colours_in_all, component, counted, job, listed, tiles, weights};
+use super::{DONE, around, at, colours_in_all, component, counted, job, listed, tiles, weights};
 use crate::call::{Ask, Call};
 use crate::lent::nans;
 use crate::ours;
 use crate::reading::record::{before, round};
 use crate::reading::run::outcome;
+use crate::table::Refusal;
 use crate::tally::Tally;
 
 /// The stages in which start, advance, hand-in and result are tried.
@@ -42,33 +43,33 @@ pub fn asks(call: &Call) -> [Ask; 4] {
     [Ask::Start(9), Ask::Advance(3), Ask::HandIn(vec![0.25; places]), Ask::Result(nans(places))]
 }
 
-/// The call and all lent memory, beside the reading, whose number is beside the one that is listed. A start, which finds nothing of use,
-/// and what is refused are asked once more with no number in the palettes.
-pub fn ask(tally: &mut Tally, what: &str, call: &Call, ask: &Ask, number: u32) {
-    let right = asked(tally, what, call, ask);
-    listed(tally, what, ask.name(), right, number);
-    if number != 0 || matches!(ask, Ask::Start(_)) {
+/// The call and all lent memory, beside the reading, whose number and index are beside those that are listed. A start, which finds
+/// nothing of use, and what is refused are asked once more with no number in the palettes.
+pub fn ask(tally: &mut Tally, what: &str, call: &Call, ask: &Ask, right: impl Into<Refusal>) {
+    let compared = asked(tally, what, call, ask);
+    listed(tally, what, ask.name(), compared, right);
+    if compared != DONE || matches!(ask, Ask::Start(_)) {
         asked(tally, what, &call.without_numbers(), ask);
     }
 }
 
-/// Gives the number by the reading.
-fn asked(tally: &mut Tally, what: &str, call: &Call, ask: &Ask) -> u32 {
+/// Gives what the reading says of it.
+fn asked(tally: &mut Tally, what: &str, call: &Call, ask: &Ask) -> Refusal {
     let right = outcome(call, ask);
-    let number = right.number;
-    tally.answered(ask.name(), number);
+    let refusal = right.refusal;
+    tally.answered(ask.name(), refusal);
     tally.left(right.floats());
     tally.same(ours::answer(call, ask), right, || format!("{what}: {}", ask.name()));
-    number
+    refusal
 }
 
 /// The four calls, after an edit of the memory at their moment and of what they are given.
-fn each(tally: &mut Tally, what: &str, job: &Job, numbers: [u32; 4], edit: impl Fn(&mut Call, &mut Ask)) {
-    for ((k, stage), number) in MOMENTS.into_iter().enumerate().zip(numbers) {
+fn each(tally: &mut Tally, what: &str, job: &Job, right: [impl Into<Refusal>; 4], edit: impl Fn(&mut Call, &mut Ask)) {
+    for ((k, stage), right) in MOMENTS.into_iter().enumerate().zip(right) {
         let mut call = standing(job, stage);
         let mut asked = asks(&call)[k].clone();
         edit(&mut call, &mut asked);
-        ask(tally, what, &call, &asked, number);
+        ask(tally, what, &call, &asked, right);
     }
 }
 
@@ -123,16 +124,17 @@ fn of_samples(tally: &mut Tally) {
 
 fn of_memory(tally: &mut Tally) {
     let good = job(2, 2, tiles(2, 3), 20);
-    for (x, number) in around(4.0, 7) {
+    for (x, number) in around(4.0, 16) {
         let what = format!("working component {x:?}");
-        each(tally, &what, &good, [0, number, number, number], |call, _| call.memory.palette[11] = x);
-        // the second palette is looked at in stage 2 alone, where only advance is tried
+        let last = at(number, 3);
+        each(tally, &what, &good, [DONE, last, last, last], |call, _| call.memory.palette[11] = x);
+        // the second palette is looked at in stage 2 alone, where only advance is tried; its colours are counted on
         let what = format!("component {x:?} of the second palette");
-        each(tally, &what, &good, [0, number, 0, 0], |call, _| call.memory.least[0] = x);
+        each(tally, &what, &good, [DONE, at(number, 4), DONE, DONE], |call, _| call.memory.least[0] = x);
     }
-    for (x, number) in around(2.0, 7) {
+    for (x, number) in around(2.0, 17) {
         let what = format!("handed-in component {x:?}");
-        each(tally, &what, &good, [0, 0, number, 0], |_, ask| {
+        each(tally, &what, &good, [DONE, DONE, at(number, 3), DONE], |_, ask| {
             if let Ask::HandIn(colours) = ask {
                 colours[11] = x;
             }

@@ -2,9 +2,10 @@
 
 use terms::Tile;
 
-use super::{around, component, counted, listed, tiles, weights};
+use super::{around, at, component, counted, listed, tiles, weights};
 use crate::kinds::sheets::{ROOM, read_into};
 use crate::sheet::{self, MOST_BYTES, Sheet};
+use crate::table::Refusal;
 use crate::tally::Tally;
 
 pub fn compare(tally: &mut Tally) {
@@ -17,9 +18,9 @@ fn sheet(tiles: Vec<Tile>) -> Sheet {
     Sheet { weight: 2.15, palette: vec![vec![[0.25, -0.5, 0.5]; 2]; 2], tiles }
 }
 
-fn read(tally: &mut Tally, what: &str, sheet: &Sheet, number: u32) {
+fn read(tally: &mut Tally, what: &str, sheet: &Sheet, right: impl Into<Refusal>) {
     let compared = read_into(&sheet::written(sheet), ROOM, tally);
-    listed(tally, what, "reader", compared, number);
+    listed(tally, what, "reader", compared, right);
 }
 
 fn of_fields(tally: &mut Tally) {
@@ -34,10 +35,11 @@ fn of_fields(tally: &mut Tally) {
         read(tally, &format!("counts {counts:?}"), &sheet(counted(counts)), number);
     }
     for (x, number) in around(2.0, 7) {
-        read(tally, &format!("component {x:?}"), &sheet(component(x)), number);
+        // tile colours are counted on from the four of the palette
+        read(tally, &format!("component {x:?}"), &sheet(component(x)), at(number, 4));
         let mut edged = sheet(tiles(1, 1));
         edged.palette[1][1][2] = x;
-        read(tally, &format!("palette component {x:?}"), &edged, number);
+        read(tally, &format!("palette component {x:?}"), &edged, at(number, 3));
     }
     for (weight, number) in weights() {
         read(tally, &format!("weight {weight:?}"), &Sheet { weight, ..sheet(tiles(1, 1)) }, number);
