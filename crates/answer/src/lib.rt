@@ -85,6 +85,11 @@ pub const EMPTY_TILE: Refusal = Refusal {
     index: 0,
 };
 
+pub const OTHER_SIZES: Refusal = Refusal {
+    number: 20,
+    index: 0,
+};
+
 // A value times 256, and the number. The value of a refusal is its index; both are far smaller than what fits here.
 pub fn word(e: Refusal, value: u64) -> u64
     requires { ⌜ (e .index ≤ 0xffff_ffff) × (value ≤ 0xffff_ffff) ⌝ }

@@ -11,7 +11,7 @@ use Rattle.answer.specs.Outcome.{Outcome}
 use Rattle.run_stages.specs.declared.Advanced.{Advanced}
 use Rattle.run_stages.specs.State.{State}
 use Rattle.run_stages.specs.Stages.{advance, drawsOf, handIn}
-use Rattle.run_stages.specs.Calls.{Memory, memory, recordOf, wordsOf, stateOf, memoryOf, advanceAnswer, handInAnswer, advanceCall, handInCall}
+use Rattle.run_stages.specs.Calls.{Memory, memory, recordWords, recordOf, wordsOf, stateOf, memoryOf, advanceAnswer, handInAnswer, advanceCall, handInCall}
 use Rattle.run_calls.proofs.Traces.{Trace, took, advance-trace, one-end}
 use Rattle.run_calls.proofs.Traces as traces
 use Rattle.run_calls.specs.Accepted.{Accepted}
@@ -19,16 +19,17 @@ use Rattle.run_calls.proofs.Answers.{advance-opened, handIn-opened}
 use Rattle.run_calls.proofs.Next.{held-state, advance-done, handIn-done, advanced-state, handed-state}
 use Rattle.demands.specs.Third.{Row, none, advanced, handedIn, Any-division}
 
--- six words are those of the record that they are read as
-six-words : (ws : List ℕ) → length ws ≡ 6 → wordsOf (recordOf ws) ≡ ws
-six-words (a ∷ b ∷ c ∷ d ∷ e ∷ f ∷ []) h = refl
-six-words [] h = absurd (omega arith)
-six-words (a ∷ []) h = absurd (omega arith)
-six-words (a ∷ b ∷ []) h = absurd (omega arith)
-six-words (a ∷ b ∷ c ∷ []) h = absurd (omega arith)
-six-words (a ∷ b ∷ c ∷ d ∷ []) h = absurd (omega arith)
-six-words (a ∷ b ∷ c ∷ d ∷ e ∷ []) h = absurd (omega arith)
-six-words (a ∷ b ∷ c ∷ d ∷ e ∷ f ∷ g ∷ ws) h = absurd (omega arith)
+-- a record's words are those of the record that they are read as
+whole-words : (ws : List ℕ) → length ws ≡ recordWords → wordsOf (recordOf ws) ≡ ws
+whole-words (a ∷ b ∷ c ∷ d ∷ e ∷ f ∷ g ∷ []) h = refl
+whole-words [] h = absurd (omega arith)
+whole-words (a ∷ []) h = absurd (omega arith)
+whole-words (a ∷ b ∷ []) h = absurd (omega arith)
+whole-words (a ∷ b ∷ c ∷ []) h = absurd (omega arith)
+whole-words (a ∷ b ∷ c ∷ d ∷ []) h = absurd (omega arith)
+whole-words (a ∷ b ∷ c ∷ d ∷ e ∷ []) h = absurd (omega arith)
+whole-words (a ∷ b ∷ c ∷ d ∷ e ∷ f ∷ []) h = absurd (omega arith)
+whole-words (a ∷ b ∷ c ∷ d ∷ e ∷ f ∷ g ∷ i ∷ ws) h = absurd (omega arith)
 
 -- a memory that is what its state is written as
 abbrev Whole : Memory → Type 0
@@ -37,7 +38,7 @@ Whole m = memoryOf (stateOf m) ≡ m
 module _ (K : Course) where
   accepted-whole : (m : Memory) → Accepted K m → Whole m
   unfolding memoryOf stateOf
-  accepted-whole m A = ap (λ (ws : List ℕ). memory (m .order) (m .hints) (m .palette) (m .least) ws) (six-words (m .words) (A .roomy .words))
+  accepted-whole m A = ap (λ (ws : List ℕ). memory (m .order) (m .hints) (m .palette) (m .least) ws) (whole-words (m .words) (A .roomy .words))
 
   written : (m : Memory) (s : State) → m ≡ memoryOf s → Whole m
   written m s e = ap (λ (x : Memory). memoryOf (stateOf x)) e ∙ ap memoryOf (held-state s) ∙ sym e

@@ -121,6 +121,7 @@ module _ (K : Course) (given : Bool) (D : Sampled (K .job) (K .n) (K .samples) g
           stage = refl;
           rounds = refl;
           error = refl;
+          sizes = refl;
         }
 
   fit-draws : (a : ℕ) (s : State) → Fit K s → Draws K s (sampled K a s) (advance K a s)

@@ -8,6 +8,7 @@ pub mod Second
 pub mod Prefixes
 pub mod Division
 pub mod Third
+pub mod Neighbour
 pub mod Ends
 pub mod Finish
 pub mod Trained

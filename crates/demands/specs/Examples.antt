@@ -17,7 +17,7 @@ use Rattle.palette_tile.specs.Tiles.{fitAt}
 use Rattle.assign_tiles.specs.Tiles.{tileMemory}
 use Rattle.assign.specs.Assign.{assignDef}
 use Rattle.quantizer.specs.Course.{Course, course}
-use Rattle.run_stages.specs.Calls.{Memory, memory}
+use Rattle.run_stages.specs.Calls.{Memory, memory, recordWords}
 use Rattle.run_stages.specs.History.{Run}
 use Rattle.demands.specs.Ends.{Finished}
 
@@ -63,7 +63,7 @@ abbrev pub oneColour : ℕ → ℕ → ℕ → Course
 oneColour s c n = course (job tileSize s c 1 one (0 ∷ 1 ∷ []) (half ∷ nought ∷ nought ∷ []) (1 ∷ [])) n (replicate (2 * n) 0)
 
 abbrev pub blank : ℕ → ℕ → ℕ → Memory
-blank s c n = memory (replicate n 0) (0 ∷ []) (replicate (3 * (s * c)) nought) (replicate (3 * (s * c)) nought) (replicate 6 0)
+blank s c n = memory (replicate n 0) (0 ∷ []) (replicate (3 * (s * c)) nought) (replicate (3 * (s * c)) nought) (replicate recordWords 0)
 
 -- 20 draws of 10 samples, each twice
 abbrev pub Each-twice : List ℕ → Type 0

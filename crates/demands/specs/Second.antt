@@ -124,6 +124,7 @@ pub record Moves (K : Course) (i : ℕ) (s z : State) : Type 0 where
   pub stage : z .rec .stage ≡ s .rec .stage
   pub rounds : z .rec .rounds ≡ s .rec .rounds
   pub error : z .rec .error ≡ s .rec .error
+  pub sizes : z .rec .sizes ≡ s .rec .sizes
 
 -- from s to z by draws of these samples, each followed by what is then due
 pub data Draws (K : Course) : State → List ℕ → State → Type 0 where

@@ -2,7 +2,7 @@
 use Prim.Native.Nat.{ℕ, zero, suc, _+_, _*_, _/_, _≤_, _<_}
 use mathlib.Core.Path.{_≡_, refl, sym, subst, _∙_}
 use mathlib.Core.Bool.{Bool, true, false, not, cond, _&&_, true≢false}
-use mathlib.Core.List.{List}
+use mathlib.Core.List.{List, []}
 use native.Mathlib.Omega.{arith}
 use lib.Ieee.{Float}
 use lib.ListN.{length}
@@ -12,6 +12,11 @@ use Rattle.lists.proofs.Loops.{every-at}
 use Rattle.job.specs.Checks.{firstNot, componentFits, firstBad, componentsFit}
 use Rattle.job.specs.Bad.{badColour, FirstBad}
 use Rattle.job.proofs.First.{first-bound}
+
+-- no colours, none that is bad
+pub none-bad : (m : Float) → componentsFit m [] ≡ true
+unfolding firstBad firstNot
+none-bad m = refl
 
 -- ---- the first index at which a test fails
 module _ (f : ℕ → Bool) where

@@ -13,7 +13,7 @@ use Rattle.quantizer.specs.Course.{Course}
 use Rattle.run_stages.specs.declared.Advanced.{Advanced}
 use Rattle.run_stages.specs.State.{State, stateWith}
 use Rattle.run_stages.specs.Stages.{advance, drawsOf}
-use Rattle.run_stages.specs.Calls.{Memory, recordOf, stateOf, memory, memoryOf, advanced, advanceAnswer, advanceCall}
+use Rattle.run_stages.specs.Calls.{Memory, recordWords, recordOf, stateOf, memory, memoryOf, advanced, advanceAnswer, advanceCall}
 use Rattle.run_calls.proofs.Accepted.{job-passed}
 use Rattle.run_calls.proofs.Answers.{advance-opened}
 use Rattle.run_steps.specs.Running.{Running}
@@ -33,7 +33,7 @@ module _ (K : Course) (o h : List ℕ) (p l : List Float) (w : List ℕ) (a : Re
   unfolding advanceCall stateOf
   refused allotment n = was-refused a (advanceAnswer K lent) e (drawn allotment) (λ x. advanced x 0) lent n
 
-  pub work-asks : a .number ≡ 0 → Running K held × (length w ≡ 6)
+  pub work-asks : a .number ≡ 0 → Running K held × (length w ≡ recordWords)
   unfolding stateOf
   work-asks z =
       let A = advance-opened K lent (subst (λ (x : Refusal). x .number ≡ 0) e z) .0 in

@@ -11,8 +11,8 @@ use Rattle.quantizer.specs.Course.{Course}
 use Rattle.quantizer.specs.Sums.{zeros}
 use Rattle.quantizer.specs.Seeding.{seeded}
 use Rattle.quantizer_seed.specs.Seeds.{Seeding}
-use Rattle.run_stages.specs.State.{stateWith}
-use Rattle.run_blank.specs.Blanks.{begun, dealt, Blanking}
+use Rattle.run_stages.specs.State.{stateWith, begun}
+use Rattle.run_blank.specs.Blanks.{dealt, Blanking}
 
 -- ---- both palettes
 module _ (K : Course) (p l : List Float) (B : Blanking K p l) where
@@ -27,6 +27,6 @@ module _ (K : Course) (p l : List Float) (B : Blanking K p l) where
   blanked l2 el z e p2 ep = (ep ∙ ap (seeded K) (e ∙ ap zeros (B .one)), el ∙ ap zeros (B .two))
 
 -- ---- the order
-pub dealt-by : (n seed : ℕ) (o : List ℕ) (g m : ℕ) → cycle (deck o g) m ≡ after n seed 0 → stateWith o [] [] [] (begun g) ≡ dealt n seed
+pub dealt-by : (n seed sizes : ℕ) (o : List ℕ) (g m : ℕ) → cycle (deck o g) m ≡ after n seed 0 → (w : ℕ) → w ≡ sizes → stateWith o [] [] [] (begun g w) ≡ dealt n seed sizes
 unfolding dealt
-dealt-by n seed o g m e = rw (ap (λ (c : Cycle). c .cards .order) e, ap (λ (c : Cycle). c .cards .state) e)
+dealt-by n seed sizes o g m e w q = rw (q, ap (λ (c : Cycle). c .cards .order) e, ap (λ (c : Cycle). c .cards .state) e)

@@ -10,6 +10,8 @@ ghost use Rattle.quantizer.specs.Course.{courseOf};
 ghost use Rattle.quantizer.specs.Sums.{zeros};
 ghost use Rattle.quantizer.specs.Seeding.{seeded};
 ghost use Rattle.run_stages.specs.State.{stateWith};
+ghost use Rattle.run_stages.specs.Record.{sizesWord};
+ghost use Rattle.run_record.specs.Sized.{plain, Sized};
 ghost use Rattle.run_blank.specs.Blanks.{dealt, Blanking};
 
 // Both palettes are zeroed, and the first colour becomes the mean of the samples.
@@ -33,11 +35,12 @@ pub fn blank(
     quantizer_seed::seed(z, tiles, colours, counts, samples, palette);
 }
 
-// The first order is written; the record stands at the very beginning.
-pub fn deal(order: &mut [u32], seed: u64) -> Record
-    requires { ⌜ length (now order) ≤ 2 ^ 32 ⌝ }
-    ensures { λ x. ⌜ stateWith (now (order .exit)) [] [] [] x ≡ dealt (length (now (order .entry))) seed ⌝ }
+// The first order is written; the record stands at the very beginning, with the job's sizes.
+pub fn deal(z: Sizes, order: &mut [u32], seed: u64) -> Record
+    requires { ⌜ Sized z × (length (now order) ≤ 2 ^ 32) ⌝ }
+    ensures { λ x. ⌜ stateWith (now (order .exit)) [] [] [] x ≡ dealt (length (now (order .entry))) seed (sizesWord (plain z)) ⌝ }
 {
+    let sizes = run_record::sizes_word(z);
     let first = SampleCycle::new(order, seed);
     Record {
         generator: first.prng.state,
@@ -46,5 +49,6 @@ pub fn deal(order: &mut [u32], seed: u64) -> Record
         left: 0,
         made: 0,
         error: 0,
+        sizes,
     }
 }

@@ -9,13 +9,14 @@ use borrow.Author.Tests.{eq-eqb, ne-eqb, eqb-true, eqb-false, lt-ltb, ltb-true}
 use Rattle.lists.proofs.Tests.{and-l, and-r}
 use Rattle.answer.specs.Rules.{Passed}
 use Rattle.answer.proofs.Passing.{passed-number}
-use Rattle.job.specs.Checks.{sampledAnswer}
+use Rattle.job.specs.Checks.{componentsFit, sampledAnswer}
 use Rattle.job.specs.Gives.{Sampled}
 use Rattle.job.proofs.Ready.{sampled-ready}
+use Rattle.job.proofs.Bad.{none-bad}
 use Rattle.quantizer.specs.Course.{Course}
 use Rattle.run_stages.specs.State.{State}
-use Rattle.run_stages.specs.Record.{errorFits, leastFits, stateRules}
-use Rattle.run_stages.specs.Calls.{Memory, stateOf, memoryOf, coloursRoom, memoryRoom, jobRules}
+use Rattle.run_stages.specs.Record.{four, errorFits, lookedAt, stateRules}
+use Rattle.run_stages.specs.Calls.{Memory, recordWords, stateOf, memoryOf, coloursRoom, memoryRoom, jobRules}
 use Rattle.run_calls.proofs.Cases.{decide}
 use Rattle.run_calls.proofs.Words.{rests→words, words→rests}
 use Rattle.run_calls.proofs.Limits.{fits-four, four-bounded, entries-fit, entries-below}
@@ -34,8 +35,8 @@ module _ (K : Course) where
         order = eqb-true _ _ (and-l (eqb (length (m .order)) (K .n)) _ h);
         hints = eqb-true _ _ (and-l (eqb (length (m .hints)) (K .job .T)) _ a);
         palette = eqb-true _ _ (and-l (eqb (length (m .palette)) (3 * (K .job .S * K .job .C))) _ c);
-        least = eqb-true _ _ (and-l (eqb (length (m .least)) (3 * (K .job .S * K .job .C))) (eqb (length (m .words)) 6) d);
-        words = eqb-true _ _ (and-r (eqb (length (m .least)) (3 * (K .job .S * K .job .C))) (eqb (length (m .words)) 6) d);
+        least = eqb-true _ _ (and-l (eqb (length (m .least)) (3 * (K .job .S * K .job .C))) (eqb (length (m .words)) recordWords) d);
+        words = eqb-true _ _ (and-r (eqb (length (m .least)) (3 * (K .job .S * K .job .C))) (eqb (length (m .words)) recordWords) d);
       }
 
   pub room-of : (m : Memory) → Roomy K m → memoryRoom K m ≡ true
@@ -47,8 +48,7 @@ module _ (K : Course) where
         eq-eqb (length (m .palette))
             (3 * (K .job .S * K .job .C)) (r .palette),
         eq-eqb (length (m .least)) (3 * (K .job .S * K .job .C)) (r .least),
-        eq-eqb (length (m .words))
-            6 (r .words),
+        eq-eqb (length (m .words)) recordWords (r .words),
       )
 
 -- ---- the state's own rules, as tests and as what the laws speak of
@@ -58,17 +58,18 @@ module _ (K : Course) (S1 : 1 ≤ K .job .S) (C1 : 1 ≤ K .job .C) where
       let A = F .sound in
       let w = rests→words K S1 C1 s (F .rests) in
       let x = lastly (A .second) in
-      (w .place, (eq-eqb _ _ (w .made), (x .0, (fits-four (s .palette) (A .held .bound), (x .1, (entries-fit (K .n) (s .order) (A .dealt .below), tt))))))
+      (eq-eqb _ _ (F .sizes), (w .place, (eq-eqb _ _ (w .made), (x .0, (fits-four (s .palette) (A .held .bound), (x .1, (entries-fit (K .n) (s .order) (A .dealt .below), tt)))))))
     where
-      lastly : Second K (s .rec .stage) (s .rec .error) (s .least) → (errorFits (s .rec .stage) (s .rec .error) ≡ true) × (leastFits (s .rec .stage) (s .least) ≡ true)
-      lastly (in2 k e f) = unfold errorFits leastFits in rw (eq-eqb (s .rec .stage) 2 k) (lt-ltb (s .rec .error) 0x7f800000 e, fits-four (s .least) f)
-      lastly (out2 k e) = unfold errorFits leastFits in rw (ne-eqb (s .rec .stage) 2 k) (eq-eqb (s .rec .error) 0 e, refl)
+      lastly : Second K (s .rec .stage) (s .rec .error) (s .least) → (errorFits (s .rec .stage) (s .rec .error) ≡ true) × (componentsFit four (lookedAt (s .rec .stage) (s .least)) ≡ true)
+      lastly (in2 k e f) = unfold errorFits lookedAt in rw (eq-eqb (s .rec .stage) 2 k) (lt-ltb (s .rec .error) 0x7f800000 e, fits-four (s .least) f)
+      lastly (out2 k e) = unfold errorFits lookedAt in rw (ne-eqb (s .rec .stage) 2 k) (eq-eqb (s .rec .error) 0 e, none-bad four)
 
   pub rules→fit : (m : Memory) → Roomy K m → Passed (stateRules K (stateOf m)) → Fit K (stateOf m)
   unfolding stateOf
-  rules→fit m r (p1, (p2, (p3, (p4, (p5, (p6, u)))))) =
+  rules→fit m r (p0, (p1, (p2, (p3, (p4, (p5, (p6, u))))))) =
       let s = stateOf m in
       record {
+        sizes = eqb-true _ _ p0;
         rests = words→rests K S1 C1 s (record { place = p1; made = eqb-true _ _ p2 });
         sound = record {
           held = record { size = r .palette; bound = four-bounded (m .palette) p4 };
@@ -81,7 +82,7 @@ module _ (K : Course) (S1 : 1 ≤ K .job .S) (C1 : 1 ≤ K .job .C) where
     where
       lastly : (eqb (getD (m .words) 1 0) 2 ≡ true) ⊎ (eqb (getD (m .words) 1 0) 2 ≡ false) → Second K (getD (m .words) 1 0) (getD (m .words) 5 0) (m .least)
       lastly (inl t) =
-          unfold errorFits leastFits in
+          unfold errorFits lookedAt in
           in2 (eqb-true (getD (m .words) 1 0) 2 t) (ltb-true (getD (m .words) 5 0) 0x7f800000 (rw t at p3)) (four-bounded (m .least) (rw t at p5))
       lastly (inr t) = unfold errorFits in out2 (eqb-false (getD (m .words) 1 0) 2 t) (eqb-true (getD (m .words) 5 0) 0 (rw t at p3))
 

@@ -27,7 +27,7 @@ use Rattle.run_stages.specs.Calls.{Memory, stateOf}
 use Rattle.run_stages.specs.History.{sampleAt, sampled, Run, started, advanced, handedIn}
 use Rattle.run_calls.proofs.Cases.{both, decide}
 use Rattle.run_calls.proofs.Whilsts.{whilst-keeps, whilst-zero, whilst-step, whilst-stop}
-use Rattle.run_calls.proofs.Made.{Same, settle-same, enterGrowing-same, step-made, start-made, handIn-made}
+use Rattle.run_calls.proofs.Made.{Same, same-cycle, same-made, settle-same, start-same, handIn-same, step-made, start-made, handIn-made}
 use Rattle.run_calls.specs.Accepted.{Accepted}
 use Rattle.run_calls.proofs.Next.{started-state, advanced-state, handed-state, start-leaves, advance-leaves, handIn-leaves, accepted-made-at-end}
 
@@ -54,13 +54,7 @@ first-at f (suc t) i l = by (ℕ-discrete i t) (λ k. first-at f t i k)
 module _ (K : Course) (seed : ℕ) where
   same-follows : (s z : State) → Same s z → Follows K seed s → Follows K seed z
   same-follows s z e F =
-      record {
-        cycle = ap (λ (o : List ℕ). cycle (deck o (z .rec .generator)) (z .rec .made)) (e .order)
-            ∙ ap (λ (g : ℕ). cycle (deck (s .order) g) (z .rec .made)) (e .generator)
-            ∙ ap (λ (m : ℕ). cycle (deck (s .order) (s .rec .generator)) m) (e .made)
-            ∙ F .cycle
-            ∙ sym (ap (after (K .n) seed) (e .made));
-      }
+      record { cycle = same-cycle s z e ∙ F .cycle ∙ sym (ap (after (K .n) seed) (same-made s z e)) }
 
   -- the next sample is the cycle's
   pub sample-follows : (s : State) → Follows K seed s → sampleAt s ≡ drawAt (K .n) seed (s .rec .made)
@@ -82,26 +76,13 @@ module _ (K : Course) (seed : ℕ) where
   advance-follows a s F = whilst-keeps going (step K) (Follows K seed) (λ z G _. step-follows z G) a s F
 
   pub start-follows : (hints : List ℕ) → Follows K seed (start K seed hints)
-  unfolding start
-  start-follows hints = same-follows first (settle K first) (settle-same K first) (same-follows (fresh K seed hints) first opened begun)
+  start-follows hints = same-follows (fresh K seed hints) (start K seed hints) (start-same K seed hints) begun
     where
-      first : State
-      first = cond (ltb 1 (K .job .S)) (openSeeding K 0 0 (fresh K seed hints)) (enterGrowing K (fresh K seed hints))
-
-      opened : Same (fresh K seed hints) first
-      opened = both (Same (fresh K seed hints)) (ltb 1 (K .job .S)) (unfold openSeeding in record { made = refl; order = refl; generator = refl }) (enterGrowing-same K (fresh K seed hints))
-
       begun : Follows K seed (fresh K seed hints)
       begun = unfold fresh after in record { cycle = refl }
 
   pub handIn-follows : (reduced : List Float) (s : State) → Follows K seed s → Follows K seed (handIn K reduced s)
-  unfolding handIn refinedOnce
-  handIn-follows reduced s F =
-      both (Follows K seed) (eqb (s .rec .stage) 3) (same-follows final (settle K final) (settle-same K final) (record { cycle = F .cycle }))
-      (both (Follows K seed) (eqb (s .rec .stage) 5) (record { cycle = F .cycle }) (record { cycle = F .cycle }))
-    where
-      final : State
-      final = at (painted s (s .hints) reduced) 4 0 (10 * b K)
+  handIn-follows reduced s F = same-follows s (handIn K reduced s) (handIn-same K reduced s) F
 
   -- ---- the samples of one advance go on where the draws made end
   pub advance-samples : (a : ℕ) (s : State) → Follows K seed s → firsts (drawAt (K .n) seed) (s .rec .made) ++ sampled K a s ≡ firsts (drawAt (K .n) seed) (advance K a s .rec .made)

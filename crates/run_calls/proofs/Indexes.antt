@@ -1,6 +1,6 @@
 -- What the index of a refused call of a run names, and that it is small. Assumes nothing.
 use Prim.Native.Nat.{ℕ, _+_, _-_, _*_, _/_, _≤_}
-use mathlib.Core.Path.{_≡_, refl}
+use mathlib.Core.Path.{_≡_, refl, sym, ap, _∙_}
 use mathlib.Core.Logic.{_≢_, _⊎_, inl, inr}
 use mathlib.Core.Bool.{Bool, true, false, _&&_, true≢false}
 use mathlib.Core.List.{List, [], _∷_, _++_}
@@ -10,30 +10,31 @@ use lib.Ieee.{Float}
 use lib.ListN.{length}
 use borrow.Author.Tests.{eqb-true}
 use Rattle.lists.proofs.Tests.{and-l, and-r}
-use Rattle.answer.specs.Rules.{refusal, Rule, rule, ruleAt, answer, Passed}
+use Rattle.answer.specs.Rules.{refusal, Rule, rule, answer, Passed}
 use Rattle.answer.specs.Names.{Table, Names, never}
 use Rattle.answer.proofs.Places.{rule-then, plain-then, aside}
 use Rattle.job.specs.Job.{two}
 use Rattle.job.specs.Checks.{firstBad, componentsFit, colourRule}
 use Rattle.job.specs.Bad.{FirstBad, sampledNames, mostIndex}
+use Rattle.job.proofs.Bad.{none-bad}
 use Rattle.job.proofs.Indexes.{Placed, unplaced, named, named-from, named-few, sampled-placed}
 use Rattle.quantizer.specs.Course.{Course}
 use Rattle.run_stages.specs.State.{draws, stops}
-use Rattle.run_stages.specs.Record.{four, orderFits, leastFits, recordRules}
+use Rattle.run_stages.specs.Record.{four, orderFits, lookedAt, recordRules}
 use Rattle.run_stages.specs.Calls.{Memory, stateOf, coloursRoom, memoryRoom, jobRules, runRules, startAnswer, advanceAnswer, handInAnswer, resultAnswer}
 use Rattle.run_calls.specs.Accepted.{Roomy}
 use Rattle.run_calls.specs.Names.{FirstWorking, startNames, runNames, handInNames}
 use Rattle.run_calls.proofs.Cases.{decide}
 use Rattle.run_calls.proofs.Accepted.{roomy-of, job-passed}
 
--- ---- the second palette is looked at in stage 2 alone
-looked-at : (stage : ℕ) (xs : List Float) → leastFits stage xs ≡ false → (stage ≡ 2) × (componentsFit four xs ≡ false)
-unfolding leastFits
+-- ---- where what is looked at of the second palette is bad, that is all of it
+looked-at : (stage : ℕ) (xs : List Float) → componentsFit four (lookedAt stage xs) ≡ false → lookedAt stage xs ≡ xs
+unfolding lookedAt
 looked-at stage xs h = by (decide (eqb stage 2))
   where
-    by : (eqb stage 2 ≡ true) ⊎ (eqb stage 2 ≡ false) → (stage ≡ 2) × (componentsFit four xs ≡ false)
-    by (inl t) = (eqb-true stage 2 t, rw t at h)
-    by (inr t) = absurd (true≢false (rw t at h))
+    by : (eqb stage 2 ≡ true) ⊎ (eqb stage 2 ≡ false) → lookedAt stage xs ≡ xs
+    by (inl t) = rw t
+    by (inr t) = absurd (true≢false (sym (none-bad four) ∙ (rw t at h)))
 
 module _ (K : Course) where
   abbrev cells : ℕ
@@ -52,8 +53,11 @@ module _ (K : Course) where
     abbrev T : Table
     T = sampledNames (K .job) (FirstWorking K (stateOf m)) handed
 
+    abbrev looked : List Float
+    looked = lookedAt (stateOf m .rec .stage) (stateOf m .least)
+
     abbrev leastRule : Rule
-    leastRule = ruleAt 16 (cells + firstBad four (stateOf m .least) / 3) (leastFits (stateOf m .rec .stage) (stateOf m .least))
+    leastRule = colourRule 16 cells four looked
 
     abbrev ordered : Bool → List Rule
     ordered moment = rule 9 (orderFits (K .n) (stateOf m .order)) ∷ rule 11 moment ∷ []
@@ -66,7 +70,7 @@ module _ (K : Course) where
         sampled-placed (K .job) (K .n) (K .samples) room (FirstWorking K (stateOf m)) handed (recordRules K (stateOf m .rec) ++ (working ++ (ordered moment ++ rest)))
         (λ p. plain-then (Placed T) (aside T) (unplaced T) (recordRules K (stateOf m .rec)) (working ++ (ordered moment ++ rest)) refl
         (λ q. rule-then (Placed T) (colourRule 16 0 four (m .palette)) (leastRule ∷ (ordered moment ++ rest)) (λ h. (at-palette h, few-of room p 0 (omega arith) four (m .palette) (lent p .palette) h))
-        (λ g. rule-then (Placed T) leastRule (ordered moment ++ rest) (λ h. (at-least g h, few-of room p cells (omega arith) four (m .least) (lent p .least) (looked-at (stateOf m .rec .stage) (m .least) h .1)))
+        (λ g. rule-then (Placed T) leastRule (ordered moment ++ rest) (λ h. (at-least g h, few-of room p cells (omega arith) four looked (ap length (looked-at (stateOf m .rec .stage) (m .least) h) ∙ lent p .least) h))
         (λ f. plain-then (Placed T) (aside T) (unplaced T) (ordered moment) rest refl (λ o. later p)))))
       where
         working : List Rule
@@ -78,10 +82,8 @@ module _ (K : Course) where
         at-palette : componentsFit four (m .palette) ≡ false → Names T (refusal 16 (0 + firstBad four (m .palette) / 3))
         at-palette h = (λ e. absurd (omega arith), λ _. (λ _. inl (named four (m .palette) h), λ n. absurd (n refl)))
 
-        at-least : componentsFit four (m .palette) ≡ true → leastFits (stateOf m .rec .stage) (m .least) ≡ false → Names T (refusal 16 (cells + firstBad four (m .least) / 3))
-        at-least g h =
-            let l = looked-at (stateOf m .rec .stage) (m .least) h in
-            (λ e. absurd (omega arith), λ _. (λ _. inr (g, l .0, omega arith, named-from four (m .least) (l .1) cells), λ n. absurd (n refl)))
+        at-least : componentsFit four (m .palette) ≡ true → componentsFit four looked ≡ false → Names T (refusal 16 (cells + firstBad four looked / 3))
+        at-least g h = (λ e. absurd (omega arith), λ _. (λ _. inr (g, omega arith, named-from four looked h cells), λ n. absurd (n refl)))
 
   -- ---- the three calls
   pub advance-placed : (m : Memory) → Placed (runNames K m) (advanceAnswer K m)

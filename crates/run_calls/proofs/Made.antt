@@ -1,4 +1,5 @@
--- The draws that a call reports are the growth of word 4, and only a draw touches the order and the generator. Nothing of a leaf is opened. Assumes nothing.
+-- The draws that a call reports are the growth of word 4, only a draw touches the order and the generator, and nothing touches the sizes.
+-- Nothing of a leaf is opened. Assumes nothing.
 use mathlib.Core.Path.{_≡_, refl, sym, ap, _∙_}
 use mathlib.Core.Logic.{inl, inr, _≢_}
 use mathlib.Core.Bool.{true, false, cond, true≢false}
@@ -10,78 +11,100 @@ use lib.Dec.{ltb, eqb}
 use lib.Ieee.{Float, binary32, lt, ofBits}
 use borrow.Author.Tests.{eqb-true}
 use Rattle.run_calls.proofs.Cases.{by-test, both, decide, all-stages}
+use Rattle.cycle.specs.Cycle.{Cycle}
 use Rattle.quantizer.specs.Course.{Course, b}
 use Rattle.run_stages.specs.State.{State, at, painted, draws, beside}
-use Rattle.run_stages.specs.Stages.{openSeeding, openGrowing, openReplacing, noticed, errorOf, keep, enterGrowing, enterReplacing, enterReducing, closeSeeding, closeGrowing, judged, closeReplacing}
+use Rattle.run_stages.specs.Record.{sizesWord}
+use Rattle.run_stages.specs.Stages.{cycleOf, openSeeding, openGrowing, openReplacing, noticed, errorOf, keep, enterGrowing, enterReplacing, enterReducing, closeSeeding, closeGrowing, judged, closeReplacing}
 use Rattle.run_stages.specs.Stages.{finishRound, due, settle, draw, drawWith, going, step, advance, drawsOf, fresh, start, refinedOnce, handIn}
 use Rattle.run_calls.proofs.Whilsts.{whilst-keeps, times-grows, times-all}
 use Rattle.run_calls.specs.Place.{seeding, growing, replacing, reducing, finishing, over, Placed, Rests}
 use Rattle.run_calls.proofs.Place.{some-left, advance-rests, start-rests}
 
--- what only a draw changes
-pub record Same (s z : State) : Type 0 where
-  pub made : z .rec .made ≡ s .rec .made
-  pub order : z .order ≡ s .order
-  pub generator : z .rec .generator ≡ s .rec .generator
+-- what only a draw changes, and what nothing changes
+abbrev pub lasting : State → Cycle × ℕ
+lasting s = (cycleOf (s .order) (s .rec), s .rec .sizes)
+
+abbrev pub Same : State → State → Type 0
+Same s z = lasting z ≡ lasting s
+
+pub same-cycle : (s z : State) → Same s z → cycleOf (z .order) (z .rec) ≡ cycleOf (s .order) (s .rec)
+same-cycle s z e = ap (λ (x : Cycle × ℕ). x .0) e
+
+pub same-made : (s z : State) → Same s z → z .rec .made ≡ s .rec .made
+same-made s z e = ap (λ (x : Cycle × ℕ). x .0 .made) e
+
+pub same-sizes : (s z : State) → Same s z → z .rec .sizes ≡ s .rec .sizes
+same-sizes s z e = ap (λ (x : Cycle × ℕ). x .1) e
 
 module _ (K : Course) where
   enterReplacing-same : (s : State) → Same s (enterReplacing K s)
   unfolding enterReplacing openReplacing keep noticed
-  enterReplacing-same s = record { made = refl; order = refl; generator = refl }
+  enterReplacing-same s = refl
 
   pub enterGrowing-same : (s : State) → Same s (enterGrowing K s)
   unfolding enterGrowing openGrowing
-  enterGrowing-same s = both (Same s) (ltb 1 (K .job .C)) (record { made = refl; order = refl; generator = refl }) (enterReplacing-same s)
+  enterGrowing-same s = both (Same s) (ltb 1 (K .job .C)) refl (enterReplacing-same s)
 
   closeSeeding-same : (s : State) → Same s (closeSeeding K s)
   unfolding closeSeeding openSeeding noticed
-  closeSeeding-same s = both (Same s) (ltb (s .rec .rounds + 1) (K .job .S - 1)) (record { made = refl; order = refl; generator = refl })
-      (let x = enterGrowing-same _ in record { made = x .made; order = x .order; generator = x .generator })
+  closeSeeding-same s = both (Same s) (ltb (s .rec .rounds + 1) (K .job .S - 1)) refl (enterGrowing-same _)
 
   closeGrowing-same : (s : State) → Same s (closeGrowing K s)
   unfolding closeGrowing openGrowing
-  closeGrowing-same s = both (Same s) (ltb (s .rec .rounds + 1) (K .job .C - 1)) (record { made = refl; order = refl; generator = refl }) (enterReplacing-same s)
+  closeGrowing-same s = both (Same s) (ltb (s .rec .rounds + 1) (K .job .C - 1)) refl (enterReplacing-same s)
 
   judged-same : (s : State) → Same s (judged K s)
   unfolding judged keep noticed
-  judged-same s = both (Same s) (lt (errorOf K s) (ofBits binary32 (s .rec .error))) (record { made = refl; order = refl; generator = refl }) (record { made = refl; order = refl; generator = refl })
+  judged-same s = both (Same s) (lt (errorOf K s) (ofBits binary32 (s .rec .error))) refl refl
 
   closeReplacing-same : (s : State) → Same s (closeReplacing K s)
   unfolding closeReplacing openReplacing enterReducing
-  closeReplacing-same s = let x = judged-same s in
-      both (Same s) (ltb (s .rec .rounds + 1) 10) (record { made = x .made; order = x .order; generator = x .generator }) (record { made = x .made; order = x .order; generator = x .generator })
+  closeReplacing-same s = both (Same s) (ltb (s .rec .rounds + 1) 10) (judged-same s) (judged-same s)
 
   finish-same : (s : State) → Same s (finishRound K s)
   unfolding finishRound
-  finish-same s = all-stages (Same s) (s .rec .stage) (closeSeeding-same s) (closeGrowing-same s) (closeReplacing-same s)
-      (record { made = refl; order = refl; generator = refl }) (record { made = refl; order = refl; generator = refl })
+  finish-same s = all-stages (Same s) (s .rec .stage) (closeSeeding-same s) (closeGrowing-same s) (closeReplacing-same s) refl refl
 
   pub settle-same : (s : State) → Same s (settle K s)
   unfolding settle
-  settle-same s = whilst-keeps due (finishRound K) (Same s)
-      (λ z h _. let y = finish-same z in record { made = y .made ∙ h .made; order = y .order ∙ h .order; generator = y .generator ∙ h .generator })
-      _ s (record { made = refl; order = refl; generator = refl })
+  settle-same s = whilst-keeps due (finishRound K) (Same s) (λ z h _. finish-same z ∙ h) _ s refl
 
   -- ---- the draws that are counted
   pub step-made : (s : State) → step K s .rec .made ≡ s .rec .made + 1
   unfolding step draw drawWith
-  step-made s = settle-same (draw K s) .made
+  step-made s = same-made (draw K s) (settle K (draw K s)) (settle-same (draw K s))
 
   pub advance-made : (a : ℕ) (s : State) → advance K a s .rec .made ≡ s .rec .made + drawsOf K a s
   advance-made = times-grows going (step K) (λ (s : State). s .rec .made) step-made
 
   -- the start and a hand-in make no draw
+  pub start-same : (seed : ℕ) (hints : List ℕ) → Same (fresh K seed hints) (start K seed hints)
+  unfolding start openSeeding
+  start-same seed hints = settle-same _ ∙ both (Same (fresh K seed hints)) (ltb 1 (K .job .S)) refl (enterGrowing-same (fresh K seed hints))
+
+  pub handIn-same : (reduced : List Float) (s : State) → Same s (handIn K reduced s)
+  unfolding handIn refinedOnce
+  handIn-same reduced s = both (Same s) (eqb (s .rec .stage) 3) (settle-same (at (painted s (s .hints) reduced) 4 0 (10 * b K))) (both (Same s) (eqb (s .rec .stage) 5) refl refl)
+
   pub start-made : (seed : ℕ) (hints : List ℕ) → start K seed hints .rec .made ≡ 0
-  unfolding start
-  start-made seed hints = settle-same first .made ∙ both (λ (z : State). z .rec .made ≡ 0) (ltb 1 (K .job .S)) (unfold openSeeding fresh in refl) (enterGrowing-same (fresh K seed hints) .made ∙ (unfold fresh in refl))
-    where
-      first : State
-      first = cond (ltb 1 (K .job .S)) (openSeeding K 0 0 (fresh K seed hints)) (enterGrowing K (fresh K seed hints))
+  unfolding fresh
+  start-made seed hints = same-made (fresh K seed hints) (start K seed hints) (start-same seed hints)
 
   pub handIn-made : (reduced : List Float) (s : State) → handIn K reduced s .rec .made ≡ s .rec .made
-  unfolding handIn refinedOnce
-  handIn-made reduced s =
-      both (λ (z : State). z .rec .made ≡ s .rec .made) (eqb (s .rec .stage) 3) (settle-same (at (painted s (s .hints) reduced) 4 0 (10 * b K)) .made) (both (λ (z : State). z .rec .made ≡ s .rec .made) (eqb (s .rec .stage) 5) refl refl)
+  handIn-made reduced s = same-made s (handIn K reduced s) (handIn-same reduced s)
+
+  -- ---- the sizes, which no call changes
+  pub step-sizes : (s : State) → step K s .rec .sizes ≡ s .rec .sizes
+  unfolding step draw drawWith
+  step-sizes s = same-sizes (draw K s) (settle K (draw K s)) (settle-same (draw K s))
+
+  pub start-sizes : (seed : ℕ) (hints : List ℕ) → start K seed hints .rec .sizes ≡ sizesWord K
+  unfolding fresh
+  start-sizes seed hints = same-sizes (fresh K seed hints) (start K seed hints) (start-same seed hints)
+
+  pub handIn-sizes : (reduced : List Float) (s : State) → handIn K reduced s .rec .sizes ≡ s .rec .sizes
+  handIn-sizes reduced s = same-sizes s (handIn K reduced s) (handIn-same reduced s)
 
   -- a call that leaves the run in a stage that draws has spent its allotment
   pub all-spent : (a : ℕ) (s : State) → draws (advance K a s .rec .stage) ≡ true → drawsOf K a s ≡ a

@@ -19,7 +19,7 @@ pub record Dealt (n : ℕ) (order : List ℕ) : Type 0 where
   pub size : length order ≡ n
   pub below : (i : ℕ) → i < length order → getD order i 0 < n
 
--- the last word and the second palette: in stage 2 an error and a palette, elsewhere 0 and any
+-- word 5 and the second palette: in stage 2 an error and a palette, elsewhere 0 and any
 pub data Second (K : Course) (k e : ℕ) (p : List Float) : Type 0 where
   in2 : k ≡ 2 → e < 0x7f800000 → Bounded p 4 → Second K k e p
   out2 : k ≢ 2 → e ≡ 0 → Second K k e p

@@ -4,26 +4,22 @@ use mathlib.Core.Path.{_≡_, refl, sym, ap, subst, _∙_}
 use mathlib.Core.Bool.{Bool, true, false}
 use mathlib.Core.List.{List, [], _++_}
 use lib.Dec.{eqb}
+use lib.Ieee.{Float}
 use borrow.Author.Tests.{eqb-true, eqb-false}
 use Rattle.answer.specs.declared.Refusal.{Refusal}
 use Rattle.answer.specs.Rules.{Rule, answer, numbered}
 use Rattle.answer.proofs.Passing.{stops, goes, all-pass}
-use Rattle.job.specs.Job.{Job}
+use Rattle.job.specs.declared.Sizes.{Sizes}
+use Rattle.job.specs.Job.{Job, jobOf}
 use Rattle.job.specs.Checks.{sizeRules, sampledAnswer}
 use Rattle.job.proofs.Ready.{sizes-of, sampled-ready}
-use Rattle.quantizer.specs.Course.{course}
+use Rattle.quantizer.specs.Course.{course, courseOf}
 use Rattle.run_stages.specs.declared.Record.{Record}
 use Rattle.run_stages.specs.State.{stateWith}
 use Rattle.run_stages.specs.Record.{stageOf, placeFits, madeBy, stateRules}
 use Rattle.run_stages.specs.Calls.{Memory, recordOf, stateOf, jobRules}
-use Rattle.run_record.specs.Sized.{sized, Sized}
+use Rattle.run_record.specs.Sized.{plain, Sized}
 use Rattle.run_check.specs.Room.{SameInRange, runAnswer}
-
--- the rules read only the sizes of a course, and the lent memory
-held-rules : (J : Job) (n : ℕ) (samples : List ℕ) (m : Memory) (r : Record) → r ≡ recordOf (m .words) → (b : Refusal)
-    → b ≡ answer (stateRules (sized (J .S) (J .C) n) (stateWith (m .order) [] (m .palette) (m .least) r)) → b ≡ answer (stateRules (course J n samples) (stateOf m))
-unfolding stateOf stageOf placeFits madeBy
-held-rules J n samples m r q b h = rw q at h
 
 module _ (J : Job) (n : ℕ) (samples : List ℕ) where
   abbrev sizesOf : List Rule
@@ -55,10 +51,6 @@ module _ (J : Job) (n : ℕ) (samples : List ℕ) where
     pub job-room : a .number ≡ 0 → r ≡ true
     job-room z = sampled-ready J n samples r (subst (λ (x : Refusal). x .number ≡ 0) e z) .roomy
 
-    pub job-sized : a .number ≡ 0 → Sized (J .S) (J .C) n
-    job-sized z = let R = sampled-ready J n samples r (subst (λ (x : Refusal). x .number ≡ 0) e z) in
-        record { subs = R .ready .sizes .subs; few = R .ready .sizes .few; some = R .ready .sizes .some; cap = R .ready .sizes .cap; short = R .few }
-
     pub job-whole : (p : Bool) → SameInRange (J .S) (J .C) r p → a ≡ answer (ruled p)
     unfolding sampledAnswer
     job-whole p h = e ∙ room-free r p [] h
@@ -68,11 +60,6 @@ module _ (J : Job) (n : ℕ) (samples : List ℕ) where
     pub held-stops : (a .number ≡ 0 → ⊥) → a ≡ runAnswer (course J n samples) m r
     unfolding runAnswer
     held-stops h = job-stops r a e h (stateRules (course J n samples) (stateOf m))
-
-    pub held-goes : a .number ≡ 0 → (w : Record) → w ≡ recordOf (m .words) → (b : Refusal) → b ≡ answer (stateRules (sized (J .S) (J .C) n) (stateWith (m .order) [] (m .palette) (m .least) w))
-        → b ≡ runAnswer (course J n samples) m r
-    unfolding runAnswer
-    held-goes z w q b h = job-goes r a e z b (stateRules (course J n samples) (stateOf m)) (held-rules J n samples m w q b h)
 
   -- ---- then the call's own rules
   module _ (m : Memory) (r : Bool) (a : Refusal) (e : a ≡ runAnswer (course J n samples) m r) where
@@ -88,3 +75,16 @@ module _ (J : Job) (n : ℕ) (samples : List ℕ) where
       pub run-goes : a .number ≡ 0 → (b : Refusal) → b ≡ answer own → b ≡ answer (ruled p ++ (stateRules (course J n samples) (stateOf m) ++ own))
       unfolding runAnswer numbered
       run-goes z b f = goes (ruled r ++ stateRules (course J n samples) (stateOf m)) own a b refl e z f ∙ room-free r p (stateRules (course J n samples) (stateOf m) ++ own) h
+
+-- ---- what a run holds is held to its sizes alone
+module _ (z : Sizes) (tiles : List ℕ) (colours : List Float) (counts samples : List ℕ) (r : Bool) (a : Refusal)
+    (e : a ≡ sampledAnswer (jobOf z tiles colours counts) (z .n) samples r) (done : a .number ≡ 0) where
+  pub job-sized : Sized z
+  job-sized =
+      let R = sampled-ready (jobOf z tiles colours counts) (z .n) samples r (subst (λ (x : Refusal). x .number ≡ 0) e done) in
+      record { range = R .ready .sizes; short = R .few }
+
+  pub held-goes : (m : Memory) (w : Record) → w ≡ recordOf (m .words) → (b : Refusal) → b ≡ answer (stateRules (plain z) (stateWith (m .order) [] (m .palette) (m .least) w))
+      → b ≡ runAnswer (courseOf z tiles colours counts samples) m r
+  unfolding runAnswer stateOf stageOf placeFits madeBy
+  held-goes m w q b h = job-goes (jobOf z tiles colours counts) (z .n) samples r a e done b _ (rw q at h)

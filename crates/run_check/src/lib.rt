@@ -9,8 +9,9 @@ ghost use Prim.Native.Nat.{_*_};
 ghost use lib.Dec.{eqb};
 ghost use lib.ListN.{length};
 ghost use Rattle.quantizer.specs.Course.{courseOf};
-ghost use Rattle.run_stages.specs.Calls.{memory, memoryRoom, coloursRoom, startAnswer, advanceAnswer, handInAnswer, resultAnswer};
-ghost use Rattle.run_check.specs.Room.{plain, SameInRange, Lends, runAnswer};
+ghost use Rattle.run_stages.specs.Calls.{memory, recordWords, memoryRoom, coloursRoom, startAnswer, advanceAnswer, handInAnswer, resultAnswer};
+ghost use Rattle.run_check.specs.Room.{SameInRange, Lends, runAnswer};
+ghost use Rattle.run_record.specs.Sized.{plain};
 
 const MOST_SUBPALETTES: usize = 16;
 
@@ -54,7 +55,7 @@ fn memory_room(
     if !colours_room(z.s, z.c, least.len()) {
         return false;
     }
-    words.len() == 6
+    words.len() == run_stages::RECORD_WORDS
 }
 
 // The same, with one slice of s·c colours more.
@@ -91,7 +92,7 @@ fn check_run(
     words: &[u64],
     room: bool,
 ) -> Refusal
-    requires { ⌜ (room ≡ true → length (now words) ≡ 6) ⌝ }
+    requires { ⌜ (room ≡ true → length (now words) ≡ recordWords) ⌝ }
     ensures { λ r. ⌜ r ≡ runAnswer (courseOf z (now (tiles .entry)) (now (colours .entry)) (now (counts .entry)) (now (samples .entry)))
         (memory (now (order .entry)) (now (hints .entry)) (now (palette .entry)) (now (least .entry)) (now (words .entry))) room ⌝ }
 {
@@ -100,7 +101,7 @@ fn check_run(
         return a;
     }
     let r = run_record::record_of(words);
-    run_state::check_state(z.s, z.c, z.n, order, palette, least, r)
+    run_state::check_state(z, order, palette, least, r)
 }
 
 // ---- the calls

@@ -9,8 +9,8 @@ ghost use Prim.Native.Nat.{_≤_};
 ghost use lib.Dec.{eqb};
 ghost use Rattle.prng.specs.Shuffle.{deck};
 ghost use Rattle.cycle.specs.Cycle.{cycle};
+ghost use Rattle.run_stages.specs.State.{counted};
 ghost use Rattle.run_stages.specs.Stages.{cycleOf, subsOf, haveOf, alphaOf};
-ghost use Rattle.run_cycle.specs.Counts.{counted};
 
 // How far a colour moves: 0.3, in stage 4 0.5.
 const NUDGE: f32 = 0.3;
@@ -69,16 +69,12 @@ pub fn cycle_of(r: Record) -> SampleCycle
 }
 
 // The record with one draw less left, and with the cycle after it.
-pub fn count_draw(r: Record, after: SampleCycle) -> Record
+pub fn count_draw(mut r: Record, after: SampleCycle) -> Record
     requires { ⌜ 1 ≤ r .left ⌝ }
     ensures { λ x. ⌜ x ≡ counted r (after .prng .state) (after .made) ⌝ }
 {
-    Record {
-        generator: after.prng.state,
-        stage: r.stage,
-        rounds: r.rounds,
-        left: r.left - 1,
-        made: after.made,
-        error: r.error,
-    }
+    r.generator = after.prng.state;
+    r.left -= 1;
+    r.made = after.made;
+    r
 }

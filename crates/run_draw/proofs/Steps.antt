@@ -9,9 +9,8 @@ use Rattle.quantizer.specs.Course.{Course}
 use Rattle.quantizer_nudge.specs.Nudges.{movedBy, hintsBy}
 use Rattle.quantizer_draw.specs.Draws.{Going}
 use Rattle.run_stages.specs.declared.Record.{Record}
-use Rattle.run_stages.specs.State.{stateWith}
+use Rattle.run_stages.specs.State.{stateWith, counted}
 use Rattle.run_stages.specs.Stages.{cycleOf, subsOf, haveOf, alphaOf, draw, drawWith}
-use Rattle.run_cycle.specs.Counts.{counted}
 
 -- g and m are the record's generator and draws made
 module _ (K : Course) (o h : List ℕ) (p : List Float) (r : Record) (subs have : ℕ)

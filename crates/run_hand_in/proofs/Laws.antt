@@ -20,7 +20,7 @@ use Rattle.quantizer.specs.Course.{Course, b}
 use Rattle.run_stages.specs.declared.Record.{Record}
 use Rattle.run_stages.specs.State.{State, stateWith, placed, beside}
 use Rattle.run_stages.specs.Stages.{finishRound, settle, refinedOnce, handIn}
-use Rattle.run_stages.specs.Calls.{Memory, memory, recordOf, wordsOf, stateOf, memoryOf, coloursRoom, handInAnswer, handInCall}
+use Rattle.run_stages.specs.Calls.{Memory, memory, recordWords, recordOf, wordsOf, stateOf, memoryOf, coloursRoom, handInAnswer, handInCall}
 use Rattle.run_calls.proofs.Cases.{decide}
 use Rattle.run_calls.specs.Place.{Placed}
 use Rattle.run_calls.proofs.Place.{final-placed, made-at-3}
@@ -79,8 +79,8 @@ module _ (K : Course) (m : Memory) (reduced : List Float) (a : Refusal) (e : a �
     pub same-room : length (m .palette) ≡ length reduced
     same-room = handIn-opened K m reduced answered .0 .roomy .palette ∙ sym sized
 
-    pub six : length (m .words) ≡ 6
-    six = handIn-opened K m reduced answered .0 .roomy .words
+    pub recorded : length (m .words) ≡ recordWords
+    recorded = handIn-opened K m reduced answered .0 .roomy .words
 
     module _ (p : List Float) (ep : p ≡ reduced) (r : Record) (er : r ≡ recordOf (m .words)) where
       pub handed : Handed K (stateWith (m .order) (m .hints) p (m .least) r)

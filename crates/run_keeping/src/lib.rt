@@ -10,7 +10,7 @@ ghost use Rattle.job.specs.Job.{jobOf};
 ghost use Rattle.quantizer.specs.Course.{courseOf};
 ghost use Rattle.run_stages.specs.State.{stateWith};
 ghost use Rattle.run_stages.specs.Stages.{enterReducing};
-ghost use Rattle.run_record.specs.Sized.{sized};
+ghost use Rattle.run_record.specs.Sized.{plain};
 ghost use Rattle.run_keeping.specs.Keeping.{keeps, seen};
 ghost use Rattle.run_keeping.specs.Closing.{Judging, Ending};
 
@@ -51,16 +51,9 @@ pub fn look(
 }
 
 // The stop for reduction: the palette kept is the palette, and the second one is zeroed.
-pub fn enter_reducing(
-    s: usize,
-    c: usize,
-    n: usize,
-    palette: &mut [f32],
-    least: &mut [f32],
-    r: Record,
-) -> Record
-    requires { ⌜ Ending s c (now palette) (now least) ⌝ }
-    ensures { λ x. ⌜ stateWith [] [] (now (palette .exit)) (now (least .exit)) x ≡ enterReducing (sized s c n) (stateWith [] [] (now (palette .entry)) (now (least .entry)) r) ⌝ }
+pub fn enter_reducing(z: Sizes, palette: &mut [f32], least: &mut [f32], r: Record) -> Record
+    requires { ⌜ Ending (z .s) (z .c) (now palette) (now least) ⌝ }
+    ensures { λ x. ⌜ stateWith [] [] (now (palette .exit)) (now (least .exit)) x ≡ enterReducing (plain z) (stateWith [] [] (now (palette .entry)) (now (least .entry)) r) ⌝ }
 {
     run_memory::copy(least, palette);
     run_memory::zero(least);

@@ -9,11 +9,12 @@ use mir.Syntax.{w64}
 use mir.Facts.{fits-le, fits-lit}
 use borrow.Author.Tests.{leb-true, ltb-true}
 use Rattle.lists.proofs.Tests.{and-l, and-r}
+use Rattle.job.specs.declared.Sizes.{Sizes}
 use Rattle.quantizer.specs.Course.{Course, b}
 use Rattle.run_stages.specs.declared.Stage.{Stage}
 use Rattle.run_stages.specs.State.{draws, beside}
 use Rattle.run_stages.specs.Record.{stageOf, placeFits, madeBy}
-use Rattle.run_record.specs.Sized.{sized, Sized}
+use Rattle.run_record.specs.Sized.{plain, Sized}
 use Rattle.run_record.proofs.Lines.{tenths-small}
 
 -- ---- a place that fits
@@ -44,49 +45,49 @@ pub record Small (line : Stage) : Type 0 where
   pub each : line .each ≤ 16390
   pub before : line .before ≤ 81950
 
-module _ (s c n : ℕ) (Z : Sized s c n) where
-  tenths : (x : ℕ) → x ≤ 50 → x * (n / 10) ≤ 81950
-  tenths = tenths-small n (n / 10) refl (Z .short)
+module _ (z : Sizes) (Z : Sized z) where
+  tenths : (x : ℕ) → x ≤ 50 → x * (z .n / 10) ≤ 81950
+  tenths = tenths-small (z .n) (z .n / 10) refl (Z .short)
 
-  one : n / 10 ≤ 1639
-  one = let few : 50 * (n / 10) ≤ 81950 = tenths 50 (omega arith) in omega arith
+  one : z .n / 10 ≤ 1639
+  one = let few : 50 * (z .n / 10) ≤ 81950 = tenths 50 (omega arith) in omega arith
 
-  pub line-small : (k : ℕ) → Small (stageOf (sized s c n) k)
+  pub line-small : (k : ℕ) → Small (stageOf (plain z) k)
   unfolding stageOf beside
   line-small k = by (eqb k 0) (eqb k 1) (eqb k 2) (eqb k 3) (eqb k 4)
     where
       by : (t0 t1 t2 t3 t4 : Bool)
-          → Small (cond t0 (record { rounds = s - 1; each = n / 10; before = 0 })
-          (cond t1 (record { rounds = c - 1; each = n / 10; before = (s - 1) * (n / 10) })
-          (cond t2 (record { rounds = 10; each = n / 10; before = (s - 1 + (c - 1)) * (n / 10) })
-          (cond t3 (record { rounds = 0; each = 0; before = (s + c + 8) * (n / 10) })
-          (cond t4 (record { rounds = 1; each = 10 * (n / 10); before = (s + c + 8) * (n / 10) })
-          (record { rounds = 0; each = 0; before = (s + c + 18) * (n / 10) }))))))
-      by true t1 t2 t3 t4 = record { rounds = omega (arith, Z .few); each = omega (arith, one); before = omega arith }
-      by false true t2 t3 t4 = record { rounds = omega (arith, Z .cap); each = omega (arith, one); before = tenths (s - 1) (omega (arith, Z .few)) }
-      by false false true t3 t4 = record { rounds = omega arith; each = omega (arith, one); before = tenths (s - 1 + (c - 1)) (omega (arith, Z .few, Z .cap)) }
-      by false false false true t4 = record { rounds = omega arith; each = omega arith; before = tenths (s + c + 8) (omega (arith, Z .few, Z .cap)) }
-      by false false false false true = record { rounds = omega arith; each = omega (arith, one); before = tenths (s + c + 8) (omega (arith, Z .few, Z .cap)) }
-      by false false false false false = record { rounds = omega arith; each = omega arith; before = tenths (s + c + 18) (omega (arith, Z .few, Z .cap)) }
+          → Small (cond t0 (record { rounds = z .s - 1; each = z .n / 10; before = 0 })
+          (cond t1 (record { rounds = z .c - 1; each = z .n / 10; before = (z .s - 1) * (z .n / 10) })
+          (cond t2 (record { rounds = 10; each = z .n / 10; before = (z .s - 1 + (z .c - 1)) * (z .n / 10) })
+          (cond t3 (record { rounds = 0; each = 0; before = (z .s + z .c + 8) * (z .n / 10) })
+          (cond t4 (record { rounds = 1; each = 10 * (z .n / 10); before = (z .s + z .c + 8) * (z .n / 10) })
+          (record { rounds = 0; each = 0; before = (z .s + z .c + 18) * (z .n / 10) }))))))
+      by true t1 t2 t3 t4 = record { rounds = omega (arith, Z .range .few); each = omega (arith, one); before = omega arith }
+      by false true t2 t3 t4 = record { rounds = omega (arith, Z .range .cap); each = omega (arith, one); before = tenths (z .s - 1) (omega (arith, Z .range .few)) }
+      by false false true t3 t4 = record { rounds = omega arith; each = omega (arith, one); before = tenths (z .s - 1 + (z .c - 1)) (omega (arith, Z .range .few, Z .range .cap)) }
+      by false false false true t4 = record { rounds = omega arith; each = omega arith; before = tenths (z .s + z .c + 8) (omega (arith, Z .range .few, Z .range .cap)) }
+      by false false false false true = record { rounds = omega arith; each = omega (arith, one); before = tenths (z .s + z .c + 8) (omega (arith, Z .range .few, Z .range .cap)) }
+      by false false false false false = record { rounds = omega arith; each = omega arith; before = tenths (z .s + z .c + 18) (omega (arith, Z .range .few, Z .range .cap)) }
 
   -- what the code holds at a place of a stage that draws
-  module _ (k r l : ℕ) (fits : placeFits (sized s c n) k r l ≡ true) (d : Bool) (e : d ≡ draws k) (y : d ≡ true) (line : Stage) (h : line ≡ stageOf (sized s c n) k) where
+  module _ (k r l : ℕ) (fits : placeFits (plain z) k r l ≡ true) (d : Bool) (e : d ≡ draws k) (y : d ≡ true) (line : Stage) (h : line ≡ stageOf (plain z) k) where
     pub few-rounds : r ≤ 16
-    few-rounds = omega (arith, rounds-below (sized s c n) k r l fits d e y, line-small k .rounds)
+    few-rounds = omega (arith, rounds-below (plain z) k r l fits d e y, line-small k .rounds)
 
     pub early : line .before ≤ 81950
     early = rw h (line-small k .before)
 
     pub left-in : l ≤ line .each
-    left-in = rw h (left-within (sized s c n) k r l fits d e y)
+    left-in = rw h (left-within (plain z) k r l fits d e y)
 
     pub rest-small : line .each - l ≤ 16390
     rest-small = let each : line .each ≤ 16390 = rw h (line-small k .each) in omega arith
 
   -- ---- no sum wraps
-  module _ (t : ℕ) (e : t ≡ n / 10) (r : ℕ) (few : r ≤ 16) where
+  module _ (t : ℕ) (e : t ≡ z .n / 10) (r : ℕ) (few : r ≤ 16) where
     turns : r * t ≤ 81950
-    turns = tenths-small n t e (Z .short) r (omega arith)
+    turns = tenths-small (z .n) t e (Z .short) r (omega arith)
 
     pub turns-fit : Fits w64 (r * t)
     turns-fit = fits-le turns (fits-lit {n = 81950} tt)

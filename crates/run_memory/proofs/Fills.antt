@@ -1,4 +1,4 @@
--- A list written from the front: what stands before i is what is wanted; and six words written one by one. Assumes nothing.
+-- A list written from the front: what stands before i is what is wanted; and a record's words written one by one. Assumes nothing.
 use Prim.Native.Nat.{ℕ, zero, suc, _+_, _≤_, _<_}
 use mathlib.Core.Path.{_≡_, refl, sym, ap, _∙_}
 use mathlib.Core.List.{List, [], _∷_, _++_}
@@ -29,12 +29,13 @@ module _ {A : Type 0} (d : A) where
   pub filled : (xs : List A) (v : A) (i n : ℕ) → length xs ≡ n → i ≤ n → n ≤ i → take i xs ≡ replicate i v → xs ≡ replicate n v
   filled xs v i n e l k h = sym (take-all i xs (omega arith)) ∙ h ∙ ap (λ (m : ℕ). replicate m v) (same i n l k)
 
-pub six-set : (w : List ℕ) (a b c d e f : ℕ) → length w ≡ 6 → set (set (set (set (set (set w 0 a) 1 b) 2 c) 3 d) 4 e) 5 f ≡ a ∷ b ∷ c ∷ d ∷ e ∷ f ∷ []
-six-set [] a b c d e f n = absurd (omega arith)
-six-set (u ∷ []) a b c d e f n = absurd (omega arith)
-six-set (u ∷ v ∷ []) a b c d e f n = absurd (omega arith)
-six-set (u ∷ v ∷ w ∷ []) a b c d e f n = absurd (omega arith)
-six-set (u ∷ v ∷ w ∷ x ∷ []) a b c d e f n = absurd (omega arith)
-six-set (u ∷ v ∷ w ∷ x ∷ y ∷ []) a b c d e f n = absurd (omega arith)
-six-set (u ∷ v ∷ w ∷ x ∷ y ∷ z ∷ []) a b c d e f n = refl
-six-set (u ∷ v ∷ w ∷ x ∷ y ∷ z ∷ q ∷ ws) a b c d e f n = absurd (omega arith)
+pub all-set : (w : List ℕ) (a b c d e f g : ℕ) → length w ≡ 7 → set (set (set (set (set (set (set w 0 a) 1 b) 2 c) 3 d) 4 e) 5 f) 6 g ≡ a ∷ b ∷ c ∷ d ∷ e ∷ f ∷ g ∷ []
+all-set [] a b c d e f g n = absurd (omega arith)
+all-set (t ∷ []) a b c d e f g n = absurd (omega arith)
+all-set (t ∷ u ∷ []) a b c d e f g n = absurd (omega arith)
+all-set (t ∷ u ∷ v ∷ []) a b c d e f g n = absurd (omega arith)
+all-set (t ∷ u ∷ v ∷ w ∷ []) a b c d e f g n = absurd (omega arith)
+all-set (t ∷ u ∷ v ∷ w ∷ x ∷ []) a b c d e f g n = absurd (omega arith)
+all-set (t ∷ u ∷ v ∷ w ∷ x ∷ y ∷ []) a b c d e f g n = absurd (omega arith)
+all-set (t ∷ u ∷ v ∷ w ∷ x ∷ y ∷ z ∷ []) a b c d e f g n = refl
+all-set (t ∷ u ∷ v ∷ w ∷ x ∷ y ∷ z ∷ q ∷ ws) a b c d e f g n = absurd (omega arith)

@@ -3,7 +3,7 @@ use run_stages::Record;
 ghost use mathlib.Core.Path.{_≡_};
 ghost use lib.ListN.{length};
 ghost use Rattle.quantizer.specs.Sums.{zeros};
-ghost use Rattle.run_stages.specs.Calls.{wordsOf};
+ghost use Rattle.run_stages.specs.Calls.{recordWords, wordsOf};
 
 pub fn copy(from: &[f32], to: &mut [f32])
     requires { ⌜ length (now to) ≡ length (now from) ⌝ }
@@ -27,7 +27,7 @@ pub fn zero(numbers: &mut [f32])
 }
 
 pub fn write_record(words: &mut [u64], r: Record)
-    requires { ⌜ length (now words) ≡ 6 ⌝ }
+    requires { ⌜ length (now words) ≡ recordWords ⌝ }
     ensures { λ _. ⌜ now (words .exit) ≡ wordsOf r ⌝ }
 {
     words[0] = r.generator;
@@ -36,4 +36,5 @@ pub fn write_record(words: &mut [u64], r: Record)
     words[3] = r.left;
     words[4] = r.made;
     words[5] = r.error;
+    words[6] = r.sizes;
 }

@@ -1,19 +1,20 @@
 // The record's words that a rule holds to their stage: its place, words 1 to 3, and the error, word 5.
 // They take what a stranger wrote.
+use job::Sizes;
 ghost use mathlib.Core.Path.{_≡_};
 ghost use Rattle.run_stages.specs.Record.{errorFits, placeFits};
-ghost use Rattle.run_record.specs.Sized.{sized, Sized};
+ghost use Rattle.run_record.specs.Sized.{plain, Sized};
 
 // Words 1 to 3.
-pub fn place_fits(s: usize, c: usize, n: usize, stage: u64, rounds: u64, left: u64) -> bool
-    requires { ⌜ Sized s c n ⌝ }
-    ensures { λ r. ⌜ r ≡ placeFits (sized s c n) stage rounds left ⌝ }
+pub fn place_fits(z: Sizes, stage: u64, rounds: u64, left: u64) -> bool
+    requires { ⌜ Sized z ⌝ }
+    ensures { λ r. ⌜ r ≡ placeFits (plain z) stage rounds left ⌝ }
 {
     if stage > 7 {
         return false;
     }
     if run_record::makes_draws(stage) {
-        let line = run_record::stage_of(s, c, n, stage);
+        let line = run_record::stage_of(z, stage);
         if rounds >= line.rounds {
             return false;
         }

@@ -1,17 +1,15 @@
--- The sizes that the record's rules read, as a course of no tiles: the rules of any course are those of its sizes. Definitions only. Assumes nothing.
-use Prim.Native.Nat.{ℕ, _≤_}
+-- The sizes of a call by themselves, as a course of empty tables: the record's rules read nothing else. Definitions only. Assumes nothing.
+use Prim.Native.Nat.{_≤_}
 use mathlib.Core.List.{[]}
-use lib.Ieee.{nan}
-use Rattle.job.specs.Job.{job, mostSubpalettes, mostColours, mostSamples}
-use Rattle.quantizer.specs.Course.{Course, course}
+use Rattle.job.specs.declared.Sizes.{Sizes}
+use Rattle.job.specs.Job.{mostSamples}
+use Rattle.job.specs.Gives.{InRange}
+use Rattle.quantizer.specs.Course.{Course, courseOf}
 
--- S, C and n
-abbrev pub sized : ℕ → ℕ → ℕ → Course
-sized s c n = course (job 0 s c 0 nan [] [] []) n []
+abbrev pub plain : Sizes → Course
+plain z = courseOf z [] [] [] []
 
-pub record Sized (s c n : ℕ) : Type 0 where
-  pub subs : 1 ≤ s
-  pub few : s ≤ mostSubpalettes
-  pub some : 1 ≤ c
-  pub cap : c ≤ mostColours
-  pub short : n ≤ mostSamples
+-- within their limits
+pub record Sized (z : Sizes) : Type 0 where
+  pub range : InRange (z .size) (z .s) (z .c) (z .t)
+  pub short : z .n ≤ mostSamples

@@ -1,4 +1,5 @@
 // What the words of a record say by themselves: their names, what a stage does, its rounds and their draws.
+use job::Sizes;
 use run_stages::Record;
 use run_stages::Stage;
 ghost use mathlib.Core.Path.{_≡_};
@@ -6,13 +7,13 @@ ghost use mathlib.Core.Bool.{_&&_};
 ghost use lib.Dec.{ltb};
 ghost use lib.ListN.{length};
 ghost use Rattle.run_stages.specs.State.{placed, noted, draws, stops};
-ghost use Rattle.run_stages.specs.Record.{stageWith, stageOf};
-ghost use Rattle.run_stages.specs.Calls.{recordOf};
-ghost use Rattle.run_record.specs.Sized.{sized, Sized};
+ghost use Rattle.run_stages.specs.Record.{stageWith, stageOf, sizesWord};
+ghost use Rattle.run_stages.specs.Calls.{recordOf, recordWords};
+ghost use Rattle.run_record.specs.Sized.{plain, Sized};
 
 // The record's words by name.
 pub fn record_of(words: &[u64]) -> Record
-    requires { ⌜ length (now words) ≡ 6 ⌝ }
+    requires { ⌜ length (now words) ≡ recordWords ⌝ }
     ensures { λ r. ⌜ r ≡ recordOf (now (words .entry)) ⌝ }
 {
     Record {
@@ -22,35 +23,37 @@ pub fn record_of(words: &[u64]) -> Record
         left: words[3],
         made: words[4],
         error: words[5],
+        sizes: words[6],
     }
 }
 
 // The record at another place.
-pub fn placed(r: Record, stage: u64, rounds: u64, left: u64) -> Record
+pub fn placed(mut r: Record, stage: u64, rounds: u64, left: u64) -> Record
     ensures { λ x. ⌜ x ≡ placed r stage rounds left ⌝ }
 {
-    Record {
-        generator: r.generator,
-        stage,
-        rounds,
-        left,
-        made: r.made,
-        error: r.error,
-    }
+    r.stage = stage;
+    r.rounds = rounds;
+    r.left = left;
+    r
 }
 
 // The record with another error.
-pub fn noted(r: Record, error: u64) -> Record
+pub fn noted(mut r: Record, error: u64) -> Record
     ensures { λ x. ⌜ x ≡ noted r error ⌝ }
 {
-    Record {
-        generator: r.generator,
-        stage: r.stage,
-        rounds: r.rounds,
-        left: r.left,
-        made: r.made,
-        error,
-    }
+    r.error = error;
+    r
+}
+
+// The job's sizes in one word: S, C, T and n in 16 bits each, most significant first.
+pub fn sizes_word(z: Sizes) -> u64
+    requires { ⌜ Sized z ⌝ }
+    ensures { λ r. ⌜ r ≡ sizesWord (plain z) ⌝ }
+{
+    let s = z.s as u64 * 0x1_0000_0000_0000;
+    let c = z.c as u64 * 0x1_0000_0000;
+    let t = z.t as u64 * 0x1_0000;
+    s + c + t + z.n as u64
 }
 
 // Whether a stage makes draws.
@@ -77,14 +80,14 @@ pub fn is_stop(stage: u64) -> bool
 }
 
 // A stage's line in the table of the stages.
-pub fn stage_of(s: usize, c: usize, n: usize, stage: u64) -> Stage
-    requires { ⌜ Sized s c n ⌝ }
-    ensures { λ r. ⌜ r ≡ stageOf (sized s c n) stage ⌝ }
+pub fn stage_of(z: Sizes, stage: u64) -> Stage
+    requires { ⌜ Sized z ⌝ }
+    ensures { λ r. ⌜ r ≡ stageOf (plain z) stage ⌝ }
 {
-    let b = cycle::base_iterations(n);
-    let seeding = s as u64 - 1;
-    let growing = c as u64 - 1;
-    let both = s as u64 + c as u64;
+    let b = cycle::base_iterations(z.n);
+    let seeding = z.s as u64 - 1;
+    let growing = z.c as u64 - 1;
+    let both = z.s as u64 + z.c as u64;
     let seeded = seeding * b;
     let grown = (seeding + growing) * b;
     let replaced = (both + 8) * b;

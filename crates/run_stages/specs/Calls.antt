@@ -28,12 +28,15 @@ pub record Memory : Type 0 where
 abbrev pub memory : List ℕ → List ℕ → List Float → List Float → List ℕ → Memory
 memory order hints palette least words = record { order = order; hints = hints; palette = palette; least = least; words = words }
 
--- the record's words by name, and in their order
+-- the record's words by name, in their order, and how many they are
 abbrev pub recordOf : List ℕ → Record
-recordOf words = record { generator = getD words 0 0; stage = getD words 1 0; rounds = getD words 2 0; left = getD words 3 0; made = getD words 4 0; error = getD words 5 0 }
+recordOf words = record { generator = getD words 0 0; stage = getD words 1 0; rounds = getD words 2 0; left = getD words 3 0; made = getD words 4 0; error = getD words 5 0; sizes = getD words 6 0 }
 
 abbrev pub wordsOf : Record → List ℕ
-wordsOf r = r .generator ∷ r .stage ∷ r .rounds ∷ r .left ∷ r .made ∷ r .error ∷ []
+wordsOf r = r .generator ∷ r .stage ∷ r .rounds ∷ r .left ∷ r .made ∷ r .error ∷ r .sizes ∷ []
+
+abbrev pub recordWords : ℕ
+recordWords = 7
 
 -- the state that it holds, and the memory that holds a state
 unfoldable pub stateOf : Memory → State
@@ -56,7 +59,7 @@ module _ (K : Course) where
   unfoldable pub memoryRoom : Memory → Bool
   memoryRoom m =
       eqb (length (m .order)) (K .n) && (eqb (length (m .hints)) T
-      && (coloursRoom (m .palette) && (coloursRoom (m .least) && eqb (length (m .words)) 6)))
+      && (coloursRoom (m .palette) && (coloursRoom (m .least) && eqb (length (m .words)) recordWords)))
 
   -- ---- the rules in their order
   abbrev pub jobRules : Bool → List Rule

@@ -1,14 +1,14 @@
--- The record's rules, words 1 to 5, and what else is asked of a run's memory. Definitions only. Assumes nothing.
-use Prim.Native.Nat.{ℕ, _+_, _-_, _*_, _/_}
-use mathlib.Core.Bool.{Bool, true, cond, _&&_}
+-- The record's rules, words 1 to 6, and what else is asked of a run's memory. Definitions only. Assumes nothing.
+use Prim.Native.Nat.{ℕ, _+_, _-_, _*_, _^_}
+use mathlib.Core.Bool.{Bool, cond, _&&_}
 use mathlib.Core.List.{List, [], _∷_, _++_}
 use lib.Dec.{leb, ltb, eqb}
 use lib.ListN.{length, getD}
 use lib.Ieee.{Float, binary32, ofBits}
 use Rattle.lists.specs.Every.{every}
 use Rattle.job.specs.Job.{Job}
-use Rattle.answer.specs.Rules.{Rule, ruleAt, rule}
-use Rattle.job.specs.Checks.{firstBad, componentsFit, colourRule}
+use Rattle.answer.specs.Rules.{Rule, rule}
+use Rattle.job.specs.Checks.{colourRule}
 use Rattle.quantizer.specs.Course.{Course, b}
 use Rattle.run_stages.specs.declared.Record.{Record}
 use Rattle.run_stages.specs.declared.Stage.{Stage}
@@ -25,24 +25,27 @@ entryFits n order i = ltb (getD order i 0) n
 unfoldable pub orderFits : ℕ → List ℕ → Bool
 orderFits n order = every (entryFits n order) (length order)
 
--- the last word: a finite f32 pattern with the sign bit clear in stage 2, else 0
+-- word 5: a finite f32 pattern with the sign bit clear in stage 2, else 0
 unfoldable pub errorFits : ℕ → ℕ → Bool
 errorFits stage error = cond (eqb stage 2) (ltb error 0x7f800000) (eqb error 0)
 
--- the second palette is looked at in stage 2 alone
-unfoldable pub leastFits : ℕ → List Float → Bool
-leastFits stage least = cond (eqb stage 2) (componentsFit four least) true
+-- what is looked at of the second palette: in stage 2 all, elsewhere nothing
+unfoldable pub lookedAt : ℕ → List Float → List Float
+lookedAt stage least = cond (eqb stage 2) least []
 
 -- the working colours, the first palette's before those of the second, which go on counting from `cells`; of the first every place is looked at
 abbrev pub workingRules : ℕ → ℕ → List Float → List Float → List Rule
-workingRules cells stage palette least =
-    colourRule 16 0 four palette ∷ ruleAt 16 (cells + firstBad four least / 3) (leastFits stage least) ∷ []
+workingRules cells stage palette least = colourRule 16 0 four palette ∷ colourRule 16 cells four (lookedAt stage least) ∷ []
+
+-- four numbers in 16 bits each, most significant first
+unfoldable pub packed : ℕ → ℕ → ℕ → ℕ → ℕ
+packed s c t n = s * 2 ^ 48 + c * 2 ^ 32 + t * 2 ^ 16 + n
 
 abbrev pub stageWith : ℕ → ℕ → ℕ → Stage
 stageWith rounds each before = record { rounds = rounds; each = each; before = before }
 
 module _ (K : Course) where
-  open Job (K .job) using (S, C)
+  open Job (K .job) using (S, C, T)
 
   -- the table of the stages: rounds, draws in a round, draws before the stage. At a stop and at the finish there are neither rounds nor draws
   unfoldable pub stageOf : ℕ → Stage
@@ -64,9 +67,14 @@ module _ (K : Course) where
   unfoldable pub madeBy : ℕ → ℕ → ℕ → ℕ
   madeBy k rounds left = cond (draws k) (stageOf k .before + rounds * b K + (stageOf k .each - left)) (stageOf k .before)
 
+  -- word 6: the job's sizes
+  abbrev pub sizesWord : ℕ
+  sizesWord = packed S C T (K .n)
+
   abbrev pub recordRules : Record → List Rule
   recordRules r =
-      rule 10 (placeFits (r .stage) (r .rounds) (r .left))
+      rule 20 (eqb (r .sizes) sizesWord)
+      ∷ rule 10 (placeFits (r .stage) (r .rounds) (r .left))
       ∷ rule 10 (eqb (r .made) (madeBy (r .stage) (r .rounds) (r .left)))
       ∷ rule 10 (errorFits (r .stage) (r .error)) ∷ []
 

@@ -18,7 +18,8 @@ use Rattle.quantizer.specs.Refining.{refined}
 use Rattle.quantizer.specs.Drawing.{moved, movedHints}
 use Rattle.run_stages.specs.declared.Record.{Record}
 use Rattle.run_stages.specs.Whilst.{whilst, times}
-use Rattle.run_stages.specs.State.{State, at, painted, kept, draws, beside}
+use Rattle.run_stages.specs.State.{State, begun, counted, at, painted, kept, draws, beside}
+use Rattle.run_stages.specs.Record.{sizesWord}
 
 -- ---- what a record says by itself. The subpalettes that are present, of S, and the colours of each, of C
 unfoldable pub subsOf : ℕ → Record → ℕ
@@ -107,7 +108,7 @@ module _ (K : Course) where
         hints = movedHints (K .job) (s .palette) (subsOf S (s .rec)) (haveOf C (s .rec)) (sampleTile K (d .sample)) (s .hints);
         palette = moved (K .job) (s .palette) (subsOf S (s .rec)) (haveOf C (s .rec)) (sampleTile K (d .sample)) (samplePlace K (d .sample)) (alphaOf (s .rec));
         least = s .least;
-        rec = record { generator = d .next .cards .state; stage = s .rec .stage; rounds = s .rec .rounds; left = s .rec .left - 1; made = s .rec .made + 1; error = s .rec .error };
+        rec = counted (s .rec) (d .next .cards .state) (s .rec .made + 1);
       }
 
   unfoldable pub draw : State → State
@@ -124,12 +125,12 @@ module _ (K : Course) where
   abbrev pub drawsOf : ℕ → State → ℕ
   drawsOf a s = times going step a s
 
-  -- both palettes nought but for the mean, the first order, stage 0
+  -- both palettes nought but for the mean, the first order, stage 0, and the job's sizes for good
   unfoldable pub fresh : ℕ → List ℕ → State
   fresh seed hints =
       let c = after (K .n) seed 0 in
       let z = zeros (3 * (S * C)) in
-      record { order = c .cards .order; hints = hints; palette = seeded K z; least = z; rec = record { generator = c .cards .state; stage = 0; rounds = 0; left = 0; made = 0; error = 0 } }
+      record { order = c .cards .order; hints = hints; palette = seeded K z; least = z; rec = begun (c .cards .state) (sizesWord K) }
 
   unfoldable pub start : ℕ → List ℕ → State
   start seed hints =

@@ -1,6 +1,6 @@
 -- What a run holds between two draws, and the tests on its stage. Definitions only. Assumes nothing.
 -- Stages: 0 seeding, 1 growing, 2 replacing, 3 stop for reduction, 4 final draws, 5 stop, 6 stop, 7 finished.
-use Prim.Native.Nat.{ℕ}
+use Prim.Native.Nat.{ℕ, _-_}
 use mathlib.Core.Bool.{Bool, cond, _||_}
 use mathlib.Core.List.{List, [], _∷_}
 use lib.Dec.{ltb, eqb}
@@ -17,12 +17,18 @@ pub record State : Type 0 where
 abbrev pub stateWith : List ℕ → List ℕ → List Float → List Float → Record → State
 stateWith order hints palette least r = record { order = order; hints = hints; palette = palette; least = least; rec = r }
 
--- ---- a record with its place changed, and with its error
+-- ---- a record at the very beginning; and one with its place changed, with its error, and after a draw. None changes the sizes
+abbrev pub begun : ℕ → ℕ → Record
+begun generator sizes = record { generator = generator; stage = 0; rounds = 0; left = 0; made = 0; error = 0; sizes = sizes }
+
 abbrev pub placed : Record → ℕ → ℕ → ℕ → Record
-placed r stage rounds left = record { generator = r .generator; stage = stage; rounds = rounds; left = left; made = r .made; error = r .error }
+placed r stage rounds left = record { generator = r .generator; stage = stage; rounds = rounds; left = left; made = r .made; error = r .error; sizes = r .sizes }
 
 abbrev pub noted : Record → ℕ → Record
-noted r error = record { generator = r .generator; stage = r .stage; rounds = r .rounds; left = r .left; made = r .made; error = error }
+noted r error = record { generator = r .generator; stage = r .stage; rounds = r .rounds; left = r .left; made = r .made; error = error; sizes = r .sizes }
+
+abbrev pub counted : Record → ℕ → ℕ → Record
+counted r generator made = record { generator = generator; stage = r .stage; rounds = r .rounds; left = r .left - 1; made = made; error = r .error; sizes = r .sizes }
 
 -- ---- a state with some of its fields changed
 abbrev pub at : State → ℕ → ℕ → ℕ → State

@@ -8,8 +8,8 @@ pub struct Advanced {
     pub draws: u64,
 }
 
-// The record's six words by name: generator state, stage, rounds finished in the stage, draws left in the round, draws made,
-// and the bits of the least error.
+// The record's words by name: generator state, stage, rounds finished in the stage, draws left in the round, draws made, the bits of
+// the least error, and the job's sizes.
 pub struct Record {
     pub generator: u64,
     pub stage: u64,
@@ -17,7 +17,11 @@ pub struct Record {
     pub left: u64,
     pub made: u64,
     pub error: u64,
+    pub sizes: u64,
 }
+
+// So many words a record has.
+pub const RECORD_WORDS: usize = 7;
 
 // A stage: its rounds, the draws in one of them, and the draws made before it.
 pub struct Stage {

@@ -11,13 +11,15 @@ use Rattle.answer.specs.declared.Refusal.{Refusal}
 use Rattle.answer.specs.Rules.{nothing}
 use Rattle.answer.specs.Outcome.{outcome}
 use Rattle.answer.proofs.Outcomes.{was-refused, was-done}
+use Rattle.job.specs.Gives.{Sampled}
 use Rattle.quantizer.specs.Course.{Course}
 use Rattle.quantizer.specs.Sums.{zeros}
 use Rattle.quantizer.specs.Seeding.{seeded}
 use Rattle.run_stages.specs.declared.Record.{Record}
 use Rattle.run_stages.specs.State.{State, stateWith}
+use Rattle.run_stages.specs.Record.{sizesWord}
 use Rattle.run_stages.specs.Stages.{settle, fresh, start}
-use Rattle.run_stages.specs.Calls.{Memory, memory, wordsOf, memoryOf, startAnswer, startCall}
+use Rattle.run_stages.specs.Calls.{Memory, memory, recordWords, wordsOf, memoryOf, startAnswer, startCall}
 use Rattle.run_calls.proofs.Accepted.{job-passed}
 use Rattle.run_calls.proofs.Answers.{start-opened}
 use Rattle.run_blank.specs.Blanks.{dealt, Blanking}
@@ -32,33 +34,30 @@ module _ (K : Course) (m : Memory) (seed : ℕ) (a : Refusal) (e : a ≡ startAn
     answered : startAnswer K m .number ≡ 0
     answered = subst (λ (x : Refusal). x .number ≡ 0) e z
 
+    pub passed : Sampled (K .job) (K .n) (K .samples) true
+    passed = job-passed K true (start-opened K m answered .0)
+
     pub can-blank : Blanking K (m .palette) (m .least)
-    can-blank =
-        let x = start-opened K m answered in
-        record { sampling = record { room = true; passed = job-passed K true (x .0) }; one = x .1 .palette; two = x .1 .least }
+    can-blank = let roomy = start-opened K m answered .1 in record { sampling = record { room = true; passed = passed }; one = roomy .palette; two = roomy .least }
 
     pub can-deal : length (m .order) ≤ 2 ^ 32
     can-deal =
-        let x = start-opened K m answered in
-        let few = job-passed K true (x .0) .few in
         let most : 16384 ≤ 2 ^ 32 = le-of-lt (lit< {m = 16384} tt) in
-        rw (x .1 .order) (le-trans few most)
+        rw (start-opened K m answered .1 .order) (le-trans (passed .few) most)
 
-    pub six : length (m .words) ≡ 6
-    six = start-opened K m answered .1 .words
+    pub recorded : length (m .words) ≡ recordWords
+    recorded = start-opened K m answered .1 .words
 
-    module _ (p l : List Float) (f : (p ≡ seeded K (zeros (3 * (K .job .S * K .job .C)))) × (l ≡ zeros (3 * (K .job .S * K .job .C)))) (o : List ℕ) (r : Record) (d : stateWith o [] [] [] r ≡ dealt (length (m .order)) seed) where
+    module _ (p l : List Float) (f : (p ≡ seeded K (zeros (3 * (K .job .S * K .job .C)))) × (l ≡ zeros (3 * (K .job .S * K .job .C)))) (o : List ℕ) (r : Record) (d : stateWith o [] [] [] r ≡ dealt (length (m .order)) seed (sizesWord K)) where
       begun : stateWith o (m .hints) p l r ≡ fresh K seed (m .hints)
       unfolding fresh dealt
       begun =
           let n = start-opened K m answered .1 .order in
-          ap (λ (s : State). stateWith (s .order) (m .hints) p l (s .rec)) (d ∙ ap (λ (k : ℕ). dealt k seed) n)
+          ap (λ (s : State). stateWith (s .order) (m .hints) p l (s .rec)) (d ∙ ap (λ (k : ℕ). dealt k seed (sizesWord K)) n)
           ∙ rw (f .0, f .1)
 
       pub beginning : Beginning K (stateWith o (m .hints) p l r)
-      beginning =
-          let x = start-opened K m answered in
-          record { room = true; passed = job-passed K true (x .0); each = x .1 .hints; seed = seed; same = begun }
+      beginning = record { room = true; passed = passed; each = start-opened K m answered .1 .hints; seed = seed; same = begun }
 
       pub accepted : (h2 : List ℕ) (p2 l2 : List Float) (x : Record) → stateWith o h2 p2 l2 x ≡ settle K (firstRound K (stateWith o (m .hints) p l r)) → (w2 : List ℕ) → w2 ≡ wordsOf x
           → outcome nothing (memory o h2 p2 l2 w2) ≡ startCall K m seed

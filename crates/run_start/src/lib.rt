@@ -40,7 +40,7 @@ pub fn start(
         return refusal;
     }
     run_blank::blank(z, tiles, colours, counts, samples, palette, least);
-    let r = run_blank::deal(order, seed);
+    let r = run_blank::deal(z, order, seed);
     let next = run_round::first::set_out(
         z,
         tiles,

@@ -7,7 +7,7 @@ ghost use Rattle.answer.specs.Outcome.{outcome};
 ghost use Rattle.quantizer.specs.Course.{courseOf};
 ghost use Rattle.run_stages.specs.State.{stateWith};
 ghost use Rattle.run_stages.specs.Stages.{step, advance, drawsOf};
-ghost use Rattle.run_stages.specs.Calls.{recordOf, memory, memoryOf};
+ghost use Rattle.run_stages.specs.Calls.{recordWords, recordOf, memory, memoryOf};
 ghost use Rattle.run_steps.specs.Running.{Running, Ongoing};
 
 // One draw, and all that is then due.
@@ -57,7 +57,7 @@ pub fn advance_work(
     words: &mut [u64],
     allotment: u64,
 ) -> u64
-    requires { ⌜ Running (courseOf z (now tiles) (now colours) (now counts) (now samples)) (stateWith (now order) (now hints) (now palette) (now least) (recordOf (now words))) × (length (now words) ≡ 6) ⌝ }
+    requires { ⌜ Running (courseOf z (now tiles) (now colours) (now counts) (now samples)) (stateWith (now order) (now hints) (now palette) (now least) (recordOf (now words))) × (length (now words) ≡ recordWords) ⌝ }
     ensures { λ x. ⌜ outcome x (memory (now (order .exit)) (now (hints .exit)) (now (palette .exit)) (now (least .exit)) (now (words .exit)))
         ≡ outcome
         (drawsOf (courseOf z (now (tiles .entry)) (now (colours .entry)) (now (counts .entry)) (now (samples .entry))) allotment

@@ -4,9 +4,10 @@ use mathlib.Core.Path.{_≡_, ap, _∙_}
 use mathlib.Core.List.{List, []}
 use lib.Ieee.{Float}
 use borrow.Author.Tests.{lt-ltb, le-ltb}
-use Rattle.run_record.specs.Sized.{sized}
+use Rattle.job.specs.declared.Sizes.{Sizes}
+use Rattle.run_record.specs.Sized.{plain}
 use Rattle.run_keeping.specs.Keeping.{seen}
-use Rattle.quantizer.specs.Course.{Course}
+use Rattle.quantizer.specs.Course.{Course, courseOf}
 use Rattle.quantizer.specs.Replacing.{replaced, replacedHints}
 use Rattle.run_stages.specs.declared.Record.{Record}
 use Rattle.run_stages.specs.State.{State, stateWith, placed}
@@ -25,10 +26,10 @@ unfolding openReplacing
 open-beside K h p l r round h2 p2 r2 e =
     ap (λ (s : State). stateWith (s .order) (s .hints) (s .palette) l (s .rec)) e
 
-end-beside : (K : Course) (h : List ℕ) (p l : List Float) (r : Record) (p2 l2 : List Float) (r2 : Record)
-    → stateWith [] [] p2 l2 r2 ≡ enterReducing (sized (K .job .S) (K .job .C) (K .n)) (stateWith [] [] p l r) → stateWith [] h p2 l2 r2 ≡ enterReducing K (stateWith [] h p l r)
+pub end-beside : (z : Sizes) (tiles : List ℕ) (colours : List Float) (counts h : List ℕ) (p l : List Float) (r : Record) (p2 l2 : List Float) (r2 : Record)
+    → stateWith [] [] p2 l2 r2 ≡ enterReducing (plain z) (stateWith [] [] p l r) → stateWith [] h p2 l2 r2 ≡ enterReducing (courseOf z tiles colours counts []) (stateWith [] h p l r)
 unfolding enterReducing
-end-beside K h p l r p2 l2 r2 e =
+end-beside z tiles colours counts h p l r p2 l2 r2 e =
     ap (λ (s : State). stateWith (s .order) h (s .palette) (s .least) (s .rec)) e
 
 -- ---- after the look
@@ -37,7 +38,7 @@ module _ (K : Course) (h : List ℕ) (p l : List Float) (r : Record) (round : �
   unfolding replaceOn
   replaced-more t h3 p3 r3 f = rw (lt-ltb round 10 t) (open-beside K h2 p l2 r2 round h3 p3 r3 f ∙ ap (openReplacing K round) e)
 
-  pub replaced-last : 10 ≤ round → (p3 l3 : List Float) (r3 : Record) → stateWith [] [] p3 l3 r3 ≡ enterReducing (sized (K .job .S) (K .job .C) (K .n)) (stateWith [] [] p l2 r2)
+  pub replaced-last : 10 ≤ round → (p3 l3 : List Float) (r3 : Record) → stateWith [] h2 p3 l3 r3 ≡ enterReducing K (stateWith [] h2 p l2 r2)
       → stateWith [] h2 p3 l3 r3 ≡ replaceOn K round (stateWith [] h p l r)
   unfolding replaceOn
-  replaced-last t p3 l3 r3 f = rw (le-ltb round 10 t) (end-beside K h2 p l2 r2 p3 l3 r3 f ∙ ap (enterReducing K) e)
+  replaced-last t p3 l3 r3 f = rw (le-ltb round 10 t) (f ∙ ap (enterReducing K) e)

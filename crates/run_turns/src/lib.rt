@@ -12,26 +12,18 @@ ghost use Rattle.job.specs.Job.{jobOf};
 ghost use Rattle.quantizer.specs.Course.{courseOf};
 ghost use Rattle.run_stages.specs.State.{stateWith};
 ghost use Rattle.run_stages.specs.Stages.{openSeeding, openGrowing};
-ghost use Rattle.run_record.specs.Sized.{sized};
+ghost use Rattle.run_record.specs.Sized.{plain};
 ghost use Rattle.run_turns.specs.Asked.{Doubling, Opening, Turning};
 ghost use Rattle.run_turns.specs.Rounds.{openTurn};
 
 // A subpalette more, a copy of subpalette `from`, and a round of draws begins.
-fn open_seeding(
-    s: usize,
-    c: usize,
-    n: usize,
-    palette: &mut [f32],
-    round: u64,
-    from: usize,
-    r: Record,
-) -> Record
-    requires { ⌜ Doubling s c (now palette) round from ⌝ }
-    ensures { λ x. ⌜ stateWith [] [] (now (palette .exit)) [] x ≡ openSeeding (sized s c n) round from (stateWith [] [] (now (palette .entry)) [] r) ⌝ }
+fn open_seeding(z: Sizes, palette: &mut [f32], round: u64, from: usize, r: Record) -> Record
+    requires { ⌜ Doubling (z .s) (z .c) (now palette) round from ⌝ }
+    ensures { λ x. ⌜ stateWith [] [] (now (palette .exit)) [] x ≡ openSeeding (plain z) round from (stateWith [] [] (now (palette .entry)) [] r) ⌝ }
 {
     let have = round as usize + 1;
-    palette_edit::duplicate_palette(palette, c, 1, have, from);
-    run_next::open_round(r, 0, round, n)
+    palette_edit::duplicate_palette(palette, z.c, 1, have, from);
+    run_next::open_round(r, 0, round, z.n)
 }
 
 // A colour more in each subpalette, and a round of draws begins.
@@ -75,7 +67,7 @@ pub fn open_turn(
 {
     let seeded = z.s as u64 - 1;
     if turn < seeded {
-        return open_seeding(z.s, z.c, z.n, palette, turn, from, r);
+        return open_seeding(z, palette, turn, from, r);
     }
     let later = turn - seeded;
     let grown = z.c as u64 - 1;

@@ -52,5 +52,5 @@ pub fn replace_on(
     if round < 10 {
         return open_replacing(z, tiles, colours, counts, hints, palette, round, seen);
     }
-    run_keeping::enter_reducing(z.s, z.c, z.n, palette, least, seen)
+    run_keeping::enter_reducing(z, palette, least, seen)
 }

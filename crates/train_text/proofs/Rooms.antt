@@ -11,7 +11,7 @@ use Rattle.job.specs.Gives.{Sampled}
 use Rattle.quantizer.specs.Course.{Course}
 use Rattle.answer.specs.declared.Refusal.{Refusal}
 use Rattle.answer.specs.Outcome.{outcome}
-use Rattle.run_stages.specs.Calls.{Memory, memory, startCall}
+use Rattle.run_stages.specs.Calls.{Memory, memory, recordWords, startCall}
 use Rattle.run_calls.specs.Accepted.{Roomy}
 use Rattle.run_calls.proofs.Accepted.{job-passed}
 use Rattle.train_run.specs.Training.{trained, turnCalls}
@@ -39,7 +39,7 @@ module _ (K : Course) (p : List Float) (D : Drawable K p) where
 
   module _ (order hints : List ℕ) (least : List Float) (o : 16384 ≡ length order) (h : 1024 ≡ length hints) (z : (k : ℕ) → getD hints k 0 ≡ 0) (l : 768 ≡ length least) where
     abbrev lent : Memory
-    lent = memory (take (K .n) order) (take (K .job .T) hints) p (take (3 * (K .job .S * K .job .C)) least) (replicate 6 0)
+    lent = memory (take (K .n) order) (take (K .job .T) hints) p (take (3 * (K .job .S * K .job .C)) least) (replicate recordWords 0)
 
     roomy : Roomy K lent
     roomy = record {

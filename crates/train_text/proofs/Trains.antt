@@ -13,7 +13,7 @@ use borrow.Author.Tests.{ne-eqb}
 use Rattle.job.specs.Job.{Job, mostSamples}
 use Rattle.answer.specs.Rules.{Passed}
 use Rattle.job.specs.Checks.{plainAnswer}
-use Rattle.run_stages.specs.Calls.{Memory, memory, jobRules}
+use Rattle.run_stages.specs.Calls.{Memory, memory, recordWords, jobRules}
 use Rattle.run_calls.specs.Accepted.{Roomy}
 use Rattle.fit_lines.specs.Lines.{refusedLine}
 use Rattle.train_run.proofs.ByCalls.{trained-fits}
@@ -46,7 +46,7 @@ module _ (J : Job) (p : List Float) (h : plainAnswer J p true .number ≡ 0) (so
 
   -- memory that its run is accepted with
   any-memory : Memory
-  any-memory = memory (replicate (unitCourse J .n) 0) (replicate (J .T) 0) p p (replicate 6 0)
+  any-memory = memory (replicate (unitCourse J .n) 0) (replicate (J .T) 0) p p (replicate recordWords 0)
 
   its-room : Roomy (unitCourse J) any-memory
   unfolding any-memory unitCourse

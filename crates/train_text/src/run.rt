@@ -85,7 +85,7 @@ pub fn train_palette(
     let mut orders = train_parts::order_room();
     let mut firsts = sheet_parts::no_hints();
     let mut errors = sheet_parts::palette_room();
-    let mut record = [0u64; 6];
+    let mut record = [0u64; 7];
     let size = 3 * (z.s * z.c);
     let order = &mut orders[..z.n];
     let hints = &mut firsts[..z.t];

@@ -4,6 +4,9 @@ use borrow.Author.Needs.{needs}
 use Rattle.run_blank.proofs.deal.Statement.{statement}
 use Rattle.run_blank.proofs.deal.Tie as tie
 
+sizes-word-requires : tie.Need-sizes-word-requires
+sizes-word-requires c κs = search needs
+
 new-requires : tie.Need-new-requires
 new-requires c κs = search needs
 
@@ -11,7 +14,7 @@ same-length : tie.Need-same-length
 same-length c = search needs
 
 returns : tie.Need-returns
-returns c = dealt-by _ _ _ _ _ (c .before .before .new .ensures)
+returns c = let dealt = c .before .before in dealt-by _ _ _ _ _ _ (dealt .new .ensures) _ (dealt .before .before .sizes-word .ensures)
 
 pub deal-spec : {M : Type 1} → statement M
-deal-spec = tie.close (tie.spec new-requires same-length returns)
+deal-spec = tie.close (tie.spec sizes-word-requires new-requires same-length returns)

@@ -16,10 +16,10 @@ record-of-requires c κs =
     start .pre (job-room _ _ _ _ _ (c .before .before .check-sampled .ensures) (c .if1 .left))
 
 check-state-requires : tie.Need-check-state-requires
-check-state-requires c κs = job-sized _ _ _ _ _ (c .before .before .before .check-sampled .ensures) (c .before .if1 .left)
+check-state-requires c κs = job-sized _ _ _ _ _ _ _ (c .before .before .before .check-sampled .ensures) (c .before .if1 .left)
 
 returns-2 : tie.Need-returns-2
-returns-2 c = held-goes _ _ _ _ _ _ (c .before .before .before .before .check-sampled .ensures) (c .before .before .if1 .left) _ (c .before .record-of .ensures) _ (c .check-state .ensures)
+returns-2 c = held-goes _ _ _ _ _ _ _ (c .before .before .before .before .check-sampled .ensures) (c .before .before .if1 .left) _ _ (c .before .record-of .ensures) _ (c .check-state .ensures)
 
 pub check-run-spec : {M : Type 1} → statement M
 check-run-spec =

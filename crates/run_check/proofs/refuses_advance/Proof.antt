@@ -11,14 +11,14 @@ memory-room-requires : tie.Need-memory-room-requires
 memory-room-requires c κs = search needs
 
 check-run-requires : tie.Need-check-run-requires
-check-run-requires c κs = c .memory-room .ensures .six
+check-run-requires c κs = c .memory-room .ensures .recorded
 
 returns : tie.Need-returns
 unfolding advanceAnswer memoryRoom coloursRoom
 returns c = run-stops _ _ _ _ _ _ (c .before .before .check-run .ensures) _ (c .before .before .before .memory-room .ensures .same) _ (c .if1 .taken)
 
 shared-slice-read-makes-draws : tie.Need-shared-slice-read-makes-draws
-shared-slice-read-makes-draws c = let six = c .before .before .before .before .memory-room .ensures .six (run-room _ _ _ _ _ _ (c .before .before .before .check-run .ensures) (c .before .if1 .left)) in omega arith
+shared-slice-read-makes-draws c = let recorded = c .before .before .before .before .memory-room .ensures .recorded (run-room _ _ _ _ _ _ (c .before .before .before .check-run .ensures) (c .before .if1 .left)) in omega arith
 
 makes-draws-requires : tie.Need-makes-draws-requires
 makes-draws-requires c κs = search needs

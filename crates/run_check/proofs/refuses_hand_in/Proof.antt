@@ -11,14 +11,14 @@ wider-room-requires : tie.Need-wider-room-requires
 wider-room-requires c κs = search needs
 
 check-run-requires : tie.Need-check-run-requires
-check-run-requires c κs = c .wider-room .ensures .six
+check-run-requires c κs = c .wider-room .ensures .recorded
 
 returns : tie.Need-returns
 unfolding handInAnswer memoryRoom coloursRoom
 returns c = run-stops _ _ _ _ _ _ (c .before .before .check-run .ensures) _ (c .before .before .before .wider-room .ensures .same) _ (c .if1 .taken)
 
 shared-slice-read-is-stop : tie.Need-shared-slice-read-is-stop
-shared-slice-read-is-stop c = let six = c .before .before .before .before .wider-room .ensures .six (run-room _ _ _ _ _ _ (c .before .before .before .check-run .ensures) (c .before .if1 .left)) in omega arith
+shared-slice-read-is-stop c = let recorded = c .before .before .before .before .wider-room .ensures .recorded (run-room _ _ _ _ _ _ (c .before .before .before .check-run .ensures) (c .before .if1 .left)) in omega arith
 
 is-stop-requires : tie.Need-is-stop-requires
 is-stop-requires c κs = search needs

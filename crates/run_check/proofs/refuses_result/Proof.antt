@@ -11,14 +11,14 @@ wider-room-requires : tie.Need-wider-room-requires
 wider-room-requires c κs = search needs
 
 check-run-requires : tie.Need-check-run-requires
-check-run-requires c κs = c .wider-room .ensures .six
+check-run-requires c κs = c .wider-room .ensures .recorded
 
 returns : tie.Need-returns
 unfolding resultAnswer memoryRoom coloursRoom
 returns c = run-stops _ _ _ _ _ _ (c .before .before .check-run .ensures) _ (c .before .before .before .wider-room .ensures .same) _ (c .if1 .taken)
 
 shared-slice-read-is-finished : tie.Need-shared-slice-read-is-finished
-shared-slice-read-is-finished c = let six = c .before .before .before .before .wider-room .ensures .six (run-room _ _ _ _ _ _ (c .before .before .before .check-run .ensures) (c .before .if1 .left)) in omega arith
+shared-slice-read-is-finished c = let recorded = c .before .before .before .before .wider-room .ensures .recorded (run-room _ _ _ _ _ _ (c .before .before .before .check-run .ensures) (c .before .if1 .left)) in omega arith
 
 is-finished-requires : tie.Need-is-finished-requires
 is-finished-requires c κs = tt

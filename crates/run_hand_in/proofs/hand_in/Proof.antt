@@ -1,5 +1,5 @@
 -- `run_hand_in::hand_in` meets its contract, refused or not. Assumes nothing.
-use Rattle.run_hand_in.proofs.Laws.{refused, same-room, six, handed, accepted}
+use Rattle.run_hand_in.proofs.Laws.{refused, same-room, recorded, handed, accepted}
 use borrow.Author.Needs.{needs}
 use Rattle.run_hand_in.proofs.hand_in.Statement.{statement}
 use Rattle.run_hand_in.proofs.hand_in.Tie as tie
@@ -23,7 +23,7 @@ copy-requires : tie.Need-copy-requires
 copy-requires c κs = same-room _ _ _ _ (c .before .before .before .refuses-hand-in .ensures) (c .before .if1 .left)
 
 record-of-requires : tie.Need-record-of-requires
-record-of-requires c κs = six _ _ _ _ (c .before .before .before .before .before .before .before .refuses-hand-in .ensures) (c .before .before .before .before .before .if1 .left)
+record-of-requires c κs = recorded _ _ _ _ (c .before .before .before .before .before .before .before .refuses-hand-in .ensures) (c .before .before .before .before .before .if1 .left)
 
 after-stop-requires : tie.Need-after-stop-requires
 after-stop-requires c κs =
@@ -35,7 +35,7 @@ write-record-requires : tie.Need-write-record-requires
 write-record-requires c κs =
     let after-if1 = c .before .before .before .before .before .before .before .before .before .before .before .before .before .before in
     let after-refuses-hand-in = after-if1 .before .before in
-    six _ _ _ _ (after-refuses-hand-in .refuses-hand-in .ensures) (after-if1 .if1 .left)
+    recorded _ _ _ _ (after-refuses-hand-in .refuses-hand-in .ensures) (after-if1 .if1 .left)
 
 same-length-4 : tie.Need-same-length-4
 same-length-4 c = search needs

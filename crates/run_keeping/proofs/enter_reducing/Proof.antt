@@ -1,6 +1,6 @@
 -- `run_keeping::enter_reducing` meets its contract. Assumes nothing.
 use Rattle.run_keeping.proofs.Keeps.{reduced-by}
-use Rattle.run_record.specs.Sized.{sized}
+use Rattle.run_record.specs.Sized.{plain}
 use borrow.Author.Needs.{needs}
 use Rattle.run_keeping.proofs.enter_reducing.Statement.{statement}
 use Rattle.run_keeping.proofs.enter_reducing.Tie as tie
@@ -27,7 +27,7 @@ returns : tie.Need-returns
 returns c =
     let after-zero = c .before .before .before .before in let after-copy = after-zero .before .before .before .before in
     let start = after-copy .before .before .before .before .before in
-    reduced-by (sized _ _ _) _ _ (start .args .r) (start .pre .two) _ _ (after-copy .copy .ensures) (after-zero .zero .ensures) _ (c .before .noted .ensures) _ (c .placed .ensures)
+    reduced-by (plain (start .args .z)) _ _ (start .args .r) (start .pre .two) _ _ (after-copy .copy .ensures) (after-zero .zero .ensures) _ (c .before .noted .ensures) _ (c .placed .ensures)
 
 pub enter-reducing-spec : {M : Type 1} → statement M
 enter-reducing-spec =

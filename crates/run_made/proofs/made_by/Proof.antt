@@ -22,34 +22,34 @@ mul-result c =
     let drawn = c .before in let draws = drawn .before in let lined = draws .before in
     let z = lined .before .pre in
     let yes = not-false _ (drawn .if1 .left) in
-    let few = few-rounds _ _ _ (z .0) _ _ _ (z .1) _ (draws .makes-draws .ensures) yes _ (lined .stage-of .ensures) in
-    turns-fit _ _ _ (z .0) _ (c .base-iterations .ensures) _ few
+    let few = few-rounds _ (z .0) _ _ _ (z .1) _ (draws .makes-draws .ensures) yes _ (lined .stage-of .ensures) in
+    turns-fit _ (z .0) _ (c .base-iterations .ensures) _ few
 
 add-result : tie.Need-add-result
 add-result c =
     let tenth = c .before in let drawn = tenth .before in let draws = drawn .before in let lined = draws .before in
     let z = lined .before .pre in
     let yes = not-false _ (drawn .if1 .left) in
-    let few = few-rounds _ _ _ (z .0) _ _ _ (z .1) _ (draws .makes-draws .ensures) yes _ (lined .stage-of .ensures) in
-    let before = early _ _ _ (z .0) _ _ _ (z .1) _ (draws .makes-draws .ensures) yes _ (lined .stage-of .ensures) in
-    sum-fits _ _ _ (z .0) _ (tenth .base-iterations .ensures) _ few _ before
+    let few = few-rounds _ (z .0) _ _ _ (z .1) _ (draws .makes-draws .ensures) yes _ (lined .stage-of .ensures) in
+    let before = early _ (z .0) _ _ _ (z .1) _ (draws .makes-draws .ensures) yes _ (lined .stage-of .ensures) in
+    sum-fits _ (z .0) _ (tenth .base-iterations .ensures) _ few _ before
 
 sub-result : tie.Need-sub-result
 sub-result c =
     let drawn = c .before .before .before in let draws = drawn .before in let lined = draws .before in
     let z = lined .before .pre in
     let yes = not-false _ (drawn .if1 .left) in
-    left-in _ _ _ (z .0) _ _ _ (z .1) _ (draws .makes-draws .ensures) yes _ (lined .stage-of .ensures)
+    left-in _ (z .0) _ _ _ (z .1) _ (draws .makes-draws .ensures) yes _ (lined .stage-of .ensures)
 
 add-result-2 : tie.Need-add-result-2
 add-result-2 c =
     let tenth = c .before .before in let drawn = tenth .before in let draws = drawn .before in let lined = draws .before in
     let z = lined .before .pre in
     let yes = not-false _ (drawn .if1 .left) in
-    let few = few-rounds _ _ _ (z .0) _ _ _ (z .1) _ (draws .makes-draws .ensures) yes _ (lined .stage-of .ensures) in
-    let before = early _ _ _ (z .0) _ _ _ (z .1) _ (draws .makes-draws .ensures) yes _ (lined .stage-of .ensures) in
-    let rest = rest-small _ _ _ (z .0) _ _ _ (z .1) _ (draws .makes-draws .ensures) yes _ (lined .stage-of .ensures) in
-    all-fits _ _ _ (z .0) _ (tenth .base-iterations .ensures) _ few _ before _ rest
+    let few = few-rounds _ (z .0) _ _ _ (z .1) _ (draws .makes-draws .ensures) yes _ (lined .stage-of .ensures) in
+    let before = early _ (z .0) _ _ _ (z .1) _ (draws .makes-draws .ensures) yes _ (lined .stage-of .ensures) in
+    let rest = rest-small _ (z .0) _ _ _ (z .1) _ (draws .makes-draws .ensures) yes _ (lined .stage-of .ensures) in
+    all-fits _ (z .0) _ (tenth .base-iterations .ensures) _ few _ before _ rest
 
 returns-2 : tie.Need-returns-2
 returns-2 c =

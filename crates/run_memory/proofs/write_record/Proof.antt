@@ -1,7 +1,7 @@
 -- `run_memory::write_record` meets its contract. Assumes nothing.
 use native.Mathlib.Omega.{arith}
 use lib.ListN.{length-set}
-use Rattle.run_memory.proofs.Fills.{six-set}
+use Rattle.run_memory.proofs.Fills.{all-set}
 use borrow.Author.Needs.{needs}
 use Rattle.run_memory.proofs.write_record.Statement.{statement}
 use Rattle.run_memory.proofs.write_record.Tie as tie
@@ -24,14 +24,17 @@ slice-write-words-5 c = simp length-set (omega arith)
 slice-write-words-6 : tie.Need-slice-write-words-6
 slice-write-words-6 c = simp length-set (omega arith)
 
+slice-write-words-7 : tie.Need-slice-write-words-7
+slice-write-words-7 c = simp length-set (omega arith)
+
 same-length : tie.Need-same-length
 same-length c = search needs
 
 returns : tie.Need-returns
-returns c = six-set (c .args .words .now) _ _ _ _ _ _ (c .pre)
+returns c = all-set (c .args .words .now) _ _ _ _ _ _ _ (c .pre)
 
 pub write-record-spec : {M : Type 1} → statement M
 write-record-spec =
     tie.close
-    (tie.spec slice-write-words slice-write-words-2 slice-write-words-3 slice-write-words-4 slice-write-words-5 slice-write-words-6 same-length
-    returns)
+    (tie.spec slice-write-words slice-write-words-2 slice-write-words-3 slice-write-words-4 slice-write-words-5 slice-write-words-6 slice-write-words-7
+    same-length returns)

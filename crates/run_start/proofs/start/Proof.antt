@@ -1,5 +1,5 @@
 -- `run_start::start` meets its contract, refused or not. Assumes nothing.
-use Rattle.run_start.proofs.Laws.{refused, can-blank, can-deal, six, beginning, accepted}
+use Rattle.run_start.proofs.Laws.{refused, passed, can-blank, can-deal, recorded, beginning, accepted}
 use borrow.Author.Needs.{needs}
 use Rattle.run_start.proofs.start.Statement.{statement}
 use Rattle.run_start.proofs.start.Tie as tie
@@ -31,7 +31,8 @@ blank-requires c κs = can-blank _ _ 0 _ (c .before .before .before .before .ref
 deal-requires : tie.Need-deal-requires
 deal-requires c κs =
     let after-if1 = c .before .before .before .before .before .before .before .before in let after-refuses-start = after-if1 .before .before in
-    can-deal _ _ 0 _ (after-refuses-start .refuses-start .ensures) (after-if1 .if1 .left)
+    let job = passed _ _ 0 _ (after-refuses-start .refuses-start .ensures) (after-if1 .if1 .left) in
+    (record { range = job .ready .sizes; short = job .few }, can-deal _ _ 0 _ (after-refuses-start .refuses-start .ensures) (after-if1 .if1 .left))
 
 set-out-requires : tie.Need-set-out-requires
 set-out-requires c κs =
@@ -44,7 +45,7 @@ write-record-requires : tie.Need-write-record-requires
 write-record-requires c κs =
     let after-if1 = c .before .before .before .before .before .before .before .before .before .before .before .before .before .before .before .before .before .before .before .before .before .before .before in
     let after-refuses-start = after-if1 .before .before in
-    six _ _ 0 _ (after-refuses-start .refuses-start .ensures) (after-if1 .if1 .left)
+    recorded _ _ 0 _ (after-refuses-start .refuses-start .ensures) (after-if1 .if1 .left)
 
 same-length-6 : tie.Need-same-length-6
 same-length-6 c = search needs

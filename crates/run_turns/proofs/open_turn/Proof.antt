@@ -20,7 +20,7 @@ same-length c = search needs
 returns : tie.Need-returns
 returns c =
     let after-if1 = c .before .before .before .before in let start = after-if1 .before .before .before .before .before .before .before in
-    seeded-by _ _ _ _ (start .args .r) _ _ _ _ (c .before .before .open-seeding .ensures) (after-if1 .if1 .taken)
+    seeded-by (start .args .z) _ _ _ _ _ _ (start .args .r) _ _ _ _ (c .before .before .open-seeding .ensures) (after-if1 .if1 .taken)
 
 sub-grown : tie.Need-sub-grown
 sub-grown c = search needs

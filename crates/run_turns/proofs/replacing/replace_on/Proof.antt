@@ -1,5 +1,5 @@
 -- `replacing::replace_on` meets its contract. Assumes nothing.
-use Rattle.run_turns.proofs.ReplacingRounds.{replaced-more, replaced-last}
+use Rattle.run_turns.proofs.ReplacingRounds.{end-beside, replaced-more, replaced-last}
 use borrow.Author.Needs.{needs}
 use Rattle.run_turns.proofs.replacing.replace_on.Statement.{statement}
 use Rattle.run_turns.proofs.replacing.replace_on.Tie as tie
@@ -43,7 +43,8 @@ returns-2 c =
     let after-enter-reducing = c .before .before .before .before in let after-if1 = after-enter-reducing .before .before .before in
     let after-look = after-if1 .before .before .before .before .before in
     let start = after-look .before .before .before .before .before .before .before .before .before .before in
-    replaced-last _ _ _ _ (start .args .r) _ _ _ _ (after-look .look .ensures) (after-if1 .if1 .left) _ _ _ (after-enter-reducing .enter-reducing .ensures)
+    replaced-last _ _ _ _ (start .args .r) _ _ _ _ (after-look .look .ensures) (after-if1 .if1 .left) _ _ _
+    (end-beside (start .args .z) _ _ _ _ _ _ _ _ _ _ (after-enter-reducing .enter-reducing .ensures))
 
 pub replace-on-spec : {M : Type 1} → statement M
 replace-on-spec =
