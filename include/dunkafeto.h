@@ -17,7 +17,9 @@
  *       7               finished: result, or read `palette`
  *
  * A whole run makes (S + C + 18) * (n / 10) draws, whatever the allotments. With n below 10 it makes none.
- * To save a run, keep order, hints, palette, least and words (and the job) between two calls; to go on, lend them again.
+ * To save a run, keep order, hints, palette, least and words (and the job) between two calls; to go on, lend them again with that
+ * job. The record knows its job's sizes, so that a job of other sizes is refused with 20.
+ * WARNING: two jobs of equal sizes are still not told apart. Keep a checksum of the job beside the run, and compare it first.
  *
  * Example, a whole program:
  *
@@ -34,18 +36,18 @@
  *     static uint64_t words[DUNKAFETO_WORDS];
  *
  *     #define JOB S, C, T, N, 1.0f
- *     #define LENT tiles, 2 * T, colours, 9, counts, 3, samples, 2 * N, order, N, hints, T, palette, CELLS, least, CELLS, words, 6
+ *     #define TABLES tiles, 2 * T, colours, 9, counts, 3, samples, 2 * N
+ *     #define MEMORY order, N, hints, T, palette, CELLS, least, CELLS, words, DUNKAFETO_WORDS
  *
  *     int main(void) {
- *         uint64_t answer = dunkafeto_start(JOB, 0, tiles, 2 * T, colours, 9, counts, 3, samples, 2 * N, order, N, hints, T,
- *                                           palette, CELLS, least, CELLS, words, 6);
+ *         uint64_t answer = dunkafeto_start(JOB, 0, TABLES, MEMORY);
  *         while (dunkafeto_number(answer) == DUNKAFETO_DONE && words[DUNKAFETO_STAGE] != DUNKAFETO_FINISHED) {
  *             if (dunkafeto_draws_in(words[DUNKAFETO_STAGE])) {
- *                 answer = dunkafeto_advance(JOB, LENT, 1000);
+ *                 answer = dunkafeto_advance(JOB, TABLES, MEMORY, 1000);
  *             } else {
  *                 for (int i = 0; i < CELLS; i++) // a console with 16 levels of each component
  *                     reduced[i] = (float)(int)(palette[i] * 16.0f) / 16.0f;
- *                 answer = dunkafeto_hand_in(JOB, LENT, reduced, CELLS);
+ *                 answer = dunkafeto_hand_in(JOB, TABLES, MEMORY, reduced, CELLS);
  *             }
  *         }
  *         if (dunkafeto_number(answer) != DUNKAFETO_DONE) {
@@ -76,10 +78,11 @@ extern "C" {
 #define DUNKAFETO_TILE_SIZE 64            /* colours of a tile are 0 up to this, else 5; its counts sum to at most this, else 6 */
 #define DUNKAFETO_MOST_COMPONENT 2.0f     /* magnitude of a component given, else 7, or 17 if handed in; of one a run holds: 4, else 16 */
 #define DUNKAFETO_MOST_WEIGHT 16.0f       /* weight is above 0 and at most this, else 4 */
-#define DUNKAFETO_WORDS 6                 /* words of a run's record */
+#define DUNKAFETO_WORDS 7                 /* words of a run's record, else 3 */
 
-/* ---- Numbers. Of several faults the first in the order 2, 3, 1, 4, 5, 6, 7, 8, 10, 16, 9, 11, 17 decides. These five calls give 0 to
- * 11, 16 and 17; 12 to 15 belong to other calls of the same table. 7, 16 and 17 name an entry: see dunkafeto_index. */
+/* ---- Numbers. Of several faults the first in the order 2, 3, 1, 4, 5, 6, 7, 8, 20, 10, 16, 9, 11, 17 decides. These five calls give 0
+ * to 11, 16, 17 and 20; 12 to 15 belong to other calls of the same table; 18 and 19 are not in use. 7, 16 and 17 name an entry: see
+ * dunkafeto_index. */
 enum dunkafeto_numbers {
     DUNKAFETO_DONE = 0,
     DUNKAFETO_NO_SAMPLES = 1,       /* n is 0 */
@@ -98,17 +101,19 @@ enum dunkafeto_numbers {
     DUNKAFETO_SAME_COLOUR = 14,     /* grouping: pixels of the same bytes whose Oklab bits differ */
     DUNKAFETO_EMPTY_TILE = 15,      /* the single fit's tile has no colour */
     DUNKAFETO_WORKING_COLOURS = 16, /* a component of palette, or in stage 2 of least, is above 4 in magnitude or not finite */
-    DUNKAFETO_HANDED_COLOURS = 17   /* a component handed in is above 2 in magnitude or not finite */
+    DUNKAFETO_HANDED_COLOURS = 17,  /* a component handed in is above 2 in magnitude or not finite */
+    DUNKAFETO_OTHER_SIZES = 20      /* word 6 of the record is not made of the S, C, T and n of the call: the run is another job's */
 };
 
-/* ---- The record: six words, which start writes and the others keep. Read them freely; write none. */
+/* ---- The record: seven words, which start writes and the others keep; word 6 stays as it is. Read them freely; write none. */
 enum dunkafeto_record {
     DUNKAFETO_GENERATOR = 0, /* state of the generator */
     DUNKAFETO_STAGE = 1,     /* 0 to 7, below */
     DUNKAFETO_ROUNDS = 2,    /* rounds finished in the stage */
     DUNKAFETO_LEFT = 3,      /* draws left in the round */
     DUNKAFETO_MADE = 4,      /* draws made since the start */
-    DUNKAFETO_ERROR = 5      /* in stage 2 the least error so far, as the bits of a float; else 0 */
+    DUNKAFETO_ERROR = 5,     /* in stage 2 the least error so far, as the bits of a float; else 0 */
+    DUNKAFETO_JOB_SIZES = 6  /* S, C, T and n of the job, 16 bits each, most significant first: S << 48 | C << 32 | T << 16 | n */
 };
 
 enum dunkafeto_stages {
@@ -173,6 +178,9 @@ static inline const char *dunkafeto_says(uint32_t number) {
         "the tile is empty",
         "a working colour's component is too large or not finite",
         "a handed-in colour's component is too large or not finite",
+        "no such number",
+        "no such number",
+        "the run's record belongs to a job of other sizes",
     };
     return number < sizeof words / sizeof words[0] ? words[number] : "no such number";
 }
@@ -194,7 +202,7 @@ static inline const char *dunkafeto_says(uint32_t number) {
  *     hints     t                 per tile the subpalette that is tried first              any
  *     palette   3 * s * c         the colours, subpalette by subpalette: l, a, b           finite, magnitude at most 4 (16)
  *     least     3 * s * c         a second palette, in use in stage 2                      the same, in stage 2 only (16)
- *     words     6                 the record                                               its rules (10)
+ *     words     7                 the record                                               of a job of these sizes (20), its rules (10)
  *
  * A length other than that in the second column is number 3.
  *

@@ -39,8 +39,8 @@ impl Lent {
 
     pub fn memory(&self) -> Memory {
         let Lent(job) = self;
-        let palette = vec![0.0; 3 * job.s * job.c];
-        Memory { order: vec![0; job.n], hints: vec![0; job.t], least: palette.clone(), palette, record: [0; 6] }
+        let (palette, record) = (vec![0.0; 3 * job.s * job.c], Default::default());
+        Memory { order: vec![0; job.n], hints: vec![0; job.t], least: palette.clone(), palette, record }
     }
 
     /// Of a subpalette's colours.

@@ -57,8 +57,7 @@ int file_read(const char *name, unsigned char *bytes, size_t room, size_t *len) 
 
 int file_print(const unsigned char *bytes, size_t len) { return write_all(STDOUT_FILENO, bytes, len); }
 
-/* The name of the new file beside a file, to be freed. */
-static char *new_name(const char *name) {
+char *file_new_name(const char *name) {
     char *joined = malloc(strlen(name) + sizeof ".new");
     if (joined != NULL)
         strcat(strcpy(joined, name), ".new");
@@ -90,11 +89,16 @@ static int sync_folder(const char *name) {
     return close_after(fd, fsync(fd) == 0);
 }
 
-/* A pipe or a device must not give way to a file. */
-static int is_special(const char *name) {
+/* What kind of file it is, 0 where there is none. */
+static mode_t mode_of(const char *name) {
     struct stat found;
-    return stat(name, &found) == 0 && !S_ISREG(found.st_mode);
+    return stat(name, &found) == 0 ? found.st_mode : 0;
 }
+
+int file_is_regular(const char *name) { return S_ISREG(mode_of(name)); }
+
+/* A pipe or a device must not give way to a file. */
+static int is_special(const char *name) { return mode_of(name) != 0 && !file_is_regular(name); }
 
 static int write_into(const char *name, const unsigned char *bytes, size_t len) {
     int fd = open(name, O_WRONLY);
@@ -108,7 +112,7 @@ int file_replace(const char *name, const unsigned char *bytes, size_t len) {
     int good;
     if (is_special(name))
         return write_into(name, bytes, len);
-    fresh = new_name(name);
+    fresh = file_new_name(name);
     if (fresh == NULL)
         return 0;
     good = write_new(fresh, bytes, len) && rename(fresh, name) == 0 && sync_folder(name);
@@ -119,7 +123,7 @@ int file_replace(const char *name, const unsigned char *bytes, size_t len) {
 static int gone(const char *name) { return unlink(name) == 0 || errno == ENOENT; }
 
 int file_remove(const char *name) {
-    char *fresh = new_name(name);
+    char *fresh = file_new_name(name);
     int good;
     if (fresh == NULL)
         return 0;

@@ -15,6 +15,12 @@ int file_replace(const char *name, const unsigned char *bytes, size_t len);
 /* Removes the file and what a kill left of a new one beside it. That neither is there is no fault. */
 int file_remove(const char *name);
 
+/* The name of that new file, to be freed; NULL where there is no room for it. */
+char *file_new_name(const char *name);
+
+/* Whether there is a file of that name, and it is no pipe, folder or device: only then reading it waits for nobody. */
+int file_is_regular(const char *name);
+
 /* Writes the bytes to standard output. */
 int file_print(const unsigned char *bytes, size_t len);
 

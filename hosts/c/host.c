@@ -43,6 +43,11 @@ static int complain_of_file(const char *doing, const char *name) {
     return NO_FILE;
 }
 
+static int complain_of_state(const char *name, StateFault fault) {
+    fprintf(stderr, "host: %s: %s; it is left as it is\n", name, state_says(fault));
+    return BAD_STATE;
+}
+
 static int refused(int status, const char *what, uint64_t answer, Entry entry) {
     uint32_t number = dunkafeto_number(answer);
     const char *colon = *entry.words == '\0' ? "" : ": ";
@@ -119,6 +124,23 @@ static int take_options(Options *o, int argc, char **argv) {
 
 /* ---- the work */
 
+/* Neither a file that is to be written nor the new file beside it may be an earlier release's state. */
+static int spare_earlier(const char *name) {
+    char *fresh;
+    int status = GOOD;
+    if (name == NULL)
+        return GOOD;
+    fresh = file_new_name(name);
+    if (fresh == NULL)
+        return complain_of_file("write", name);
+    if (state_is_earlier(name))
+        status = complain_of_state(name, STATE_EARLIER);
+    else if (state_is_earlier(fresh))
+        status = complain_of_state(fresh, STATE_EARLIER);
+    free(fresh);
+    return status;
+}
+
 static int read_sheet(const Options *o, Sheet *sheet, uint64_t *key) {
     static unsigned char bytes[SHEET_MOST_BYTES + 1]; /* one more, to see that a sheet is too large */
     const char *name = o->sheet == NULL ? "standard input" : o->sheet;
@@ -141,10 +163,8 @@ static int resume(const Options *o, Run *run, uint64_t key) {
         return -1;
     if (fault == STATE_UNREADABLE)
         return complain_of_file("read", o->state);
-    if (fault != STATE_READ) {
-        fprintf(stderr, "host: state file %s %s; it is left as it is\n", o->state, state_says(fault));
-        return BAD_STATE;
-    }
+    if (fault != STATE_READ)
+        return complain_of_state(o->state, fault);
     answer = run_check(run);
     if (!done(answer))
         return run_refused(BAD_STATE, o->state, answer, run);
@@ -193,7 +213,11 @@ static int work(const Options *o) {
     static Run run;
     uint64_t key = 0;
     uint64_t answer;
-    int status = read_sheet(o, &sheet, &key);
+    int status = spare_earlier(o->state);
+    if (status == GOOD)
+        status = spare_earlier(o->out);
+    if (status == GOOD)
+        status = read_sheet(o, &sheet, &key);
     if (status != GOOD)
         return status;
     answer = run_prepare(&run, &sheet);

@@ -1,5 +1,6 @@
 /* The state file: 8 bytes of opening, the key, the memory lent (order, hints, palette, least, words), the checksum of all before it.
- * Numbers stand least significant byte first. The key fixes the sheet, and the sheet every length. */
+ * Numbers stand least significant byte first. The key fixes the sheet, and the sheet every length.
+ * The opening has the version: the release before this one wrote the same with a record of six words. */
 #include "state.h"
 
 #include <errno.h>
@@ -8,7 +9,8 @@
 #include "bytes.h"
 #include "file.h"
 
-#define OPENING "DNKRUN1\n"
+#define OPENING "DNKRUN2\n"
+#define EARLIER_OPENING "DNKRUN1\n"
 
 enum {
     OPENING_LEN = 8,
@@ -43,10 +45,17 @@ int state_save(const Run *run, uint64_t key, const char *name) {
     return file_replace(name, bytes, (size_t)(at - bytes));
 }
 
-/* The first thing wrong with a file's bytes. */
+static int opens_with(const char *opening, const unsigned char *bytes, size_t len) {
+    return len >= OPENING_LEN && memcmp(bytes, opening, OPENING_LEN) == 0;
+}
+
+/* The first thing wrong with a file's bytes. Of an earlier release's nothing but the opening is looked at: that it is cut short or
+ * belongs to another sheet changes nothing. */
 static StateFault fault_in(const Run *run, uint64_t key, const unsigned char *bytes, size_t len) {
     uint64_t found;
-    if (len < OPENING_LEN || memcmp(bytes, OPENING, OPENING_LEN) != 0)
+    if (opens_with(EARLIER_OPENING, bytes, len))
+        return STATE_EARLIER;
+    if (!opens_with(OPENING, bytes, len))
         return STATE_STRANGE;
     if (len < HEAD_LEN)
         return STATE_LENGTH;
@@ -78,15 +87,24 @@ StateFault state_load(Run *run, uint64_t key, const char *name) {
     return STATE_READ;
 }
 
+int state_is_earlier(const char *name) {
+    unsigned char bytes[OPENING_LEN];
+    size_t len;
+    return file_is_regular(name) && file_read(name, bytes, sizeof bytes, &len) && opens_with(EARLIER_OPENING, bytes, len);
+}
+
 const char *state_says(StateFault fault) {
     switch (fault) {
-    case STATE_READ: return "is in order";
-    case STATE_ABSENT: return "is not there";
-    case STATE_UNREADABLE: return "cannot be read";
-    case STATE_STRANGE: return "is no state file of this host";
-    case STATE_FOREIGN: return "belongs to another sheet or another seed";
-    case STATE_LENGTH: return "is cut short or goes on past its end";
-    case STATE_DAMAGED: return "is damaged: its checksum is wrong";
+    case STATE_READ: return "it is in order";
+    case STATE_ABSENT: return "it is not there";
+    case STATE_UNREADABLE: return "it cannot be read";
+    case STATE_STRANGE: return "it is no saved run";
+    case STATE_EARLIER:
+        return "it is of an earlier release, whose record has six words and does not know its job's sizes, and cannot be resumed: "
+               "finish it with the release that wrote it, or start the run again under another name";
+    case STATE_FOREIGN: return "it belongs to another job or another seed";
+    case STATE_LENGTH: return "it is cut short or goes on past its end";
+    case STATE_DAMAGED: return "it is damaged: its checksum is wrong";
     }
-    return "is wrong";
+    return "it is wrong";
 }

@@ -9,6 +9,7 @@ typedef enum {
     STATE_ABSENT,     /* there is no such file */
     STATE_UNREADABLE, /* errno says why */
     STATE_STRANGE,    /* it is no state file */
+    STATE_EARLIER,    /* it is of the release before this one, whose record has six words */
     STATE_FOREIGN,    /* it belongs to another sheet or another seed */
     STATE_LENGTH,     /* it is cut short or goes on past its end */
     STATE_DAMAGED     /* its checksum is wrong */
@@ -24,6 +25,10 @@ int state_save(const Run *run, uint64_t key, const char *name);
  * Whether the memory is that of a run, run_check says. */
 StateFault state_load(Run *run, uint64_t key, const char *name);
 
+/* Whether the file was saved by an earlier release, whole or cut short. Nothing may be written in its place. */
+int state_is_earlier(const char *name);
+
+/* A fault in words, the same as those of the host in Rust. */
 const char *state_says(StateFault fault);
 
 #endif

@@ -95,12 +95,16 @@ static void answers_in_words(void) {
     }
 }
 
+static int names_an_entry(uint32_t number) {
+    return number == DUNKAFETO_COMPONENTS || number == DUNKAFETO_WORKING_COLOURS || number == DUNKAFETO_HANDED_COLOURS;
+}
+
 static void no_other_number(void) {
     static Sheet sheet;
     Entry found = {""};
     fill(&sheet);
-    for (uint32_t number = 0; number < 16 && *found.words == '\0'; number++)
-        if (number != DUNKAFETO_COMPONENTS)
+    for (uint32_t number = 0; number < 256 && *found.words == '\0'; number++)
+        if (!names_an_entry(number))
             found = entry_of(number, &sheet, 0);
     report("entry of each other number", found, "");
 }

@@ -7,15 +7,18 @@
 
 #include "dunkafeto.h"
 
-enum { S = 2, C = 2, T = 3, N = 20, COLOURS = 3, CELLS = 3 * S * C };
+enum { S = 2, C = 3, T = 3, N = 20, COLOURS = 3, CELLS = 3 * S * C };
 
-/* All that is lent, with the lengths that are told. */
+/* What the record says of a job of these sizes. */
+static const uint64_t sizes = UINT64_C(0x0002000300030014);
+
+/* All that is lent, with the lengths that are told. There is room for a tile, a sample and a word more. */
 typedef struct {
     size_t s, c, t, n;
     float weight;
-    uint32_t tiles[2 * T], counts[COLOURS], samples[2 * N], order[N], hints[T], subpalettes[T];
+    uint32_t tiles[2 * T + 2], counts[COLOURS], samples[2 * N + 2], order[N + 1], hints[T + 1], subpalettes[T];
     float colours[3 * COLOURS], palette[CELLS], least[CELLS], other[CELLS]; /* other: handed in, or the result */
-    uint64_t words[DUNKAFETO_WORDS];
+    uint64_t words[DUNKAFETO_WORDS + 1];
     size_t tiles_len, colours_len, counts_len, samples_len, order_len, hints_len, palette_len, least_len, words_len, other_len, out_len;
 } Lent;
 
@@ -75,6 +78,7 @@ static void many_samples(Lent *m) { m->n = DUNKAFETO_MOST_SAMPLES + 1; }
 static void short_hints(Lent *m) { m->hints_len--; }
 static void short_order(Lent *m) { m->order_len--; }
 static void short_words(Lent *m) { m->words_len--; }
+static void long_words(Lent *m) { m->words_len++; }
 static void short_colours(Lent *m) { m->colours_len--; }
 static void no_weight(Lent *m) { m->weight = 0.0f; }
 static void nan_weight(Lent *m) { m->weight = NAN; }
@@ -110,6 +114,43 @@ static void two_of_palette(Lent *m) { m->palette[9] = NAN, m->palette[5] = 2.000
 static void palette_and_colour(Lent *m) { m->palette[9] = NAN, m->colours[0] = NAN; }
 static void short_out(Lent *m) { m->out_len--; }
 
+/* Lends the run to another job, whose lengths fit. Of the last three all else fits too. */
+static void cells_of(Lent *m, size_t s, size_t c) {
+    m->s = s, m->c = c;
+    m->palette_len = m->least_len = m->other_len = 3 * s * c;
+}
+static void other_s(Lent *m) { cells_of(m, S - 1, C); }
+static void other_c(Lent *m) { cells_of(m, S, C - 1); }
+static void exchanged(Lent *m) { cells_of(m, C, S); }
+static void other_t(Lent *m) { m->tiles[2 * T] = COLOURS, m->t++, m->tiles_len += 2, m->hints_len++; }
+static void other_n(Lent *m) { m->n++, m->samples_len += 2, m->order_len++; }
+
+/* Changes what the record says of its job. */
+static void record_s(Lent *m) { m->words[DUNKAFETO_JOB_SIZES] += UINT64_C(1) << 48; }
+static void record_c(Lent *m) { m->words[DUNKAFETO_JOB_SIZES] += UINT64_C(1) << 32; }
+static void record_t(Lent *m) { m->words[DUNKAFETO_JOB_SIZES] += UINT64_C(1) << 16; }
+static void record_n(Lent *m) { m->words[DUNKAFETO_JOB_SIZES]++; }
+static void record_of_none(Lent *m) { m->words[DUNKAFETO_JOB_SIZES] = 0; }
+static void record_backwards(Lent *m) { m->words[DUNKAFETO_JOB_SIZES] = UINT64_C(0x0014000300030002); }
+static void sizes_and_stage(Lent *m) { record_n(m), stage_8(m); }
+static void sizes_and_working(Lent *m) { record_n(m), large_working(m); }
+static void sizes_and_order(Lent *m) { record_n(m), large_order(m); }
+static void sizes_and_handed_in(Lent *m) { record_n(m), large_handed_in(m); }
+static void sizes_and_sample(Lent *m) { record_n(m), sample_of_no_tile(m); }
+static void sizes_and_colour(Lent *m) { record_n(m), nan_colour(m); }
+static void sizes_and_length(Lent *m) { record_n(m), short_words(m); }
+
+/* Another job of the same S, C, T and n: another weight, other tiles, colours, counts and samples. */
+static void equal_sizes(Lent *m) {
+    static const uint32_t tiles[2 * T] = {0, 0, 0, 1, 1, 2};
+    m->weight = 2.0f;
+    memcpy(m->tiles, tiles, sizeof tiles);
+    for (int i = 0; i < COLOURS; i++)
+        m->counts[i] = 20, m->colours[3 * i] += 0.125f;
+    for (int i = 0; i < N; i++)
+        m->samples[2 * i] = 2, m->samples[2 * i + 1] = i % 2 == 0;
+}
+
 typedef struct {
     const char *name;
     Fault *fault;
@@ -139,7 +180,8 @@ static const Case of_job[] = {
     {"16,385 samples", many_samples, 2, 0},
     {"a hint too few", short_hints, 3, 0},
     {"an order entry too few", short_order, 3, 0},
-    {"five words", short_words, 3, 0},
+    {"six words", short_words, 3, 0},
+    {"eight words", long_words, 3, 0},
     {"a component too few", short_colours, 3, 0},
     {"weight 0", no_weight, 4, 0},
     {"weight NaN", nan_weight, 4, 0},
@@ -165,6 +207,29 @@ static const Case of_memory[] = {
     {"a working colour and a tile's", working_and_colour, 7, 1},
     {"an order entry n", large_order, 9, 0},
     {"a second palette that is not in use", nan_least, 0, 0},
+    {"another job of equal sizes", equal_sizes, 0, 0},
+};
+
+/* Before any rule on what the run holds, and before its moment. */
+static const Case of_sizes[] = {
+    {"a job with a subpalette less", other_s, 20, 0},
+    {"a job with a colour less in each", other_c, 20, 0},
+    {"a job with S and C exchanged", exchanged, 20, 0},
+    {"a job with an empty tile more", other_t, 20, 0},
+    {"a job with a sample more", other_n, 20, 0},
+    {"another S in the record", record_s, 20, 0},
+    {"another C in the record", record_c, 20, 0},
+    {"another T in the record", record_t, 20, 0},
+    {"another n in the record", record_n, 20, 0},
+    {"no sizes in the record", record_of_none, 20, 0},
+    {"the sizes backwards", record_backwards, 20, 0},
+    {"other sizes and stage 8", sizes_and_stage, 20, 0},
+    {"other sizes and a working colour", sizes_and_working, 20, 0},
+    {"other sizes and the order", sizes_and_order, 20, 0},
+    {"other sizes and a handed-in colour", sizes_and_handed_in, 20, 0},
+    {"other sizes and a sample", sizes_and_sample, 8, 0},
+    {"other sizes and a tile's colour", sizes_and_colour, 7, COLOURS - 1},
+    {"other sizes and six words", sizes_and_length, 3, 0},
 };
 
 static const Case in_stage_2[] = {
@@ -203,9 +268,14 @@ static const Case of_assign[] = {
 static void run_to_stop(Lent *m) {
     uint64_t answer;
     EACH("start", start, m, of_job);
-    start(m);
+    memset(m->words, 255, sizeof m->words);
+    expect("start, whatever the record says: 0", start, m, DUNKAFETO_DONE);
+    report("start writes S, C, T and n into the record", m->words[DUNKAFETO_JOB_SIZES] == sizes);
     EACH("advance", advance, m, of_job);
     EACH("advance", advance, m, of_memory);
+    EACH("advance", advance, m, of_sizes);
+    EACH("hand_in while drawing", hand_in, m, of_sizes);
+    EACH("result while drawing", result, m, of_sizes);
     expect("hand_in while drawing: 11", hand_in, m, DUNKAFETO_MOMENT);
     expect("result while drawing: 11", result, m, DUNKAFETO_MOMENT);
     m->other[0] = NAN;
@@ -218,6 +288,7 @@ static void run_to_stop(Lent *m) {
     EACH("advance in stage 2", advance, m, in_stage_2);
     EACH("hand_in in stage 2", hand_in, m, in_stage_2);
     EACH("result in stage 2", result, m, in_stage_2);
+    EACH("advance in stage 2", advance, m, of_sizes);
     while (dunkafeto_draws_in(m->words[DUNKAFETO_STAGE]))
         advance(m);
 }
@@ -229,6 +300,7 @@ static void run_to_finish(Lent *m) {
     EACH("hand_in", hand_in, m, of_job);
     EACH("hand_in", hand_in, m, of_memory);
     EACH("hand_in", hand_in, m, at_a_stop);
+    EACH("hand_in", hand_in, m, of_sizes);
     while (m->words[DUNKAFETO_STAGE] != DUNKAFETO_FINISHED)
         if (dunkafeto_number(advance(m)) == DUNKAFETO_MOMENT) {
             memcpy(m->other, m->palette, sizeof m->other);
@@ -238,6 +310,8 @@ static void run_to_finish(Lent *m) {
     expect("hand_in when finished: 11", hand_in, m, DUNKAFETO_MOMENT);
     EACH("result", result, m, of_job);
     EACH("result", result, m, of_memory);
+    EACH("result", result, m, of_sizes);
+    report("the record's sizes are as start wrote them", m->words[DUNKAFETO_JOB_SIZES] == sizes);
     report("a whole run makes (S + C + 18) * (n / 10) draws", m->words[DUNKAFETO_MADE] == dunkafeto_all_draws(S, C, N));
 }
 
@@ -248,7 +322,8 @@ static void no_elements(void) {
     uint32_t hints[1] = {9}, out[1] = {9};
     uint64_t words[DUNKAFETO_WORDS] = {0};
     uint64_t a = dunkafeto_assign(1, 1, 1, 1.0f, tiles, 2, NULL, 0, NULL, 0, palette, 3, hints, 1, out, 1);
-    uint64_t b = dunkafeto_start(1, 1, 1, 0, 1.0f, 0, tiles, 2, NULL, 0, NULL, 0, NULL, 0, NULL, 0, hints, 1, palette, 3, palette, 3, words, 6);
+    uint64_t b = dunkafeto_start(1, 1, 1, 0, 1.0f, 0, tiles, 2, NULL, 0, NULL, 0, NULL, 0, NULL, 0, hints, 1, palette, 3, palette, 3, words,
+                                 DUNKAFETO_WORDS);
     report("assign with an empty tile and NULL for no colours: 0", a == DUNKAFETO_DONE && out[0] == 0 && hints[0] == 9);
     report("start with NULL for no samples: 1", b == DUNKAFETO_NO_SAMPLES);
 }

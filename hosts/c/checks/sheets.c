@@ -6,7 +6,8 @@
  *
  * A line of a list that does not begin with # is SEED S C T SHEET MEMORY. SHEET is the checksum of the trained sheet, reduced to the
  * console's colours, as the host prints it. MEMORY is that of all that the library wrote: the run's memory after each call, in calls
- * of 100 draws, and each tile's subpalette, so that it sees every bit which the reduction cuts off. */
+ * of 100 draws, and each tile's subpalette, so that it sees every bit which the reduction cuts off. The record's word of the sizes is not
+ * in it, since it never changes: it is held to the job after each call, and the lists are as they were before there was such a word. */
 #include <inttypes.h>
 #include <stdio.h>
 #include <stdlib.h>
@@ -32,16 +33,21 @@ static uint64_t with_floats(uint64_t before, const float *values, size_t len) {
     return fnv1a(before, bytes, (size_t)(put_floats(bytes, values, len) - bytes));
 }
 
-/* The checksum goes on over the whole memory of the run. */
+/* What the record has to say of the job. */
+static uint64_t sizes_of(const Run *run) {
+    return (uint64_t)run->sheet->s << 48 | (uint64_t)run->sheet->c << 32 | (uint64_t)run->sheet->t << 16 | run->n;
+}
+
+/* The checksum goes on over the whole memory of the run; it is another where the record's sizes are not the job's. */
 static uint64_t with_memory(uint64_t before, const Run *run) {
     unsigned char bytes[8];
     before = with_u32s(before, run->order, run->n);
     before = with_u32s(before, run->hints, run->sheet->t);
     before = with_floats(before, run->palette, run_cells(run));
     before = with_floats(before, run->least, run_cells(run));
-    for (int i = 0; i < DUNKAFETO_WORDS; i++)
+    for (int i = 0; i < DUNKAFETO_JOB_SIZES; i++)
         before = fnv1a(before, bytes, (size_t)(put_u64(bytes, run->words[i]) - bytes));
-    return before;
+    return run->words[DUNKAFETO_JOB_SIZES] == sizes_of(run) ? before : ~before;
 }
 
 /* The checksum goes on over the subpalettes of the tiles, by the trained palette. */

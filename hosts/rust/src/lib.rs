@@ -51,7 +51,7 @@ pub use entry::{Entry, EntryKind};
 pub use job::{Colour, Job, Sample, Tile, Tiles, MOST_COLOURS, MOST_SAMPLES, MOST_SUBPALETTES, MOST_TILES};
 pub use memory::Memory;
 pub use refusal::Refusal;
-pub use saved::RestoreError;
+pub use saved::{saved_by_earlier_release, RestoreError};
 pub use sheet::{Sheet, MOST_BYTES};
 pub use trainer::{Advanced, Moment, Stage, Trainer};
 

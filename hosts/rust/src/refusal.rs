@@ -8,7 +8,7 @@ use crate::job::Job;
 
 /// Why a call was refused. A refused call made no draw and wrote nothing.
 ///
-/// Of several faults the first in the order 2, 3, 1, 4, 5, 6, 7, 8, 10, 16, 9, 11, 17 decides, and of several bad colours
+/// Of several faults the first in the order 2, 3, 1, 4, 5, 6, 7, 8, 20, 10, 16, 9, 11, 17 decides, and of several bad colours
 /// the first. [`SameColour`](Refusal::SameColour) and [`EmptyTile`](Refusal::EmptyTile) belong to calls that are not
 /// exported to hosts; they stand here because the table is one.
 ///
@@ -72,6 +72,9 @@ pub enum Refusal {
         /// The same colour, named.
         entry: Entry,
     },
+    /// 20: the last word of the record is not made of the job's S, C, T and n: the run is another job's. Two jobs of equal
+    /// sizes are still not told apart.
+    OtherSizes,
     /// A number that the table of this edition does not have: the library is of a later one.
     Unknown {
         /// The number.
@@ -84,34 +87,37 @@ pub enum Refusal {
 /// For the table alone: each refusal has its own.
 const ANY: Entry = Entry::of_palette(EntryKind::Palette, 0, 1);
 
-/// Each number with its refusal and message; a number stands at its own place, less 1.
-const TABLE: [(Refusal, &str); 17] = [
-    (Refusal::NoSamples, "there are no samples"),
-    (Refusal::Sizes, "too few or too many subpalettes, colours, tiles or samples"),
-    (Refusal::Lengths, "a lent slice has the wrong length"),
-    (Refusal::Weight, "the weight is not above 0 and at most 16"),
-    (Refusal::Tiles, "the tile table is not consecutive, a tile has more than 64 colours, or the total is wrong"),
-    (Refusal::Counts, "a count is 0, or a tile's counts sum to more than 64"),
-    (Refusal::JobColour { index: 0, entry: ANY }, "a colour's component is too large or not finite"),
-    (Refusal::Samples, "a sample names no tile or no colour of it"),
-    (Refusal::Order, "an entry of the order is too large"),
-    (Refusal::Record, "the run's record breaks its rules"),
-    (Refusal::Moment, "the call does not belong to this moment of the run"),
-    (Refusal::SheetOpening, "the sheet's opening or edition is wrong"),
-    (Refusal::SheetBytes, "the sheet is cut short, has a spare bit set or bytes after it, or is too large"),
-    (Refusal::SameColour, "equal reduced colours have different Oklab bits"),
-    (Refusal::EmptyTile, "the tile is empty"),
-    (Refusal::WorkingColour { index: 0, entry: ANY }, "a working colour's component is too large or not finite"),
-    (Refusal::HandedInColour { index: 0, entry: ANY }, "a handed-in colour's component is too large or not finite"),
+/// Each number with its refusal and message. 18 and 19 are not in use.
+const TABLE: [(u8, Refusal, &str); 18] = [
+    (1, Refusal::NoSamples, "there are no samples"),
+    (2, Refusal::Sizes, "too few or too many subpalettes, colours, tiles or samples"),
+    (3, Refusal::Lengths, "a lent slice has the wrong length"),
+    (4, Refusal::Weight, "the weight is not above 0 and at most 16"),
+    (5, Refusal::Tiles, "the tile table is not consecutive, a tile has more than 64 colours, or the total is wrong"),
+    (6, Refusal::Counts, "a count is 0, or a tile's counts sum to more than 64"),
+    (7, Refusal::JobColour { index: 0, entry: ANY }, "a colour's component is too large or not finite"),
+    (8, Refusal::Samples, "a sample names no tile or no colour of it"),
+    (9, Refusal::Order, "an entry of the order is too large"),
+    (10, Refusal::Record, "the run's record breaks its rules"),
+    (11, Refusal::Moment, "the call does not belong to this moment of the run"),
+    (12, Refusal::SheetOpening, "the sheet's opening or edition is wrong"),
+    (13, Refusal::SheetBytes, "the sheet is cut short, has a spare bit set or bytes after it, or is too large"),
+    (14, Refusal::SameColour, "equal reduced colours have different Oklab bits"),
+    (15, Refusal::EmptyTile, "the tile is empty"),
+    (16, Refusal::WorkingColour { index: 0, entry: ANY }, "a working colour's component is too large or not finite"),
+    (17, Refusal::HandedInColour { index: 0, entry: ANY }, "a handed-in colour's component is too large or not finite"),
+    (20, Refusal::OtherSizes, "the run's record belongs to a job of other sizes"),
 ];
 
 impl Refusal {
     /// The refusal that a call tells by number and index; none has the number 0, which says done. `palette` is how many palette
     /// colours the call counts among those of the job, before the tiles' own.
     pub(crate) fn told(number: u8, index: usize, job: &Job, palette: usize) -> Option<Self> {
-        let place = usize::from(number).checked_sub(1)?;
+        if number == 0 {
+            return None;
+        }
         let handed_in = |colour| Entry::of_palette(EntryKind::HandedIn, colour, job.colours_each);
-        Some(match TABLE.get(place).map(|row| row.0) {
+        Some(match TABLE.iter().find(|row| row.0 == number).map(|row| row.1) {
             None => Refusal::Unknown { number, index },
             Some(Refusal::JobColour { .. }) => Refusal::JobColour { index, entry: Entry::of_job(job, index, palette) },
             Some(Refusal::WorkingColour { .. }) => {
@@ -126,7 +132,7 @@ impl Refusal {
     pub fn number(self) -> u8 {
         match self {
             Refusal::Unknown { number, .. } => number,
-            known => 1 + self::place(known),
+            known => row(known).0,
         }
     }
 
@@ -155,14 +161,14 @@ impl Refusal {
     pub fn message(self) -> &'static str {
         match self {
             Refusal::Unknown { .. } => "the library refused with a number that this crate does not know",
-            known => TABLE[usize::from(self::place(known))].1,
+            known => row(known).2,
         }
     }
 }
 
-/// The place of a known refusal in the table, whatever its colour.
-fn place(known: Refusal) -> u8 {
-    TABLE.iter().take_while(|row| discriminant(&row.0) != discriminant(&known)).count() as u8
+/// The row of a known refusal in the table, whatever its colour.
+fn row(known: Refusal) -> &'static (u8, Refusal, &'static str) {
+    TABLE.iter().find(|row| discriminant(&row.1) == discriminant(&known)).expect("the table has every refusal")
 }
 
 impl fmt::Display for Refusal {
@@ -196,22 +202,24 @@ mod tests {
 
     #[test]
     fn only_colours_have_an_index() {
-        for number in 1..=17 {
+        for (number, ..) in TABLE {
             let refusal = told(number, 5, 6).unwrap();
             let named = matches!(number, 7 | 16 | 17);
             assert_eq!((refusal.index(), refusal.entry().is_some()), (if named { 5 } else { 0 }, named), "{number}");
         }
-        assert_eq!(told(18, 5, 6), Some(Refusal::Unknown { number: 18, index: 5 }));
+        for number in [18, 19, 21, 255] {
+            assert_eq!(told(number, 5, 6), Some(Refusal::Unknown { number, index: 5 }));
+        }
     }
 
     /// The header has the same messages, so that both hosts say the same.
     #[test]
     fn every_message_is_its_own_and_the_header_s() {
         let header = include_str!("../../../include/dunkafeto.h");
-        for number in 1..=17 {
-            let said = |number| told(number, 0, 0).unwrap().message();
-            assert!((1..number).all(|other| said(other) != said(number)), "{number}");
-            assert!(header.contains(&format!("\"{}\",\n", said(number))), "{number}");
+        for (number, _, said) in TABLE {
+            assert_eq!(told(number, 0, 0).unwrap().message(), said);
+            assert!(TABLE.iter().all(|other| other.0 == number || other.2 != said), "{number}");
+            assert!(header.contains(&format!("\"{said}\",\n")), "{number}");
         }
     }
 

@@ -7,17 +7,21 @@ use std::fmt;
 
 use crate::checksum;
 use crate::job::{Colour, Job};
-use crate::memory::Memory;
+use crate::memory::{Memory, WORDS};
 use crate::refusal::Refusal;
 use crate::trainer::Trainer;
 
-const OPENING: &[u8; 8] = b"DNKRUN1\n";
+const OPENING: &[u8; 8] = b"DNKRUN2\n";
+/// Of the release before this one, which saved the same with a record of six words.
+const EARLIER_OPENING: &[u8; 8] = b"DNKRUN1\n";
 
 /// Why a run could not be taken up from bytes.
 #[derive(Clone, Copy, Debug, PartialEq, Eq)]
 pub enum RestoreError {
     /// The bytes do not begin as a saved run does.
     NotARun,
+    /// The bytes begin as a run that an earlier release saved, whose record has six words and does not know its job's sizes.
+    EarlierRelease,
     /// The run that was saved has another key.
     OtherKey,
     /// The bytes are not as many as the job implies.
@@ -32,7 +36,11 @@ impl fmt::Display for RestoreError {
     fn fmt(&self, f: &mut fmt::Formatter<'_>) -> fmt::Result {
         match self {
             RestoreError::NotARun => f.write_str("it is no saved run"),
-            RestoreError::OtherKey => f.write_str("it belongs to another job"),
+            RestoreError::EarlierRelease => f.write_str(
+                "it is of an earlier release, whose record has six words and does not know its job's sizes, and cannot be \
+                 resumed: finish it with the release that wrote it, or start the run again under another name",
+            ),
+            RestoreError::OtherKey => f.write_str("it belongs to another job or another seed"),
             RestoreError::Length => f.write_str("it is cut short or goes on past its end"),
             RestoreError::Damaged => f.write_str("it is damaged: its checksum is wrong"),
             RestoreError::Refused(refusal) => refusal.fmt(f),
@@ -52,7 +60,8 @@ impl<'a> Trainer<'a> {
     /// The run as bytes, from which [`Trainer::restore`] takes it up with the same job.
     ///
     /// The key is the host's: a number that tells this job and all else that the result depends on from others, such as a
-    /// [`checksum`] of its sheet and seed. The library knows two jobs apart by their sizes only.
+    /// [`checksum`] of its sheet and seed. The library knows two jobs apart by their sizes only: **two jobs of equal sizes are
+    /// still not told apart** by the record.
     pub fn save(&self, key: u64) -> Vec<u8> {
         let Memory { order, hints, palette, least, record } = self.memory();
         let mut bytes = OPENING.to_vec();
@@ -83,6 +92,9 @@ impl<'a> Trainer<'a> {
     /// # Ok::<(), Box<dyn std::error::Error>>(())
     /// ```
     pub fn restore(job: Job<'a>, key: u64, bytes: &[u8]) -> Result<Self, RestoreError> {
+        if saved_by_earlier_release(bytes) {
+            return Err(RestoreError::EarlierRelease);
+        }
         let rest = bytes.strip_prefix(OPENING).ok_or(RestoreError::NotARun)?;
         let (found, rest) = rest.split_first_chunk().ok_or(RestoreError::Length)?;
         if u64::from_le_bytes(*found) != key {
@@ -97,17 +109,23 @@ impl<'a> Trainer<'a> {
     }
 }
 
+/// Whether the bytes begin as a run that an earlier release saved, whole or cut short: [`Trainer::restore`] refuses them with
+/// [`RestoreError::EarlierRelease`]. A host asks before it writes over a file, since that release may still finish the run.
+pub fn saved_by_earlier_release(bytes: &[u8]) -> bool {
+    bytes.starts_with(EARLIER_OPENING)
+}
+
 /// The memory, where the bytes are as many as the job implies.
 fn memory_of(job: &Job, bytes: &[u8]) -> Option<Memory> {
     let (n, t, colours) = (job.samples.len(), job.tiles.len(), job.palette_len());
-    let (bytes, words) = bytes.split_last_chunk::<{ 6 * 8 }>()?;
+    let (bytes, words) = bytes.split_last_chunk::<{ 8 * WORDS }>()?;
     if bytes.len() != 4 * (n + t + 2 * 3 * colours) {
         return None;
     }
     let mut record = words.chunks_exact(8).map(|word| u64::from_le_bytes(word.try_into().unwrap()));
     let mut numbers = bytes.chunks_exact(4).map(|number| u32::from_le_bytes(number.try_into().unwrap()));
     Some(Memory {
-        record: [(); 6].map(|()| record.next().unwrap()),
+        record: [(); WORDS].map(|()| record.next().unwrap()),
         order: numbers.by_ref().take(n).collect(),
         hints: numbers.by_ref().take(t).collect(),
         palette: colours_of(&mut numbers, colours),

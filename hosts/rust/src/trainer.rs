@@ -120,8 +120,11 @@ impl<'a> Trainer<'a> {
         Ok(Trainer { job, memory })
     }
 
-    /// Takes up a run from its memory, whoever kept it. The library checks job and memory: 1 to 8, 10 for the record, 16 for
-    /// working colours, 9 for the order. That the memory belongs to this job it cannot know, beyond sizes.
+    /// Takes up a run from its memory, whoever kept it. The library checks job and memory: 1 to 8, 20 where the record is of a
+    /// job of other sizes, 10 for the record, 16 for working colours, 9 for the order.
+    ///
+    /// **Two jobs of equal sizes are still not told apart**: S, C, T and n are all that the record knows of its job. Compare
+    /// what else there is to know, such as a [`checksum`](crate::checksum) of the sheet, before.
     pub fn resume(job: Job<'a>, memory: Memory) -> Result<Self, Refusal> {
         let trainer = Trainer { job, memory };
         // the moment is the last thing that `result` checks, and it writes nothing here

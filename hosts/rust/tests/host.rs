@@ -7,8 +7,8 @@ use std::path::PathBuf;
 use std::process::{Command, Output, Stdio};
 use std::time::Duration;
 
-use common::{spoiled, Rng};
-use dunkafeto::{checksum, console, Sheet, Stage, Tiles, Trainer};
+use common::{saved_earlier, spoiled, Rng};
+use dunkafeto::{checksum, console, RestoreError, Sheet, Stage, Tiles, Trainer};
 
 /// A folder of the test's own, removed at its end.
 struct Room(PathBuf);
@@ -180,7 +180,7 @@ fn state_of(sheet: &Sheet, change: impl FnOnce(&mut [u8])) -> Vec<u8> {
 }
 
 /// What it says of a state with bad colours, to the last byte. The 16 colours of the palette and the 16 that are kept stand
-/// before the record's 48 bytes, each has 12.
+/// before the record's 56 bytes, each has 12.
 #[test]
 fn a_bad_state_s_colour_is_named() {
     let room = Room::new("state");
@@ -194,7 +194,7 @@ fn a_bad_state_s_colour_is_named() {
         (&[25, 22], "kept colour 6 (subpalette 1, colour 2)"),
     ] {
         let bytes = state_of(&sheet, |bytes| {
-            let colours = bytes.len() - 48 - 12 * 32;
+            let colours = bytes.len() - 56 - 12 * 32;
             bad.iter().for_each(|at| bytes[colours + 12 * at..][..4].copy_from_slice(&f32::NAN.to_le_bytes()));
         });
         fs::write(room.file("run"), &bytes).unwrap();
@@ -207,6 +207,75 @@ fn a_bad_state_s_colour_is_named() {
     }
     fs::write(room.file("run"), state_of(&sheet, |_| {})).unwrap();
     assert!(room.run(&["in", "-o", "out", "--state", "run"]).status.success());
+}
+
+/// The last word of the record has S, C, T and n, the least significant byte first.
+#[test]
+fn a_state_that_says_other_sizes_is_refused() {
+    let room = Room::new("sizes");
+    let sheet = sheet(8, 4, 4);
+    fs::write(room.file("in"), sheet.write().unwrap()).unwrap();
+    for place in [2, 4, 6, 7] {
+        let bytes = state_of(&sheet, |bytes| bytes[bytes.len() - place] ^= 1);
+        fs::write(room.file("run"), &bytes).unwrap();
+        let said = room.run(&["in", "-o", "out", "--state", "run"]);
+        let expected = "host: run: refused 20: the run's record belongs to a job of other sizes\n";
+        assert_eq!((said.status.code(), &*String::from_utf8(said.stderr).unwrap()), (Some(3), expected));
+        assert!(fs::read(room.file("run")).unwrap() == bytes);
+        assert!(!room.file("out").exists());
+    }
+}
+
+/// Sizes are not all that a state file knows of its sheet.
+#[test]
+fn the_state_of_another_sheet_is_refused_whatever_its_sizes() {
+    let room = Room::new("another");
+    let ours = sheet(8, 4, 4);
+    let mut equal = ours.clone();
+    equal.weight = 1.0;
+    for other in [equal, sheet(9, 4, 4), sheet(8, 4, 5)] {
+        let bytes = state_of(&ours, |_| {});
+        fs::write(room.file("in"), other.write().unwrap()).unwrap();
+        fs::write(room.file("run"), &bytes).unwrap();
+        let said = room.run(&["in", "-o", "out", "--state", "run"]);
+        let expected = "host: run: it belongs to another job or another seed; it is left as it is\n";
+        assert_eq!((said.status.code(), &*String::from_utf8(said.stderr).unwrap()), (Some(3), expected));
+        assert!(fs::read(room.file("run")).unwrap() == bytes);
+        assert!(!room.file("out").exists());
+    }
+}
+
+/// Whatever the program is told to do with it: as its state, as the sheet's file, where the new file beside either would go.
+#[test]
+fn an_earlier_release_s_state_is_refused_and_left() {
+    let room = Room::new("earlier");
+    let (sheet, other) = (sheet(8, 4, 4), sheet(9, 4, 4));
+    fs::write(room.file("in"), sheet.write().unwrap()).unwrap();
+    fs::write(room.file("other"), other.write().unwrap()).unwrap();
+    let whole = saved_earlier(&state_of(&sheet, |_| {}));
+    for (file, words) in [
+        ("run", &["in", "-o", "out", "--state", "run"][..]),
+        ("run", &["in", "--state", "run"]),
+        ("run", &["in", "-o", "out", "--state", "run", "--every", "1"]),
+        ("run", &["in", "-o", "out", "--state", "run", "--seed", "1"]),
+        ("run", &["other", "-o", "out", "--state", "run"]),
+        ("run", &["absent", "-o", "out", "--state", "run"]),
+        ("run", &["in", "-o", "./run", "--state", "run"]),
+        ("run", &["in", "-o", "run"]),
+        ("run", &["in", "-o", "run", "--state", "state"]),
+        ("run.new", &["in", "-o", "out", "--state", "run"]),
+        ("run.new", &["in", "-o", "run"]),
+    ] {
+        for len in [8, 100, whole.len()] {
+            fs::write(room.file(file), &whole[..len]).unwrap();
+            let said = room.run(words);
+            let expected = format!("host: {file}: {}; it is left as it is\n", RestoreError::EarlierRelease);
+            assert_eq!((said.status.code(), String::from_utf8(said.stderr).unwrap()), (Some(3), expected), "{words:?}");
+            assert!(said.stdout.is_empty() && fs::read(room.file(file)).unwrap() == whole[..len]);
+            assert_eq!(fs::read_dir(&room.0).unwrap().count(), 3, "{words:?}");
+            fs::remove_file(room.file(file)).unwrap();
+        }
+    }
 }
 
 #[test]

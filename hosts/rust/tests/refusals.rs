@@ -6,7 +6,7 @@ mod common;
 use std::fmt::Debug;
 
 use common::{above, reduced, spoiled, to_stop, Case, Rng};
-use dunkafeto::{assign, Colour, Job, Memory, Refusal, Sample, Sheet, Tile, Tiles, Trainer};
+use dunkafeto::{assign, Colour, Job, Memory, Moment, Refusal, Sample, Sheet, Tile, Tiles, Trainer};
 
 const GREY: [f32; 3] = [0.5, 0.0, 0.0];
 
@@ -289,6 +289,98 @@ fn number_16_names_the_first_colour_of_both_palettes() {
         let expected = if bad.is_empty() { Ok(()) } else { spoiled_run(2, bad, kept, |_| {}) };
         assert_eq!(spoiled_run(0, bad, kept, |_| {}), expected, "the second palette is in use in stage 2 alone");
     }
+}
+
+#[test]
+fn number_20_every_bit_of_the_record_s_sizes() {
+    for bit in 0..64 {
+        for stage in [0, 2] {
+            let changed = spoiled_run(stage, &[], &[], |memory| memory.record[6] ^= 1 << bit);
+            assert_eq!(changed, Err(Refusal::OtherSizes), "stage {stage}, bit {bit}");
+        }
+    }
+}
+
+/// What resuming says, after each call of a run of two subpalettes of three colours, on a job changed by `change`, which fits
+/// the memory to it.
+fn resumed_on(change: impl Fn(&mut Case, &mut Memory)) -> Result<(), Refusal> {
+    let case = spoiled_case(&[]);
+    let mut trainer = Trainer::start(case.job()).unwrap();
+    let mut answers = Vec::new();
+    loop {
+        let (mut other, mut memory) = (spoiled_case(&[]), trainer.memory().clone());
+        assert_eq!(memory.record[6], 2 << 48 | 3 << 32 | 4 << 16 | 120, "no call changes it");
+        change(&mut other, &mut memory);
+        answers.push(Trainer::resume(other.job(), memory).map(drop));
+        match trainer.moment() {
+            Moment::Draws => drop(trainer.advance(40).unwrap()),
+            Moment::Stop => drop(trainer.hand_in(&reduced(&trainer)).unwrap()),
+            Moment::Finished => break,
+        }
+    }
+    assert!(answers.len() > 8 && answers.iter().all(|answer| *answer == answers[0]), "{answers:?}");
+    answers[0]
+}
+
+fn palettes_of(memory: &mut Memory, colours: usize) {
+    memory.palette.resize(colours, GREY);
+    memory.least.resize(colours, GREY);
+}
+
+fn another_tile(case: &mut Case, memory: &mut Memory) {
+    case.tiles.push([]);
+    memory.hints.push(0);
+}
+
+fn another_sample(case: &mut Case, memory: &mut Memory) {
+    case.samples.push(case.samples[0]);
+    memory.order.push(0);
+}
+
+#[test]
+fn number_20_a_job_of_other_sizes() {
+    let other = Err(Refusal::OtherSizes);
+    assert_eq!(resumed_on(|case, _| (case.subpalettes, case.colours_each) = (3, 2)), other);
+    assert_eq!(resumed_on(another_tile), other);
+    assert_eq!(resumed_on(another_sample), other);
+    for (subpalettes, colours_each) in [(1, 3), (3, 3), (2, 2), (2, 4), (1, 6), (6, 1)] {
+        let sizes = |case: &mut Case, memory: &mut Memory| {
+            (case.subpalettes, case.colours_each) = (subpalettes, colours_each);
+            palettes_of(memory, subpalettes * colours_each);
+        };
+        assert_eq!(resumed_on(sizes), other, "{subpalettes} of {colours_each}");
+    }
+}
+
+/// S, C, T and n are all that the record knows of its job.
+#[test]
+fn a_job_of_equal_sizes_is_taken_for_the_same() {
+    let equal = |case: &mut Case, _: &mut Memory| {
+        let mut tiles = Tiles::new();
+        [3, 2, 0, 1].iter().for_each(|&colours| tiles.push(vec![([0.25, 0.5, -0.5], 7); colours]));
+        let samples = [&tiles.samples()[..], &tiles.samples(), &tiles.samples()].concat()[..120].to_vec();
+        *case = Case { tiles, samples, weight: 2.0, seed: 4, ..spoiled_case(&[]) };
+    };
+    assert_eq!(resumed_on(equal), Ok(()));
+}
+
+#[test]
+fn number_20_comes_after_8_and_before_10() {
+    let other = Err(Refusal::OtherSizes);
+    assert_eq!(spoiled_run(2, &[0], &[0], |memory| memory.record[6] += 1), other);
+    assert_eq!(spoiled_run(2, &[], &[], |memory| (memory.record[1], memory.record[6]) = (8, 0)), other);
+    assert_eq!(spoiled_run(2, &[], &[], |memory| (memory.order[0], memory.record[6]) = (u32::MAX, 0)), other);
+    let with_sample = |case: &mut Case, memory: &mut Memory| {
+        another_tile(case, memory);
+        case.samples[0].tile = 9;
+    };
+    assert_eq!(resumed_on(with_sample), Err(Refusal::Samples));
+    assert_eq!(resumed_on(|case, memory| (case.weight, memory.record[6]) = (0.0, 0)), Err(Refusal::Weight));
+    let with_length = |_: &mut Case, memory: &mut Memory| {
+        memory.record[6] = 0;
+        memory.hints.pop();
+    };
+    assert_eq!(resumed_on(with_length), Err(Refusal::Lengths));
 }
 
 #[test]

@@ -2,8 +2,10 @@
 
 mod common;
 
-use common::{largest, reduced, Case, Rng};
-use dunkafeto::{assign, console, Colour, Moment, RestoreError, Stage, Tiles, Trainer};
+use common::{largest, reduced, saved_earlier, Case, Rng};
+use dunkafeto::{
+    assign, console, saved_by_earlier_release, Colour, Job, Moment, Refusal, RestoreError, Stage, Tiles, Trainer,
+};
 
 /// Every state that a run shows at its stops and its finish, when each step is followed by `between`.
 fn states<'a>(
@@ -89,6 +91,44 @@ fn a_saved_run_that_was_touched_is_not_restored() {
     let mut other = Case::any(&mut Rng(6));
     other.samples.pop();
     assert!(Trainer::restore(other.job(), 1, &bytes).is_err());
+}
+
+#[test]
+fn a_run_is_not_restored_on_a_job_of_other_sizes() {
+    let mut case = Case::any(&mut Rng(5));
+    (case.subpalettes, case.colours_each) = (2, 3);
+    let mut trainer = Trainer::start(case.job()).unwrap();
+    trainer.advance(3).unwrap();
+    let bytes = trainer.save(1);
+    let restored = |job: Job| Trainer::restore(job, 1, &bytes).err();
+    let other_sizes = Some(RestoreError::Refused(Refusal::OtherSizes));
+    assert_eq!(restored(Job { subpalettes: 3, colours_each: 2, ..case.job() }), other_sizes);
+    let mut tiles = case.tiles.clone();
+    tiles.push([]);
+    let fewer = &case.samples[1..];
+    assert_eq!(restored(tiles.job(2, 3, 1.0, fewer, 0)), other_sizes, "as many bytes: a tile more, a sample less");
+    assert_eq!(restored(tiles.job(2, 3, 1.0, &case.samples, 0)), Some(RestoreError::Length));
+    assert_eq!(restored(case.tiles.job(2, 3, 1.0, fewer, 0)), Some(RestoreError::Length));
+    // of a job of equal sizes the key alone knows that it is another
+    let equal = Job { weight: 4.0, seed: 9, ..case.job() };
+    assert_eq!(restored(equal), None);
+    assert_eq!(Trainer::restore(equal, 2, &bytes).err(), Some(RestoreError::OtherKey));
+}
+
+#[test]
+fn what_an_earlier_release_saved_is_refused_as_such() {
+    let case = Case::any(&mut Rng(5));
+    let saved = Trainer::start(case.job()).unwrap().save(1);
+    let earlier = saved_earlier(&saved);
+    assert_eq!(earlier.len() + 8, saved.len());
+    assert!(saved_by_earlier_release(&earlier) && !saved_by_earlier_release(&saved));
+    for len in 0..=earlier.len() {
+        let expected = if len < 8 { RestoreError::NotARun } else { RestoreError::EarlierRelease };
+        for key in [1, 2] {
+            assert_eq!(Trainer::restore(case.job(), key, &earlier[..len]).err(), Some(expected), "cut to {len}");
+        }
+    }
+    assert!(RestoreError::EarlierRelease.to_string().contains("earlier release, whose record has six words"));
 }
 
 #[test]
@@ -202,7 +242,7 @@ fn the_largest_job() {
             }
             calls += 1;
         }
-        assert_eq!(trainer.save(0).len(), 75_848);
+        assert_eq!(trainer.save(0).len(), 75_856);
         (trainer.draws_made(), calls)
     };
     std::thread::scope(|scope| {

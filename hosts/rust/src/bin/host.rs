@@ -8,7 +8,7 @@ use std::io::{self, stderr, stdin, stdout, ErrorKind, IsTerminal, Read, Write};
 use std::path::{Path, PathBuf};
 use std::process::ExitCode;
 
-use dunkafeto::{checksum, console, Job, Moment, Sheet, Trainer, MOST_BYTES};
+use dunkafeto::{checksum, console, saved_by_earlier_release, Job, Moment, RestoreError, Sheet, Trainer, MOST_BYTES};
 
 const USE: &str = "usage: host [-o FILE] [--state FILE] [--every N] [--seed N] [SHEET]
 Trains the palette of a fit sheet for a console of 15-bit colours and writes the trained sheet.
@@ -21,7 +21,7 @@ Trains the palette of a fit sheet for a console of 15-bit colours and writes the
 Status: 0 done, 1 sheet or job refused, 2 wrong use, 3 state file refused, 4 a file cannot be read or written.";
 
 /// Bytes of the state of the largest job.
-const MOST_STATE: u64 = 75_848;
+const MOST_STATE: u64 = 75_856;
 
 const REFUSED: u8 = 1;
 const WRONG_USE: u8 = 2;
@@ -119,11 +119,33 @@ fn go_together(options: &Options) -> Result<(), Failure> {
 }
 
 fn work(options: &Options) -> Result<(), Failure> {
+    [&options.state, &options.out].into_iter().flatten().try_for_each(|path| spare_earlier(path))?;
     let (name, bytes) = read_sheet(options)?;
     let mut sheet = Sheet::read(&bytes).doing(REFUSED, name)?;
     let samples = sheet.tiles.samples();
     sheet.palette = train(options, sheet.job(&samples, options.seed), key(&bytes, options.seed))?;
     write_sheet(options, &sheet.write().doing(REFUSED, "the trained sheet")?)
+}
+
+/// Neither a file that is to be written nor the new file beside it may be an earlier release's state.
+fn spare_earlier(path: &Path) -> Result<(), Failure> {
+    [path, &fresh(path)].into_iter().try_for_each(|path| {
+        // a pipe or a device is not read from: its other end may wait for the sheet
+        let regular = fs::metadata(path).is_ok_and(|found| found.is_file());
+        let begins = || File::open(path).and_then(|file| read_up_to(file, 8));
+        let earlier = regular && begins().is_ok_and(|bytes| saved_by_earlier_release(&bytes));
+        if earlier {
+            Err(unusable(path, RestoreError::EarlierRelease))
+        } else {
+            Ok(())
+        }
+    })
+}
+
+/// Why a state file is refused, in the words of the host in C.
+fn unusable(state: &Path, why: RestoreError) -> Failure {
+    let left = if matches!(why, RestoreError::Refused(_)) { "" } else { "; it is left as it is" };
+    Failure(BAD_STATE, format!("{}: {why}{left}", state.display()))
 }
 
 fn read_sheet(options: &Options) -> Result<(String, Vec<u8>), Failure> {
@@ -174,7 +196,7 @@ fn resumed<'a>(options: &Options, job: Job<'a>, key: u64) -> Result<Option<Train
         Err(why) if why.kind() == ErrorKind::NotFound => return Ok(None),
         read => read.doing(NO_FILE, state.display())?,
     };
-    let trainer = Trainer::restore(job, key, &bytes).doing(BAD_STATE, state.display())?;
+    let trainer = Trainer::restore(job, key, &bytes).map_err(|why| unusable(state, why))?;
     say(format_args!("resumed at draw {}\n", trainer.draws_made()));
     Ok(Some(trainer))
 }

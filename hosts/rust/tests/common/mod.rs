@@ -1,7 +1,7 @@
 //! Jobs from a seed, for the tests.
 #![allow(dead_code)] // each test program uses some of it
 
-use dunkafeto::{console, Colour, Job, Moment, Sample, Sheet, Tiles, Trainer};
+use dunkafeto::{checksum, console, Colour, Job, Moment, Sample, Sheet, Tiles, Trainer};
 
 /// SplitMix64.
 pub struct Rng(pub u64);
@@ -89,6 +89,14 @@ pub fn spoiled(sheet: &Sheet, bad: &[usize]) -> Vec<u8> {
     for bit in bad.iter().flat_map(|&index| ends[index] - 32..ends[index]) {
         bytes[bit / 8] |= 0x80 >> (bit % 8);
     }
+    bytes
+}
+
+/// A saved run as the release before this one saved it: another digit in the opening, a record without its last word.
+pub fn saved_earlier(saved: &[u8]) -> Vec<u8> {
+    let mut bytes = saved[..saved.len() - 16].to_vec();
+    bytes[..8].copy_from_slice(b"DNKRUN1\n");
+    bytes.extend(checksum(&bytes).to_le_bytes());
     bytes
 }
 
