@@ -4,7 +4,7 @@ use std::collections::HashMap;
 
 use terms::jobs::{self, Colours};
 use terms::rng::Rng;
-use terms::{Colour, Held, Job, Palette, Tile};
+use terms::{Colour, Held, Job, Palette, Tile, sizes_word};
 
 use crate::line::{Line, Read, Words};
 use crate::{probed, rust};
@@ -299,9 +299,10 @@ fn steps(words: &mut Words) -> Read<Line> {
     Ok(line)
 }
 
-/// The six words, the order, the hints, and both palettes with zeros where nothing is present.
+/// The record's seven words, the order, the hints, and both palettes with zeros where nothing is present.
 fn held(line: Line, job: &Job, held: &Held) -> Line {
-    let line = line.numbers(held.words).numbers(held.order.iter().copied()).numbers(held.hints.iter().copied());
+    let line = line.numbers(held.words).number(sizes_word(job.sizes()));
+    let line = line.numbers(held.order.iter().copied()).numbers(held.hints.iter().copied());
     line.colours(&flat(&held.palette, job.s, job.c)).colours(&flat(&held.least, job.s, job.c))
 }
 

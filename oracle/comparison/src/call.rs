@@ -1,6 +1,6 @@
 //! A call of a run as a stranger may make it: the job, the memory lent, what is asked; and what comes of it.
 
-use terms::{Held, Job, Palette};
+use terms::{Held, Job, Palette, sizes_word};
 
 use crate::lent::nans;
 use crate::table::{Given, Refusal};
@@ -58,7 +58,7 @@ impl Call {
                 hints: vec![u32::MAX; job.tiles.len()],
                 palette: nans(places),
                 least: nans(places),
-                record: vec![u64::MAX; 6],
+                record: vec![u64::MAX; 7],
             },
         }
     }
@@ -66,6 +66,11 @@ impl Call {
     /// The tile and the place that a sample names.
     pub fn sample(&self, i: usize) -> (usize, usize) {
         (self.samples[2 * i] as usize, self.samples[2 * i + 1] as usize)
+    }
+
+    /// S, C, T and n.
+    pub fn sizes(&self) -> [usize; 4] {
+        [self.given.s, self.given.c, self.given.t, self.n]
     }
 
     pub fn stage(&self) -> u64 {
@@ -81,7 +86,7 @@ impl Call {
 }
 
 impl Memory {
-    /// A run of the Rust's as it stands, with zeros where no colour is present.
+    /// A run of the Rust's as it stands, with zeros where no colour is present, and the word of the job's sizes, which it does not keep.
     pub fn standing(job: &Job, held: &Held) -> Self {
         let flat = |palette: &Palette| {
             let mut all = vec![[0.0; 3]; job.s * job.c];
@@ -95,7 +100,7 @@ impl Memory {
             hints: held.hints.iter().map(|&hint| hint as u32).collect(),
             palette: flat(&held.palette),
             least: flat(&held.least),
-            record: held.words.to_vec(),
+            record: held.words.into_iter().chain([sizes_word(job.sizes())]).collect(),
         }
     }
 }

@@ -5,6 +5,7 @@ mod edges;
 mod entries;
 mod groups;
 mod leaves;
+mod neighbours;
 mod own;
 mod palettes;
 mod programs;
@@ -29,7 +30,7 @@ pub struct Kind {
     pub compare: fn(&mut Rng, u64, &mut Tally),
 }
 
-pub const KINDS: [&[Kind]; 12] = [
+pub const KINDS: [&[Kind]; 13] = [
     own::KINDS,
     leaves::KINDS,
     palettes::KINDS,
@@ -38,6 +39,7 @@ pub const KINDS: [&[Kind]; 12] = [
     groups::KINDS,
     calls::KINDS,
     runs::KINDS,
+    neighbours::KINDS,
     sheets::KINDS,
     entries::KINDS,
     edges::KINDS,

@@ -34,7 +34,7 @@ pub struct Memory {
     pub hints: Vec<u32>,
     pub palette: Vec<f32>,
     pub least: Vec<f32>,
-    pub record: [u64; 6],
+    pub record: [u64; 7],
 }
 
 /// What a word says: the number, the index of what is refused, the draws of what is done.

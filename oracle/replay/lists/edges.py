@@ -10,9 +10,9 @@ oracle = sys.argv[1]
 words, cases, compared = [], 0, 0
 FOUND, MASK = 0x7fa5a5a5, 2 ** 64 - 1
 TWO, ABOVE, MINUS, ABOVE_FOUR = 0x40000000, 0x40000001, 0x80000000, 0x40800001
-START, ADVANCE, HAND_IN, RESULT, ADVANCE_DAMAGED = 0, 1, 2, 3, 4
+START, ADVANCE, HAND_IN, RESULT, ADVANCE_DAMAGED, ADVANCE_RESIZED = 0, 1, 2, 3, 4, 5
 # what is answered: a number, and the index that goes with it
-DONE, SIZE, COUNT = (0, 0), (2, 0), (6, 0)
+DONE, SIZE, COUNT, OTHER_SIZES = (0, 0), (2, 0), (6, 0), (20, 0)
 
 
 def bits(x):
@@ -124,9 +124,9 @@ def held(job, n, seed, each, calls):
     # a stop takes no allotment, but there is a word for it
     allotments = [call[1] << 32 | call[2] if call[0] == ADVANCE else 0 for call in accepted[1:]]
     answer = ask("steps", request + handed + allotments)
-    size = 6 + n + job.t + 6 * job.s * job.c
+    size = 7 + n + job.t + 6 * job.s * job.c
     states = [answer[i:i + size] for i in range(0, len(answer), size)]
-    assert states[-1][1] == 7 and len(states) == len(accepted) - 1, [x[:6] for x in states]
+    assert states[-1][1] == 7 and len(states) == len(accepted) - 1, [x[:7] for x in states]
     return list(zip(states[:1] + states, states + states[-1:]))
 
 
@@ -197,7 +197,7 @@ def every(answer):
 
 
 def whole(first, *others):
-    """A run of two subpalettes of two colours to its end; the first stop is handed what is refused before what is not."""
+    """A run to its end. The first stop is handed what is refused first, whose index is that of two subpalettes of two colours."""
     stops = [([HAND_IN, x], handed_in_colour(3)) for x in others] + [([HAND_IN, first], DONE)]
     ends = [(advance(), DONE), ([HAND_IN, first], DONE), ([HAND_IN, first], DONE), ([RESULT], DONE)]
     return [([START], DONE), (advance(), DONE)] + stops + ends
@@ -206,6 +206,14 @@ def whole(first, *others):
 def damaged(places):
     """The components of both working palettes, by their places in a row."""
     return [([ADVANCE_DAMAGED, place, ABOVE_FOUR | sign], working_colour(place // 3)) for place in places for sign in (0, MINUS)]
+
+
+def resized(sizes):
+    """The record's last word with each size one more and one less, S and C exchanged, T and n exchanged, no size, all ones."""
+    s, c, t, n = (sizes >> low & 0xffff for low in (48, 32, 16, 0))
+    others = [sizes + (step << low) for low in (48, 32, 16, 0) for step in (1, -1)]
+    others += [c << 48 | s << 32 | t << 16 | n, s << 48 | c << 32 | n << 16 | t, 0, MASK]
+    return [([ADVANCE_RESIZED] + double(other), OTHER_SIZES) for other in others]
 
 
 def small(t=1, total=64, component=TWO):
@@ -239,6 +247,10 @@ for sign in (0, MINUS):
 first, *others = whole(TWO)
 stages = [first] + damaged([0, 11]) + [(advance(5), DONE)] + damaged([0, 11, 12, 23])
 run(small(t=2), 20, 10, stages + others)
+# sizes: S 3, C 2, T 4, n 20, in the record's last word; at the start, within a round and at a stop, where an advance has no place
+first, to_stop, *others = whole(TWO)
+wrong = resized(0x0003000200040014)
+run(Job(3, 2, 4, 2, 64, TWO), 20, 11, [first] + wrong + [(advance(5), DONE)] + wrong + [to_stop] + wrong + others)
 
 here = os.path.dirname(os.path.abspath(__file__))
 with open(os.path.join(here, "edges"), "wb") as out:

@@ -42,7 +42,7 @@ def run(s, c, tiles, n, weight, grid, allotments):
     full = [i for i, k in enumerate(tiles) if k]
     samples = [(i, draw.randrange(tiles[i])) for i in (draw.choice(full) for _ in range(n))]
     handed = [[colour(grid) for _ in range(s * c)] for _ in range(3)]
-    size = 6 + n + t + 6 * s * c
+    size = 7 + n + t + 6 * s * c
     flat = [x for q in handed for k in q for x in k]
     request = [bits(weight), s, c, seed, t] + hints
     for tile in content:
@@ -74,9 +74,9 @@ def run(s, c, tiles, n, weight, grid, allotments):
     def state(x):
         global compared
         compared += 1 + size
-        for w in x[:6]:
+        for w in x[:7]:
             words.extend(double(w))
-        words.extend(x[6:])
+        words.extend(x[7:])
 
     state(known[0])
     stops = 0

@@ -3,7 +3,8 @@
 //! component of the last tile colour, the weight; palettes from a component of their last colour.
 //! 1: a job, n samples, a seed of two words, the number of calls. A call is 0 a start, 1 an allotment of two words and an advance, 2 a
 //!    component and a hand-in, 3 a result, 4 a place in both working palettes in a row, a component and an advance on a copy that has it
-//!    there. 2: a job and a component, by `assign`, single fit, `best_two` and the sheet's writer.
+//!    there, 5 a number of two words and an advance on a copy that has it as its record's last word. 2: a job and a component, by
+//!    `assign`, single fit, `best_two` and the sheet's writer.
 //! 3: a sheet, its number of bytes and its bytes, four to a word. 4: p pixels to group, each r, g, b, a in a word and its Oklab.
 //! After each call its number. Where that is 0, what the call answers, in numbers of two words, and the digest of all memory that it is
 //! lent to write, from 0 as in the list of leaves; after any other number the index that goes with it, and nothing is written.
@@ -98,7 +99,7 @@ fn run(list: &mut List) -> Read<()> {
         hints: hints(&job),
         palette: found(places),
         least: found(places),
-        record: [FOUND.into(); 6],
+        record: [FOUND.into(); 7],
     };
     for _ in 0..list.word()? {
         call(list, &job, seed, &mut memory)?;
@@ -108,8 +109,8 @@ fn run(list: &mut List) -> Read<()> {
 
 fn call(list: &mut List, job: &Job, seed: u64, memory: &mut Memory) -> Read<()> {
     let asked = list.word()?;
-    if asked == 4 {
-        return advance_damaged(list, job, memory.clone());
+    if asked == 4 || asked == 5 {
+        return advance_damaged(list, job, memory.clone(), asked);
     }
     // a result alone is lent room
     let mut room = found(if asked == 3 { memory.palette.len() } else { 0 });
@@ -125,15 +126,24 @@ fn call(list: &mut List, job: &Job, seed: u64, memory: &mut Memory) -> Read<()> 
     same_outcome(list, (number, index), &[draws], &lent, &held(memory, &room))
 }
 
-fn advance_damaged(list: &mut List, job: &Job, mut memory: Memory) -> Read<()> {
+fn advance_damaged(list: &mut List, job: &Job, mut memory: Memory, asked: u32) -> Read<()> {
+    if asked == 4 {
+        damage_palettes(list, &mut memory)?;
+    } else {
+        memory.record[6] = list.double()?;
+    }
+    let lent = held(&memory, &[]);
+    let (number, index, draws) = shipped::said(shipped::advance(job, &mut memory, u64::MAX));
+    same_outcome(list, (number, index), &[draws], &lent, &held(&memory, &[]))
+}
+
+fn damage_palettes(list: &mut List, memory: &mut Memory) -> Read<()> {
     let (place, component) = (list.word()? as usize, list.float()?);
     match memory.palette.iter_mut().chain(&mut memory.least).nth(place) {
         Some(x) => *x = component,
         None => return list.refuse(format!("there is no place {place}")),
     }
-    let lent = held(&memory, &[]);
-    let (number, index, draws) = shipped::said(shipped::advance(job, &mut memory, u64::MAX));
-    same_outcome(list, (number, index), &[draws], &lent, &held(&memory, &[]))
+    Ok(())
 }
 
 fn held(memory: &Memory, room: &[f32]) -> Vec<u64> {

@@ -2,7 +2,7 @@
 //! A run: S, C, T tiles, m tile colours, n samples, p numbers of a palette, the weight, the seed, the number of calls; the tile table, m
 //! counts, m colours, n samples of two words, T hints. Then the state that the start leaves; then each call: 0, an allotment and the
 //! draws made, or 1 and p numbers to hand in; and the state that it leaves.
-//! A state is the record's six numbers of 64 bits, n order entries, T hints, and both palettes.
+//! A state is the record's seven numbers of 64 bits, n order entries, T hints, and both palettes.
 
 use crate::list::{List, Read};
 use foreign::shipped::{self, Job, Memory};
@@ -22,7 +22,7 @@ pub fn case(list: &mut List) -> Read<()> {
     let (colours, samples) = (list.floats(3 * m)?, list.words(2 * n)?);
     let job = Job { s, c, t, n, weight, tiles, colours, counts, samples };
     let hints = list.words(t)?;
-    let mut memory = Memory { order: vec![0; n], hints, palette: vec![0.0; p], least: vec![0.0; p], record: [0; 6] };
+    let mut memory = Memory { order: vec![0; n], hints, palette: vec![0.0; p], least: vec![0.0; p], record: [0; 7] };
     // the number is 0, and there are no draws
     list.compare(shipped::start(&job, &mut memory, seed) == 0);
     same_state(list, &memory)?;

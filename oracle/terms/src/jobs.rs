@@ -168,22 +168,43 @@ pub fn job(rng: &mut Rng, most: usize) -> Job {
         2 => rng.among(50, 120),
         _ => rng.among(1, 30),
     };
-    let mut tiles = tiles(rng, t, &colours);
-    if tiles.iter().all(|tile| tile.counts.is_empty()) {
-        tiles[t - 1] = full_tile(rng, &colours);
-    }
+    let tiles = sampled_tiles(rng, t, &colours);
     let samples = samples(rng, &tiles, most);
     Job { s, c, weight: weight(rng), tiles, samples }
 }
 
-/// One sample for each unit of count in tile order, as grouping gives them, or any number of any samples.
-fn samples(rng: &mut Rng, tiles: &[Tile], most: usize) -> Vec<Sample> {
+/// A job of just these S, C, T and n: all else is any.
+pub fn of_sizes(rng: &mut Rng, [s, c, t, n]: [usize; 4]) -> Job {
+    let colours = Colours::any(rng, 2.0);
+    let tiles = sampled_tiles(rng, t, &colours);
+    let all = units(&tiles);
+    let samples = (0..n).map(|_| rng.pick(&all)).collect();
+    Job { s, c, weight: weight(rng), tiles, samples }
+}
+
+/// Tiles of which one at least is not empty.
+fn sampled_tiles(rng: &mut Rng, t: usize, colours: &Colours) -> Vec<Tile> {
+    let mut tiles = tiles(rng, t, colours);
+    if tiles.iter().all(|tile| tile.counts.is_empty()) {
+        tiles[t - 1] = full_tile(rng, colours);
+    }
+    tiles
+}
+
+/// One sample for each unit of count in tile order, as grouping gives them.
+fn units(tiles: &[Tile]) -> Vec<Sample> {
     let mut all = Vec::new();
     for (tile, data) in tiles.iter().enumerate() {
         for (place, &count) in data.counts.iter().enumerate() {
             all.extend((0..count).map(|_| Sample { tile, place }));
         }
     }
+    all
+}
+
+/// One for each unit of count, or any number of any samples.
+fn samples(rng: &mut Rng, tiles: &[Tile], most: usize) -> Vec<Sample> {
+    let mut all = units(tiles);
     let n = match rng.below(6) {
         0 => rng.among(1, 12),
         1 => rng.pick(&[9, 10, 19, 20, 99, 100]),

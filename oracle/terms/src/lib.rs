@@ -31,6 +31,18 @@ pub struct Job {
     pub samples: Vec<Sample>,
 }
 
+impl Job {
+    /// S, C, T and n.
+    pub fn sizes(&self) -> [usize; 4] {
+        [self.s, self.c, self.tiles.len(), self.samples.len()]
+    }
+}
+
+/// The record's last word, of which the Rust knows nothing: S, C, T and n in 16 bits each, the most significant first.
+pub fn sizes_word(sizes: [usize; 4]) -> u64 {
+    sizes.into_iter().fold(0, |word, size| word << 16 | size as u64)
+}
+
 /// Subpalettes, each with the colours present.
 pub type Palette = Vec<Vec<Colour>>;
 
@@ -124,7 +136,8 @@ pub struct Held {
     pub least: Palette,
     pub hints: Vec<usize>,
     pub order: Vec<u32>,
-    /// Generator state, stage, rounds finished in it, draws left in the round, draws made, bits of the least error.
+    /// Those of the record that change: generator state, stage, rounds finished in it, draws left in the round, draws made, bits of the
+    /// least error.
     pub words: [u64; 6],
 }
 

@@ -79,15 +79,20 @@ impl Reduction {
 }
 
 /// A run by our calls alone, beside the Rust's.
-struct Whole {
-    job: Job,
+pub struct Whole {
+    pub job: Job,
     hints: Vec<usize>,
     seed: u64,
     reduction: Reduction,
-    /// What was handed in at each stop.
+    /// One run in four changes processes now and then.
+    leaves: bool,
+    /// Our memory at each stop, and what was handed in there.
+    stops: Vec<Memory>,
     handed: Vec<Vec<Colour>>,
+    /// The result was taken.
+    finished: bool,
     /// Our run as it stands.
-    call: Call,
+    pub call: Call,
     steps: Box<dyn Steps>,
 }
 
@@ -115,51 +120,65 @@ fn largest(rng: &mut Rng, _: u64, tally: &mut Tally) {
 }
 
 impl Whole {
-    fn of(rng: &mut Rng, job: Job) -> Self {
+    pub fn of(rng: &mut Rng, job: Job) -> Self {
         let (hints, seed) = (jobs::hints(rng, job.tiles.len(), job.s), rng.bits());
         let mut call = Call::of(&job);
         call.memory.hints = hints.iter().map(|&hint| hint as u32).collect();
         let steps = probed(job.weight).start(&job, &hints, seed);
-        Whole { hints, seed, reduction: Reduction::any(rng), handed: Vec::new(), call, steps, job }
+        let (reduction, leaves) = (Reduction::any(rng), rng.once_in(4));
+        let (stops, handed) = Default::default();
+        Whole { job, hints, seed, reduction, leaves, stops, handed, finished: false, call, steps }
     }
 
     fn compare(mut self, rng: &mut Rng, tally: &mut Tally) {
-        // one run in four changes processes now and then
-        let leaves = rng.once_in(4);
-        let mut stops = Vec::new();
-        let mut finished = false;
-        while !finished {
-            if self.call.stage() != 2 && rng.once_in(3) {
-                // nobody looks there, and nobody writes
-                self.call.memory.least = nans(self.call.memory.least.len());
-            }
-            let leg = self.leg(rng);
-            let asks: Vec<Ask> = leg.iter().map(|planned| planned.ask.clone()).collect();
-            let ours = if leaves && rng.once_in(3) {
-                tally.add("taken up by another process", 1);
-                saved::taken_up(&self.call, &asks).unwrap_or_default()
-            } else {
-                ours::answers(&mut self.call.clone(), &asks)
-            };
-            tally.same(ours.len(), leg.len(), || "calls answered".to_string());
-            for (ours, planned) in ours.into_iter().zip(leg) {
-                let accepted = planned.right.refusal.number == 0;
-                finished |= matches!(planned.ask, Ask::Result(_)) && accepted;
-                if matches!(planned.ask, Ask::HandIn(_)) && accepted {
-                    stops.push(self.call.memory.clone());
-                }
-                self.call.memory = planned.right.memory.clone();
-                self.same(ours, planned, tally);
-            }
+        self.finish(rng, tally);
+        self.ends(tally);
+    }
+
+    pub fn finish(&mut self, rng: &mut Rng, tally: &mut Tally) {
+        while !self.finished {
+            self.go_on(rng, 8, tally);
         }
-        self.ends(&stops, tally);
+    }
+
+    /// Some calls of ours, `most` of them at most, here or in another process, each beside what is right.
+    pub fn go_on(&mut self, rng: &mut Rng, most: usize, tally: &mut Tally) {
+        if self.call.stage() != 2 && rng.once_in(3) {
+            // nobody looks there, and nobody writes
+            self.call.memory.least = nans(self.call.memory.least.len());
+        }
+        let leg = self.leg(rng, most);
+        let asks: Vec<Ask> = leg.iter().map(|planned| planned.ask.clone()).collect();
+        let ours = if self.leaves && rng.once_in(3) {
+            tally.add("taken up by another process", 1);
+            saved::taken_up(&self.call, &asks).unwrap_or_default()
+        } else {
+            ours::answers(&mut self.call.clone(), &asks)
+        };
+        tally.same(ours.len(), leg.len(), || "calls answered".to_string());
+        for (ours, planned) in ours.into_iter().zip(leg) {
+            let accepted = planned.right.refusal.number == 0;
+            self.finished |= matches!(planned.ask, Ask::Result(_)) && accepted;
+            if matches!(planned.ask, Ask::HandIn(_)) && accepted {
+                self.stops.push(self.call.memory.clone());
+            }
+            self.call.memory = planned.right.memory.clone();
+            self.same(ours, planned, tally);
+        }
+    }
+
+    /// Goes on from here with another job, of the same sizes: no whole run of the Rust's is to be compared then.
+    pub fn resume_on(&mut self, job: Job) {
+        self.steps = probed(job.weight).resume(&job, &self.steps.held());
+        self.call = Call { memory: self.call.memory.clone(), ..Call::of(&job) };
+        self.job = job;
     }
 
     /// Some calls from here on, as the scope and the Rust go on; the first of a run is start.
-    fn leg(&mut self, rng: &mut Rng) -> Vec<Planned> {
+    fn leg(&mut self, rng: &mut Rng, most: usize) -> Vec<Planned> {
         let mut call = self.call.clone();
         let mut leg = Vec::new();
-        for _ in 0..rng.among(1, 8) {
+        for _ in 0..rng.among(1, most) {
             let ask = self.next(rng, &call);
             let right = outcome(&call, &ask);
             let accepted = right.refusal.number == 0;
@@ -211,15 +230,15 @@ impl Whole {
     }
 
     /// What is seen at the stops and at the end, beside the Rust's whole run.
-    fn ends(&self, stops: &[Memory], tally: &mut Tally) {
+    fn ends(&self, tally: &mut Tally) {
         let handed = self.handed.clone();
         let reduce = Box::new(move |stop: usize, place: usize, _| handed[stop][place]);
         let Ran { stops: seen, result, hints } = rust(self.job.weight).run(&self.job, &self.hints, self.seed, reduce);
         let narrow = |hints: &[usize]| hints.iter().map(|&hint| hint as u32).collect::<Vec<_>>();
         let flat = |palette: terms::Palette| palette.into_iter().flatten().flatten().collect::<Vec<_>>();
         let shown = || format!("seed {:x}, {:?}", self.seed, self.job);
-        tally.same(stops.len(), seen.len(), shown);
-        for (ours, rusts) in stops.iter().zip(seen) {
+        tally.same(self.stops.len(), seen.len(), shown);
+        for (ours, rusts) in self.stops.iter().zip(seen) {
             let rusts = (flat(rusts.palette), narrow(&rusts.hints));
             tally.same((ours.palette.clone(), ours.hints.clone()), rusts, shown);
         }

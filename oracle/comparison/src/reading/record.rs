@@ -1,5 +1,7 @@
 //! The rules of docs/SCOPE.md for a run's record, and the number that a run's call gets, with its index.
 
+use terms::sizes_word;
+
 use crate::call::{Ask, Call};
 use crate::table::{self, Given, Refusal, unless};
 
@@ -25,9 +27,9 @@ pub fn waits(stage: u64) -> bool {
     matches!(stage, 3 | 5 | 6 | 7)
 }
 
-/// The record's rules, of a job that is accepted.
+/// The rules of the record's first six words, of a job that is accepted.
 fn passes(given: &Given, n: usize, record: &[u64]) -> bool {
-    let &[_, stage, rounds, left, made, error] = record else { return false };
+    let &[_, stage, rounds, left, made, error, _] = record else { return false };
     if stage > 7 {
         return false;
     }
@@ -56,7 +58,7 @@ fn of_job(call: &Call, ask: &Ask) -> Refusal {
         (2, &|| unless(table::sizes(given) && n <= 16_384)),
         (3, &|| unless(table::lengths(given) && call.samples.len() == 2 * n && memory.order.len() == n)),
         (3, &|| unless(memory.hints.len() == given.t && room(memory.palette.len()) && room(memory.least.len()))),
-        (3, &|| unless(memory.record.len() == 6 && ask.colours().is_none_or(|colours| room(colours.len())))),
+        (3, &|| unless(memory.record.len() == 7 && ask.colours().is_none_or(|colours| room(colours.len())))),
         (1, &|| unless(n != 0)),
         (4, &|| unless(table::weight(given.weight))),
         (5, &|| unless(table::table(given))),
@@ -72,6 +74,7 @@ fn of_memory(call: &Call, ask: &Ask) -> Refusal {
     // the second palette is looked at in stage 2 alone
     let second = if stage == 2 { &memory.least[..] } else { &[] };
     table::first(&[
+        (20, &|| unless(memory.record[6] == sizes_word(call.sizes()))),
         (10, &|| unless(passes(&call.given, n, &memory.record))),
         (16, &|| table::bad_colour(&[&memory.palette, second], 4.0)),
         (9, &|| unless(memory.order.iter().all(|&entry| (entry as usize) < n))),

@@ -1,6 +1,6 @@
 //! The run of docs/SCOPE.md, stage by stage, over the memory lent to its calls.
 
-use terms::{Colour, Tile};
+use terms::{Colour, Tile, sizes_word};
 
 use super::fits::{self, Present};
 use super::{draws, record, stages};
@@ -39,6 +39,7 @@ struct Run<'a> {
     left: u64,
     made: u64,
     error: u64,
+    sizes: u64,
 }
 
 impl<'a> Run<'a> {
@@ -56,6 +57,7 @@ impl<'a> Run<'a> {
             left: word(3),
             made: word(4),
             error: word(5),
+            sizes: word(6),
             order: memory.order,
             hints: memory.hints,
         }
@@ -67,12 +69,12 @@ impl<'a> Run<'a> {
             hints: self.hints,
             palette: self.palette.into_flattened(),
             least: self.least.into_flattened(),
-            record: vec![self.generator, self.stage, self.rounds, self.left, self.made, self.error],
+            record: vec![self.generator, self.stage, self.rounds, self.left, self.made, self.error, self.sizes],
         }
     }
 
     fn start(&mut self, seed: u64) {
-        (self.generator, self.made, self.error) = (seed, 0, 0);
+        (self.generator, self.made, self.error, self.sizes) = (seed, 0, 0, sizes_word(self.call.sizes()));
         self.order = draws::first_order(self.call.n, &mut self.generator);
         self.palette.fill([0.0; 3]);
         self.least.fill([0.0; 3]);

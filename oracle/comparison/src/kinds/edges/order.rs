@@ -45,6 +45,7 @@ fn of_hand_in() -> Vec<Fault<(Call, Ask)>> {
         (at(6, 0), |(call, _)| call.given.counts[5] = 0),
         (at(7, 5), |(call, _)| call.given.colours[17] = f32::NAN),
         (at(8, 0), |(call, _)| call.samples[0] = 2),
+        (at(20, 0), |(call, _)| call.memory.record[6] = 0),
         (at(10, 0), |(call, _)| call.memory.record[5] = 1),
         (at(16, 3), |(call, _)| call.memory.palette[9] = f32::NAN),
         (at(9, 0), |(call, _)| call.memory.order[19] = 20),

@@ -1,6 +1,6 @@
 //! Edges of a run's job and of the memory lent to it, through start, advance, hand-in and result.
 
-use terms::{Job, Sample};
+use terms::{Job, Sample, sizes_word};
 
 use super::{DONE, around, at, colours_in_all, component, counted, job, listed, tiles, weights};
 use crate::call::{Ask, Call};
@@ -33,7 +33,7 @@ pub fn standing(job: &Job, stage: u64) -> Call {
     }
     let left = round(&call.given, n, stage).0;
     let error = if stage == 2 { 1f32.to_bits().into() } else { 0 };
-    call.memory.record = vec![77, stage, 0, left, before(&call.given, n, stage), error];
+    call.memory.record = vec![77, stage, 0, left, before(&call.given, n, stage), error, sizes_word(job.sizes())];
     call
 }
 
