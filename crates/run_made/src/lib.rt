@@ -31,16 +31,16 @@ pub fn check_record(z: Sizes, r: Record) -> Refusal
     let ours = r.sizes == sizes;
     let placed = run_place::place_fits(z, r.stage, r.rounds, r.left);
     if !ours {
-        return answer::OTHER_SIZES;
+        return answer::OTHER_SIZES; // word 6
     }
     if !placed {
-        return answer::RECORD;
+        return answer::RECORD; // words 1 to 3
     }
     if r.made != made_by(z, r.stage, r.rounds, r.left) {
-        return answer::RECORD;
+        return answer::RECORD; // word 4
     }
     if !run_place::error_fits(r.stage, r.error) {
-        return answer::RECORD;
+        return answer::RECORD; // word 5
     }
     answer::DONE
 }
