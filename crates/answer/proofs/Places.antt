@@ -39,6 +39,18 @@ module _ (P : Refusal → Type 0) where
         let named = eqb (r .refusal .index) 0 && test (r .refusal .number) in
         rule-then r (rs ++ ss) (λ _. here r (and-l named (plain test rs) h)) (λ e. plain-then rs ss (and-r named (plain test rs) h) (λ p. later (e, p)))
 
+-- ---- a test that 0 and every rule's number pass is passed by the number that is answered
+abbrev pub numbers : (ℕ → Bool) → List Rule → Bool
+numbers test [] = true
+numbers test (r ∷ rs) = test (r .refusal .number) && numbers test rs
+
+pub number-passes : (test : ℕ → Bool) → test 0 ≡ true → (rs : List Rule) → numbers test rs ≡ true → test (answer rs .number) ≡ true
+unfolding answer
+number-passes test z [] h = z
+number-passes test z (r ∷ rs) h =
+    let here = test (r .refusal .number) in
+    rule-then (λ (e : Refusal). test (e .number) ≡ true) r rs (λ _. and-l here (numbers test rs) h) (λ _. number-passes test z rs (and-r here (numbers test rs) h))
+
 -- ---- a table of names: a number that it does not have names no entry
 abbrev pub aside : Table → ℕ → Bool
 aside [] n = true

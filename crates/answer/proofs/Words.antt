@@ -1,16 +1,16 @@
 -- A host's word taken apart: the remainder by 256 is the number, and the quotient the value. Assumes nothing.
 use Prim.Native.Nat.{ℕ, _+_, _*_, _/_, _%_, _<_}
-use mathlib.Core.Path.{_≡_, sym, ap, _∙_}
-use mathlib.Core.Bool.{Bool, true, false, cond, _&&_}
-use mathlib.Core.List.{List, [], _∷_}
+use mathlib.Core.Path.{_≡_, refl, sym, ap, _∙_}
+use mathlib.Core.Bool.{Bool, true}
+use mathlib.Core.List.{List}
 use native.Mathlib.Nat.{add-zero, mod-eq-of-lt, div-eq-of-lt, mul-add-mod-self-right, mul-add-div-right}
 use native.Mathlib.Omega.{arith}
 use lib.Dec.{ltb}
 use borrow.Author.Tests.{eq-eqb, ne-eqb, ltb-true}
-use Rattle.lists.proofs.Tests.{and-l, and-r}
 use Rattle.answer.specs.declared.Refusal.{Refusal}
 use Rattle.answer.specs.Rules.{Rule, answer}
 use Rattle.answer.specs.Words.{valueOf, word}
+use Rattle.answer.proofs.Places.{numbers, number-passes}
 
 -- what a host finds in a word
 pub record Apart (word number value : ℕ) : Type 0 where
@@ -32,15 +32,8 @@ pub word-refused : (e : Refusal) (value : ℕ) → (e .number ≡ 0 → ⊥) →
 word-refused e value h = rw (ne-eqb (e .number) 0 h)
 
 -- ---- an answer's number is a rule's, and each of these is below 256
-abbrev pub small : List Rule → Bool
-small [] = true
-small (r ∷ rs) = ltb (r .refusal .number) 256 && small rs
+abbrev pub below : ℕ → Bool
+below n = ltb n 256
 
-pub answer-small : (rs : List Rule) → small rs ≡ true → answer rs .number < 256
-unfolding answer
-answer-small [] h = omega arith
-answer-small (r ∷ rs) h = by (r .passed) (answer-small rs (and-r (ltb (r .refusal .number) 256) (small rs) h))
-  where
-    by : (b : Bool) → answer rs .number < 256 → cond b (answer rs) (r .refusal) .number < 256
-    by true rest = rest
-    by false rest = ltb-true (r .refusal .number) 256 (and-l (ltb (r .refusal .number) 256) (small rs) h)
+pub answer-small : (rs : List Rule) → numbers below rs ≡ true → answer rs .number < 256
+answer-small rs h = ltb-true (answer rs .number) 256 (number-passes below refl rs h)

@@ -9,11 +9,10 @@ use lib.Dec.{eqb}
 use lib.ListN.{getD}
 use lib.Ieee.{Float}
 use borrow.Author.Tests.{eq-eqb, eqb-true, not-true}
-use Rattle.lists.proofs.Tests.{and-l, and-r}
 use Rattle.answer.specs.declared.Refusal.{Refusal}
 use Rattle.answer.specs.Rules.{refusal, Rule, rule, answer, numbered}
 use Rattle.answer.proofs.Passing.{goes, skips, fails}
-use Rattle.answer.proofs.Places.{rule-then}
+use Rattle.answer.proofs.Places.{numbers, number-passes}
 use Rattle.job.specs.Gives.{Sampled}
 use Rattle.quantizer.specs.Course.{Course}
 use Rattle.run_stages.specs.Record.{packed, sizesWord, stateRules}
@@ -27,26 +26,18 @@ use Rattle.run_calls.proofs.Follow.{run-accepted}
 use Rattle.demands.specs.Neighbour.{Same-sizes, Told-apart, Resumed, Neighbour}
 
 -- ---- a number that no rule has is not answered
-abbrev missing : ℕ → List Rule → Bool
-missing k [] = true
-missing k (r ∷ rs) = not (eqb (r .refusal .number) k) && missing k rs
+abbrev other-than : ℕ → ℕ → Bool
+other-than k n = not (eqb n k)
 
-unlike : (k n : ℕ) → not (eqb n k) ≡ true → n ≢ k
-unlike k n h e = true≢false (sym (eq-eqb n k e) ∙ not-true (eqb n k) h)
-
-never-answered : (k : ℕ) → 0 ≢ k → (rs : List Rule) → missing k rs ≡ true → answer rs .number ≢ k
-unfolding answer
-never-answered k z [] h = z
-never-answered k z (r ∷ rs) h =
-    rule-then (λ (e : Refusal). e .number ≢ k) r rs (λ _. unlike k (r .refusal .number) (and-l _ (missing k rs) h))
-    (λ _. never-answered k z rs (and-r (not (eqb (r .refusal .number) k)) _ h))
+never-answered : (k : ℕ) → other-than k 0 ≡ true → (rs : List Rule) → numbers (other-than k) rs ≡ true → answer rs .number ≢ k
+never-answered k z rs h e = true≢false (sym (eq-eqb (answer rs .number) k e) ∙ not-true (eqb (answer rs .number) k) (number-passes (other-than k) z rs h))
 
 -- ---- the sizes are read off their word
 module _ (s c t n s2 c2 t2 n2 : ℕ) (c16 : c < 65536) (t16 : t < 65536) (n16 : n < 65536) (d16 : c2 < 65536) (u16 : t2 < 65536) (m16 : n2 < 65536)
     (e : packed s c t n ≡ packed s2 c2 t2 n2) where
-  apart : (s ≡ s2) × (c ≡ c2) × (t ≡ t2) × (n ≡ n2)
+  unpacked : (s ≡ s2) × (c ≡ c2) × (t ≡ t2) × (n ≡ n2)
   unfolding packed
-  apart = (omega (arith, e), omega (arith, e), omega (arith, e), omega (arith, e))
+  unpacked = (omega (arith, e), omega (arith, e), omega (arith, e), omega (arith, e))
 
 and-true : (a b : Bool) → b ≡ true → (a && b) ≡ a
 and-true true b h = h
@@ -56,7 +47,7 @@ module _ (K L : Course) (g h : Bool) (D : Sampled (K .job) (K .n) (K .samples) g
   read-off : sizesWord K ≡ sizesWord L → Same-sizes K L
   read-off e =
       let k = D .ready .sizes in let l = E .ready .sizes in
-      let same = apart (K .job .S) (K .job .C) (K .job .T) (K .n) (L .job .S) (L .job .C) (L .job .T) (L .n)
+      let same = unpacked (K .job .S) (K .job .C) (K .job .T) (K .n) (L .job .S) (L .job .C) (L .job .T) (L .n)
       (omega (arith, k .cap)) (omega (arith, k .tiles)) (omega (arith, D .few)) (omega (arith, l .cap)) (omega (arith, l .tiles)) (omega (arith, E .few)) e in
       record { subpalettes = same .0; colours = same .1; tiles = same .2; samples = same .3 }
 
@@ -64,14 +55,14 @@ module _ (K L : Course) (g h : Bool) (D : Sampled (K .job) (K .n) (K .samples) g
   same-word e = rw (e .subpalettes, e .colours, e .tiles, e .samples)
 
   -- the rule by itself, before rules with other numbers
-  told : (w : ℕ) → w ≡ sizesWord K → (rest : List Rule) → missing 20 rest ≡ true → Told-apart K L (answer (rule 20 (eqb w (sizesWord L)) ∷ rest))
+  told : (w : ℕ) → w ≡ sizesWord K → (rest : List Rule) → numbers (other-than 20) rest ≡ true → Told-apart K L (answer (rule 20 (eqb w (sizesWord L)) ∷ rest))
   told w q rest none =
       record {
         other = λ n. elim (decide (eqb w (sizesWord L))) [
           | inl t ↦ absurd (n (read-off (sym q ∙ eqb-true w (sizesWord L) t)))
           | inr f ↦ sym (fails (rule 20 (eqb w (sizesWord L))) rest f)
         ];
-        equal = λ same given. never-answered 20 (omega arith) rest none
+        equal = λ same given. never-answered 20 refl rest none
             (ap (λ (e : Refusal). e .number) (skips (rule 20 (eqb w (sizesWord L))) (answer rest) rest (eq-eqb w (sizesWord L) (q ∙ same-word same)) refl) ∙ given);
       }
 
@@ -81,7 +72,7 @@ module _ (K L : Course) (seed : ℕ) {m : Memory} {ds : List ℕ} (run : Run K s
   unfolding stateOf
   word-of = ap (λ (ws : List ℕ). getD ws 6 0) kept ∙ run-accepted K seed run .fit .sizes
 
-  behind : (room : Bool) → room ≡ memoryRoom L x → (rest : List Rule) → missing 20 rest ≡ true
+  behind : (room : Bool) → room ≡ memoryRoom L x → (rest : List Rule) → numbers (other-than 20) rest ≡ true
       → Told-apart K L (answer (jobRules L room ++ (rule 20 (eqb (getD (x .words) 6 0) (sizesWord L)) ∷ rest)))
   unfolding startAnswer numbered
   behind room e rest none =

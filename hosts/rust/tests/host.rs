@@ -33,6 +33,18 @@ impl Room {
     fn run(&self, words: &[&str]) -> Output {
         self.command(words).output().unwrap()
     }
+
+    /// The state is refused in these words, and left; no sheet is written.
+    fn refuses_state(&self, state: &[u8], words: &str) {
+        fs::write(self.file("run"), state).unwrap();
+        let said = self.run(&["in", "-o", "out", "--state", "run"]);
+        assert_eq!(
+            (said.status.code(), String::from_utf8(said.stderr).unwrap()),
+            (Some(3), format!("host: run: {words}\n"))
+        );
+        assert!(fs::read(self.file("run")).unwrap() == state);
+        assert!(!self.file("out").exists());
+    }
 }
 
 impl Drop for Room {
@@ -197,13 +209,10 @@ fn a_bad_state_s_colour_is_named() {
             let colours = bytes.len() - 56 - 12 * 32;
             bad.iter().for_each(|at| bytes[colours + 12 * at..][..4].copy_from_slice(&f32::NAN.to_le_bytes()));
         });
-        fs::write(room.file("run"), &bytes).unwrap();
-        let said = room.run(&["in", "-o", "out", "--state", "run"]);
-        let expected =
-            format!("host: run: refused 16: a working colour's component is too large or not finite: {words}\n");
-        assert_eq!((said.status.code(), String::from_utf8(said.stderr).unwrap()), (Some(3), expected));
-        assert!(fs::read(room.file("run")).unwrap() == bytes);
-        assert!(!room.file("out").exists());
+        room.refuses_state(
+            &bytes,
+            &format!("refused 16: a working colour's component is too large or not finite: {words}"),
+        );
     }
     fs::write(room.file("run"), state_of(&sheet, |_| {})).unwrap();
     assert!(room.run(&["in", "-o", "out", "--state", "run"]).status.success());
@@ -217,12 +226,7 @@ fn a_state_that_says_other_sizes_is_refused() {
     fs::write(room.file("in"), sheet.write().unwrap()).unwrap();
     for place in [2, 4, 6, 7] {
         let bytes = state_of(&sheet, |bytes| bytes[bytes.len() - place] ^= 1);
-        fs::write(room.file("run"), &bytes).unwrap();
-        let said = room.run(&["in", "-o", "out", "--state", "run"]);
-        let expected = "host: run: refused 20: the run's record belongs to a job of other sizes\n";
-        assert_eq!((said.status.code(), &*String::from_utf8(said.stderr).unwrap()), (Some(3), expected));
-        assert!(fs::read(room.file("run")).unwrap() == bytes);
-        assert!(!room.file("out").exists());
+        room.refuses_state(&bytes, "refused 20: the run's record belongs to a job of other sizes");
     }
 }
 
@@ -234,14 +238,8 @@ fn the_state_of_another_sheet_is_refused_whatever_its_sizes() {
     let mut equal = ours.clone();
     equal.weight = 1.0;
     for other in [equal, sheet(9, 4, 4), sheet(8, 4, 5)] {
-        let bytes = state_of(&ours, |_| {});
         fs::write(room.file("in"), other.write().unwrap()).unwrap();
-        fs::write(room.file("run"), &bytes).unwrap();
-        let said = room.run(&["in", "-o", "out", "--state", "run"]);
-        let expected = "host: run: it belongs to another job or another seed; it is left as it is\n";
-        assert_eq!((said.status.code(), &*String::from_utf8(said.stderr).unwrap()), (Some(3), expected));
-        assert!(fs::read(room.file("run")).unwrap() == bytes);
-        assert!(!room.file("out").exists());
+        room.refuses_state(&state_of(&ours, |_| {}), "it belongs to another job or another seed; it is left as it is");
     }
 }
 
