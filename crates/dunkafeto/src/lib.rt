@@ -13,6 +13,7 @@ ghost use Rattle.dunkafeto.specs.Told.{toldAdvance};
 // Starts a run, as `run_start::start`. It makes no draw.
 #[no_mangle]
 pub extern "C" fn dunkafeto_start(
+    size: usize,
     s: usize,
     c: usize,
     t: usize,
@@ -31,10 +32,10 @@ pub extern "C" fn dunkafeto_start(
 ) -> u64
     ensures { λ r. ⌜ outcome r (memory (now (order .exit)) (now (hints .exit)) (now (palette .exit)) (now (least .exit)) (now (words .exit)))
         ≡ told
-        (startCall (courseOf (sizesOf s c t n weight) (now (tiles .entry)) (now (colours .entry)) (now (counts .entry)) (now (samples .entry)))
+        (startCall (courseOf (sizesOf size s c t n weight) (now (tiles .entry)) (now (colours .entry)) (now (counts .entry)) (now (samples .entry)))
         (memory (now (order .entry)) (now (hints .entry)) (now (palette .entry)) (now (least .entry)) (now (words .entry))) seed) ⌝ }
 {
-    let z = job::sizes_of(s, c, t, n, weight);
+    let z = job::sizes_of(size, s, c, t, n, weight);
     let refusal = run_start::start(
         z,
         seed,
@@ -54,6 +55,7 @@ pub extern "C" fn dunkafeto_start(
 // Makes the draws of a run, at most `allotment`, as `run_advance::advance`.
 #[no_mangle]
 pub extern "C" fn dunkafeto_advance(
+    size: usize,
     s: usize,
     c: usize,
     t: usize,
@@ -72,10 +74,10 @@ pub extern "C" fn dunkafeto_advance(
 ) -> u64
     ensures { λ r. ⌜ outcome r (memory (now (order .exit)) (now (hints .exit)) (now (palette .exit)) (now (least .exit)) (now (words .exit)))
         ≡ toldAdvance
-        (advanceCall (courseOf (sizesOf s c t n weight) (now (tiles .entry)) (now (colours .entry)) (now (counts .entry)) (now (samples .entry)))
+        (advanceCall (courseOf (sizesOf size s c t n weight) (now (tiles .entry)) (now (colours .entry)) (now (counts .entry)) (now (samples .entry)))
         (memory (now (order .entry)) (now (hints .entry)) (now (palette .entry)) (now (least .entry)) (now (words .entry))) allotment) ⌝ }
 {
-    let z = job::sizes_of(s, c, t, n, weight);
+    let z = job::sizes_of(size, s, c, t, n, weight);
     let a = run_advance::advance(
         z,
         tiles,
@@ -96,6 +98,7 @@ pub extern "C" fn dunkafeto_advance(
 // Hands in reduced colours at a stop, as `run_hand_in::hand_in`. It makes no draw.
 #[no_mangle]
 pub extern "C" fn dunkafeto_hand_in(
+    size: usize,
     s: usize,
     c: usize,
     t: usize,
@@ -114,11 +117,11 @@ pub extern "C" fn dunkafeto_hand_in(
 ) -> u64
     ensures { λ r. ⌜ outcome r (memory (now (order .entry)) (now (hints .exit)) (now (palette .exit)) (now (least .entry)) (now (words .exit)))
         ≡ told
-        (handInCall (courseOf (sizesOf s c t n weight) (now (tiles .entry)) (now (colours .entry)) (now (counts .entry)) (now (samples .entry)))
+        (handInCall (courseOf (sizesOf size s c t n weight) (now (tiles .entry)) (now (colours .entry)) (now (counts .entry)) (now (samples .entry)))
         (memory (now (order .entry)) (now (hints .entry)) (now (palette .entry)) (now (least .entry)) (now (words .entry)))
         (now (reduced .entry))) ⌝ }
 {
-    let z = job::sizes_of(s, c, t, n, weight);
+    let z = job::sizes_of(size, s, c, t, n, weight);
     let refusal = run_hand_in::hand_in(
         z,
         tiles,
@@ -138,6 +141,7 @@ pub extern "C" fn dunkafeto_hand_in(
 // Copies the colours of a finished run to `out`, as `run_result::result`.
 #[no_mangle]
 pub extern "C" fn dunkafeto_result(
+    size: usize,
     s: usize,
     c: usize,
     t: usize,
@@ -156,10 +160,10 @@ pub extern "C" fn dunkafeto_result(
 ) -> u64
     ensures { λ r. ⌜ outcome r (now (out .exit))
         ≡ told
-        (resultCall (courseOf (sizesOf s c t n weight) (now (tiles .entry)) (now (colours .entry)) (now (counts .entry)) (now (samples .entry)))
+        (resultCall (courseOf (sizesOf size s c t n weight) (now (tiles .entry)) (now (colours .entry)) (now (counts .entry)) (now (samples .entry)))
         (memory (now (order .entry)) (now (hints .entry)) (now (palette .entry)) (now (least .entry)) (now (words .entry))) (now (out .entry))) ⌝ }
 {
-    let z = job::sizes_of(s, c, t, n, weight);
+    let z = job::sizes_of(size, s, c, t, n, weight);
     let refusal = run_result::result(
         z,
         tiles,
@@ -179,6 +183,7 @@ pub extern "C" fn dunkafeto_result(
 // For each tile the subpalette that fits it best, as `assign::assign`. It belongs to no run.
 #[no_mangle]
 pub extern "C" fn dunkafeto_assign(
+    size: usize,
     s: usize,
     c: usize,
     t: usize,
@@ -192,10 +197,10 @@ pub extern "C" fn dunkafeto_assign(
 ) -> u64
     ensures { λ r. ⌜ outcome r (tileMemory (now (hints .exit)) (now (out .exit)))
         ≡ told
-        (assignDef (jobOf (sizesOf s c t 0 weight) (now (tiles .entry)) (now (colours .entry)) (now (counts .entry))) (now (palette .entry))
+        (assignDef (jobOf (sizesOf size s c t 0 weight) (now (tiles .entry)) (now (colours .entry)) (now (counts .entry))) (now (palette .entry))
         (tileMemory (now (hints .entry)) (now (out .entry)))) ⌝ }
 {
-    let z = job::sizes_of(s, c, t, 0, weight);
+    let z = job::sizes_of(size, s, c, t, 0, weight);
     let refusal = assign::assign(z, tiles, colours, counts, palette, hints, out);
     answer::word(refusal, 0)
 }

@@ -6,11 +6,11 @@ use lib.ListN.{replicate}
 use lib.Ieee.{Float, nan, binary32, ofBits, toBits, le, neg}
 use Rattle.answer.specs.Rules.{refusal}
 use Rattle.answer.specs.Outcome.{outcome, decided}
-use Rattle.job.specs.Checks.{within}
+use Rattle.job.specs.Checks.{tileSized, within}
 use Rattle.group_pixels.specs.declared.Zero.the-variants.{Given, Absent}
 use Rattle.group_pixels.specs.Pixel.{isZero, kept, sameBytes, inGamut, sameBits, clash}
 use Rattle.group.specs.declared.Grouped.the-variants.{Done}
-use Rattle.group_refusal.specs.Refusal.{given, EntryRoom, entryRoom, some, firstOf, fault, lengthsFit, refusalWhere, groupAnswer}
+use Rattle.group_refusal.specs.Refusal.{given, EntryRoom, entryRoom, some, firstOf, fault, lengthsFit, pixelsFit, refusalWhere, groupAnswer}
 use Rattle.group.specs.Entries.{join, place, entries, indexes, bytesOf, oklabOf, countsOf, left}
 use Rattle.group.specs.Group.{grouping}
 
@@ -48,39 +48,48 @@ room n = entryRoom (replicate (4 * n) 9) (replicate (3 * n) nan) (replicate n 9)
 -- red, clear, blue, red: the clear pixel leaves its place, and the rest of the room stays as found
 pub two-entries : grouping 64 (given 4 (red ++ clear ++ blue ++ red) (half ++ outside ++ edge ++ half) Absent) (room 4)
     ≡ outcome (Done 2) (entryRoom (red ++ blue ++ replicate 8 9) (half ++ edge ++ replicate 6 nan) (2 ∷ 1 ∷ 9 ∷ 9 ∷ []) (0 ∷ 9 ∷ 1 ∷ 0 ∷ []))
-unfolding isZero kept sameBytes join place entries indexes bytesOf oklabOf countsOf left within inGamut sameBits clash some firstOf fault lengthsFit refusalWhere grouping decided le neg ofBits toBits
+unfolding isZero kept sameBytes join place entries indexes bytesOf oklabOf countsOf left within inGamut sameBits clash some firstOf fault lengthsFit tileSized pixelsFit refusalWhere grouping decided le neg ofBits toBits
 two-entries = refl
 
 -- with red as colour zero, blue alone is kept, whatever the Oklab of the others
 pub one-entry : grouping 64 (given 3 (red ++ blue ++ red) (half ++ half ++ other) (Given 255 0 0)) (room 3)
     ≡ outcome (Done 1) (entryRoom (blue ++ replicate 8 9) (half ++ replicate 6 nan) (1 ∷ 9 ∷ 9 ∷ []) (9 ∷ 0 ∷ 9 ∷ []))
-unfolding isZero kept sameBytes join place entries indexes bytesOf oklabOf countsOf left within inGamut sameBits clash some firstOf fault lengthsFit refusalWhere grouping decided le neg ofBits toBits
+unfolding isZero kept sameBytes join place entries indexes bytesOf oklabOf countsOf left within inGamut sameBits clash some firstOf fault lengthsFit tileSized pixelsFit refusalWhere grouping decided le neg ofBits toBits
 one-entry = refl
 
 -- no pixel is accepted
 pub none : grouping 64 (given 0 [] [] Absent) (room 0) ≡ outcome (Done 0) (room 0)
-unfolding entries indexes bytesOf oklabOf countsOf left firstOf lengthsFit refusalWhere grouping decided
+unfolding entries indexes bytesOf oklabOf countsOf left firstOf lengthsFit tileSized pixelsFit refusalWhere grouping decided
 none = refl
 
+-- one pixel more than the tile size allows, and a size that there is not
 pub too-many : groupAnswer 64 (given 65 [] [] Absent) (room 65) ≡ refusal 2 0
-unfolding refusalWhere
+unfolding tileSized pixelsFit refusalWhere
 too-many = refl
 
+pub too-many-for-large : groupAnswer 256 (given 257 [] [] Absent) (room 257) ≡ refusal 2 0
+unfolding tileSized pixelsFit refusalWhere
+too-many-for-large = refl
+
+pub no-such-size : groupAnswer 128 (given 0 [] [] Absent) (room 0) ≡ refusal 2 0
+unfolding tileSized pixelsFit refusalWhere
+no-such-size = refl
+
 pub too-short : groupAnswer 64 (given 1 red half Absent) (room 0) ≡ refusal 3 0
-unfolding lengthsFit refusalWhere
+unfolding lengthsFit tileSized pixelsFit refusalWhere
 too-short = refl
 
 -- 0 and -0 are different bits
 pub other-bits : groupAnswer 64 (given 2 (red ++ red) (half ++ other) Absent) (room 2) ≡ refusal 14 0
-unfolding isZero kept sameBytes within inGamut sameBits clash some firstOf fault lengthsFit refusalWhere le neg ofBits toBits
+unfolding isZero kept sameBytes within inGamut sameBits clash some firstOf fault lengthsFit tileSized pixelsFit refusalWhere le neg ofBits toBits
 other-bits = refl
 
 -- the pixel that is outside differs from the first as well: 7 comes before 14, and names it
 pub seven-first : groupAnswer 64 (given 2 (red ++ red) (half ++ outside) Absent) (room 2) ≡ refusal 7 1
-unfolding isZero kept sameBytes within inGamut sameBits clash some firstOf fault lengthsFit refusalWhere le neg ofBits toBits
+unfolding isZero kept sameBytes within inGamut sameBits clash some firstOf fault lengthsFit tileSized pixelsFit refusalWhere le neg ofBits toBits
 seven-first = refl
 
 -- of three that are outside the clear one is not looked at, and the first of the others is named
 pub first-named : groupAnswer 64 (given 4 (red ++ clear ++ blue ++ red) (half ++ outside ++ outside ++ outside) Absent) (room 4) ≡ refusal 7 2
-unfolding isZero kept sameBytes within inGamut sameBits clash some firstOf fault lengthsFit refusalWhere le neg ofBits toBits
+unfolding isZero kept sameBytes within inGamut sameBits clash some firstOf fault lengthsFit tileSized pixelsFit refusalWhere le neg ofBits toBits
 first-named = refl

@@ -7,7 +7,6 @@ ghost use Prim.Native.Nat.{_*_, _≤_, _<_};
 ghost use lib.ListN.{length};
 ghost use Rattle.answer.specs.Outcome.{outcome};
 ghost use Rattle.group_refusal.specs.Refusal.{entryRoom, given, sized};
-ghost use Rattle.job.specs.Job.{tileSize};
 ghost use Rattle.group.specs.Turn.{seek, filled, turn, PixelRoom};
 ghost use Rattle.group.specs.Entries.{fillTo};
 ghost use Rattle.group.specs.Group.{grouping};
@@ -99,8 +98,10 @@ pub enum Grouped {
     Refused(Refusal),
 }
 
-// Groups p pixels, four bytes and three numbers of Oklab each, into the lent room: 4p bytes, 3p numbers, p counts, p indexes.
+// Groups the p pixels of a tile of at most `size`, four bytes and three numbers of Oklab each, into the lent room: 4p bytes, 3p numbers,
+// p counts, p indexes.
 pub fn group(
+    size: usize,
     p: usize,
     pixels: &[u8],
     oklab: &[f32],
@@ -111,10 +112,10 @@ pub fn group(
     index: &mut [u32],
 ) -> Grouped
     ensures { λ r. ⌜ outcome r (entryRoom (now («entry_bytes» .exit)) (now («entry_oklab» .exit)) (now («entry_counts» .exit)) (now (index .exit)))
-        ≡ grouping tileSize (given p (now (pixels .entry)) (now (oklab .entry)) zero) (entryRoom (now («entry_bytes» .entry)) (now («entry_oklab» .entry)) (now («entry_counts» .entry)) (now (index .entry))) ⌝ }
+        ≡ grouping size (given p (now (pixels .entry)) (now (oklab .entry)) zero) (entryRoom (now («entry_bytes» .entry)) (now («entry_oklab» .entry)) (now («entry_counts» .entry)) (now (index .entry))) ⌝ }
 {
     let e = group_refusal::refuses(
-        job::TILE_SIZE,
+        size,
         p,
         pixels,
         oklab,

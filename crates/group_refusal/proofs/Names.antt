@@ -3,7 +3,7 @@ use Prim.Native.Nat.{ℕ, zero, suc, _+_, _<_}
 use mathlib.Core.Path.{_≡_, refl}
 use mathlib.Core.Bool.{Bool, true, false, cond}
 use native.Mathlib.Omega.{arith}
-use lib.Dec.{eqb, ltb}
+use lib.Dec.{eqb}
 use borrow.Author.Count.{below-none, below-more}
 use borrow.Author.Tests.{eqb-true, eqb-false}
 use Rattle.color.specs.Color.{colourAt}
@@ -13,7 +13,7 @@ use Rattle.answer.specs.Names.{Names}
 use Rattle.answer.proofs.Places.{aside-names}
 use Rattle.group_pixels.specs.Pixel.{rgbaAt, kept, inGamut}
 use Rattle.group_refusal.specs.Faults.{firstOf, clashes, fault}
-use Rattle.group_refusal.specs.Refusal.{Pixels, EntryRoom, refusalWhere, groupAnswer, pixelNames}
+use Rattle.group_refusal.specs.Refusal.{Pixels, EntryRoom, pixelsFit, refusalWhere, groupAnswer, pixelNames}
 
 -- ---- whatever holds of nothing and of the first fault holds of the search
 abbrev Clear : (ℕ → Refusal) → ℕ → Type 0
@@ -36,12 +36,12 @@ module _ (P : Refusal → Type 0) (f : ℕ → Refusal) (p : ℕ) (found : (k : 
 answer-by : (P : Refusal → Type 0) (size : ℕ) (q : Pixels) (fits : Bool)
     → P (refusal 2 0) → P (refusal 3 0) → P (firstOf (fault (q .bytes) (q .oklab) (q .zero)) 0 (q .p)) → P (refusalWhere size q fits)
 unfolding refusalWhere
-answer-by P size q fits two three first = by (ltb size (q .p)) fits
+answer-by P size q fits two three first = by (pixelsFit size (q .p)) fits
   where
-    by : (a b : Bool) → P (cond a (refusal 2 0) (cond b (firstOf (fault (q .bytes) (q .oklab) (q .zero)) 0 (q .p)) (refusal 3 0)))
-    by true b = two
-    by false true = first
-    by false false = three
+    by : (a b : Bool) → P (cond a (cond b (firstOf (fault (q .bytes) (q .oklab) (q .zero)) 0 (q .p)) (refusal 3 0)) (refusal 2 0))
+    by true true = first
+    by true false = three
+    by false b = two
 
 -- ---- the pixel that is named
 fault-names : (q : Pixels) (k : ℕ) → k < q .p → Clear (fault (q .bytes) (q .oklab) (q .zero)) k → Names (pixelNames q) (fault (q .bytes) (q .oklab) (q .zero) k)

@@ -3,26 +3,32 @@ use Prim.Native.Nat.{ℕ, _*_, _<_, _≤_}
 use mathlib.Core.Path.{_≡_}
 use mathlib.Core.Bool.{Bool, true, false, _&&_}
 use lib.Dec.{eqb}
-use borrow.Author.Tests.{eqb-true, lt-ltb, le-ltb}
+use borrow.Author.Tests.{eqb-true, lt-leb, le-leb}
 use Rattle.lists.proofs.Tests.{and-l, and-r}
 use Rattle.answer.specs.declared.Refusal.{Refusal}
 use Rattle.answer.specs.Rules.{refusal}
+use Rattle.job.specs.Checks.{tileSized}
 use Rattle.group_refusal.specs.Faults.{firstOf, fault}
-use Rattle.group_refusal.specs.Refusal.{Pixels, lengthsFit, refusalWhere}
+use Rattle.group_refusal.specs.Refusal.{Pixels, lengthsFit, pixelsFit, refusalWhere}
 
 -- ---- the refusal
 module _ (size : ℕ) (q : Pixels) (fits : Bool) where
-  pub too-many : size < q .p → refusal 2 0 ≡ refusalWhere size q fits
-  unfolding refusalWhere
-  too-many h = rw (lt-ltb size (q .p) h)
+  pub no-size : tileSized size ≡ false → refusal 2 0 ≡ refusalWhere size q fits
+  unfolding refusalWhere pixelsFit
+  no-size h = rw h
 
-  pub misfit : q .p ≤ size → fits ≡ false → refusal 3 0 ≡ refusalWhere size q fits
-  unfolding refusalWhere
-  misfit h e = rw (le-ltb size (q .p) h, e)
+  module _ (sized : tileSized size ≡ true) where
+    pub too-many : size < q .p → refusal 2 0 ≡ refusalWhere size q fits
+    unfolding refusalWhere pixelsFit
+    too-many h = rw (sized, lt-leb (q .p) size h)
 
-  pub fitting : q .p ≤ size → fits ≡ true → (v : Refusal) → v ≡ firstOf (fault (q .bytes) (q .oklab) (q .zero)) 0 (q .p) → v ≡ refusalWhere size q fits
-  unfolding refusalWhere
-  fitting h e v f = rw (le-ltb size (q .p) h, e) f
+    pub misfit : q .p ≤ size → fits ≡ false → refusal 3 0 ≡ refusalWhere size q fits
+    unfolding refusalWhere pixelsFit
+    misfit h e = rw (sized, le-leb (q .p) size h, e)
+
+    pub fitting : q .p ≤ size → fits ≡ true → (v : Refusal) → v ≡ firstOf (fault (q .bytes) (q .oklab) (q .zero)) 0 (q .p) → v ≡ refusalWhere size q fits
+    unfolding refusalWhere pixelsFit
+    fitting h e v f = rw (sized, le-leb (q .p) size h, e) f
 
 -- ---- the lengths
 both : (a b : Bool) → a && b ≡ true → (a ≡ true) × (b ≡ true)

@@ -1,16 +1,17 @@
--- What grouping refuses, for tiles of at most `size` pixels: 2, 3, then pixel by pixel 7, with the pixel's index, before 14.
+-- What grouping refuses, for tiles of at most `size` pixels: 2 for another size than there is or more pixels, 3, then pixel by pixel 7, with the pixel's index, before 14.
 -- Definitions only. Assumes nothing.
 use Prim.Native.Nat.{ℕ, _*_, _<_}
 use mathlib.Core.Path.{_≡_}
 use mathlib.Core.Bool.{Bool, true, false, _&&_, cond}
 use mathlib.Core.List.{List, [], _∷_}
-use lib.Dec.{eqb, ltb}
+use lib.Dec.{eqb, leb}
 use lib.ListN.{length}
 use lib.Ieee.{Float}
 use Rattle.answer.specs.declared.Refusal.{Refusal}
 use Rattle.answer.specs.Names.{Table}
 use Rattle.answer.specs.Rules.{refusal}
 use Rattle.color.specs.Color.{colourAt}
+use Rattle.job.specs.Checks.{tileSized}
 use Rattle.group_pixels.specs.declared.Zero.{Zero}
 use Rattle.group_pixels.specs.Pixel.{rgbaAt, kept, inGamut}
 unfoldable pub use Rattle.group_refusal.specs.Faults.{some, firstOf, fault}
@@ -45,9 +46,13 @@ lengthsFit p bytes oklab entryBytes entryOklab counts index =
 abbrev pub sized : Pixels → EntryRoom → Bool
 sized q m = lengthsFit (q .p) (length (q .bytes)) (length (q .oklab)) (length (m .bytes)) (length (m .oklab)) (length (m .counts)) (length (m .index))
 
+-- p pixels are no more than the tile size allows, which is one of those that there are
+unfoldable pub pixelsFit : ℕ → ℕ → Bool
+pixelsFit size p = tileSized size && leb p size
+
 -- nothing, or the refusal: 2, 3, then pixel by pixel
 unfoldable pub refusalWhere : ℕ → Pixels → Bool → Refusal
-refusalWhere size q fits = cond (ltb size (q .p)) (refusal 2 0) (cond fits (firstOf (fault (q .bytes) (q .oklab) (q .zero)) 0 (q .p)) (refusal 3 0))
+refusalWhere size q fits = cond (pixelsFit size (q .p)) (cond fits (firstOf (fault (q .bytes) (q .oklab) (q .zero)) 0 (q .p)) (refusal 3 0)) (refusal 2 0)
 
 abbrev pub groupAnswer : ℕ → Pixels → EntryRoom → Refusal
 groupAnswer size q m = refusalWhere size q (sized q m)

@@ -102,9 +102,11 @@ pub fn refuses(
     entry_counts: usize,
     index: usize,
 ) -> Refusal
-    requires { ⌜ size < 4294967296 ⌝ }
     ensures { λ r. ⌜ r ≡ refusalWhere size (given p (now (pixels .entry)) (now (oklab .entry)) zero) (lengthsFit p (length (now (pixels .entry))) (length (now (oklab .entry))) «entry_bytes» «entry_oklab» «entry_counts» index) ⌝ }
 {
+    if !job::is_tile_size(size) {
+        return answer::SIZES;
+    }
     if p > size {
         return answer::SIZES;
     }

@@ -1,7 +1,8 @@
 -- An answer of 0 gives the records of Gives.antt, which this passes on with the laws. Assumes nothing.
 use Prim.Native.Nat.{ℕ, zero, suc, _+_, _*_, _≤_, _<_}
 use mathlib.Core.Path.{_≡_, refl, sym, ap, _∙_}
-use mathlib.Core.Bool.{Bool, true, false, _&&_, true≢false}
+use mathlib.Core.Bool.{Bool, true, false, _&&_, _||_, true≢false}
+use mathlib.Core.Logic.{_⊎_, inl, inr}
 use mathlib.Core.List.{List}
 use native.Mathlib.Omega.{arith}
 use native.Mathlib.Nat.{mul-le-mul}
@@ -22,19 +23,35 @@ use Rattle.job.proofs.First.{none-first}
 use Rattle.answer.specs.declared.Refusal.{Refusal}
 use Rattle.answer.specs.Rules.{Passed, answer, numbered}
 use Rattle.answer.proofs.Passing.{all-pass}
-use Rattle.job.specs.Job.{Job, tileSize, firstOf, sizeOf, countsPart, countsOf, mostSubpalettes, mostColours, mostTiles, mostTileColours, mostSamples, nought, two, sixteen}
+use Rattle.job.specs.Job.{Job, smallTile, largeTile, mostTileSize, firstOf, sizeOf, countsPart, countsOf, mostSubpalettes, mostColours, mostTiles, mostTileColours, mostSamples, nought, two, sixteen}
 use Rattle.job.specs.Checks.{firstNot, tileSized, among, within, weightFits, tileTest, tileFits, tilesFit, countTest, countFits, partFits, tileCountsFit, countsFit}
 use Rattle.job.specs.Checks.{componentFits, firstBad, componentsFit, sampleTest, sampleFits, samplesFit, sizeRules, shapeRules, tables, plainRules, sampledRules, plainAnswer, sampledAnswer}
 use Rattle.job.specs.Gives.{InRange, Ready, Plain, Sampled}
 
 -- ---- numbers
+-- the sizes that there are, one by one, and their bound
+pub tile-sizes : (size : ℕ) → tileSized size ≡ true → (size ≡ smallTile) ⊎ (size ≡ largeTile)
+unfolding tileSized
+tile-sizes size h = by (eqb size smallTile) refl
+  where
+    by : (b : Bool) → eqb size smallTile ≡ b → (size ≡ smallTile) ⊎ (size ≡ largeTile)
+    by true e = inl (eqb-true size smallTile e)
+    by false e = inr (eqb-true size largeTile (sym (ap (λ (b : Bool). b || eqb size largeTile) e) ∙ h))
+
+pub tile-bound : (size : ℕ) → tileSized size ≡ true → size ≤ mostTileSize
+tile-bound size h = by (tile-sizes size h)
+  where
+    by : (size ≡ smallTile) ⊎ (size ≡ largeTile) → size ≤ mostTileSize
+    by (inl e) = omega arith
+    by (inr e) = omega arith
+
 sizes-ready : (size s c t : ℕ) → Passed (sizeRules size s c t) → InRange size s c t
-unfolding among tileSized
+unfolding among
 sizes-ready size s c t (y, p) =
     let few : s ≤ mostSubpalettes = leb-true s mostSubpalettes (and-r (leb 1 s) (leb s mostSubpalettes) (p .0)) in
     let cap : c ≤ mostColours = leb-true c mostColours (and-r (leb 1 c) (leb c mostColours) (p .1 .0)) in
     record {
-      small = let e = eqb-true size tileSize y in omega arith;
+      small = tile-bound size y;
       subs = leb-true 1 s (and-l (leb 1 s) (leb s mostSubpalettes) (p .0));
       few = few;
       some = leb-true 1 c (and-l (leb 1 c) (leb c mostColours) (p .1 .0));

@@ -1,6 +1,6 @@
 -- The rules that a job is held to, in their order. Definitions only. Assumes nothing.
 use Prim.Native.Nat.{ℕ, zero, suc, _+_, _*_, _/_}
-use mathlib.Core.Bool.{Bool, cond, _&&_}
+use mathlib.Core.Bool.{Bool, cond, _&&_, _||_}
 use mathlib.Core.List.{List, [], _∷_, _++_}
 use lib.Dec.{eqb, ltb, leb}
 use lib.ListN.{length, getD}
@@ -8,12 +8,12 @@ use lib.Ieee.{Float, nan, lt, le, neg}
 use Rattle.lists.specs.Every.{every, sum}
 use Rattle.answer.specs.declared.Refusal.{Refusal}
 use Rattle.answer.specs.Rules.{Rule, ruleAt, rule, answer}
-use Rattle.job.specs.Job.{Job, tileSize, firstOf, sizeOf, countsPart, mostSubpalettes, mostColours, mostTiles, mostTileColours, mostSamples, nought, two, sixteen}
+use Rattle.job.specs.Job.{Job, smallTile, largeTile, firstOf, sizeOf, countsPart, mostSubpalettes, mostColours, mostTiles, mostTileColours, mostSamples, nought, two, sixteen}
 
 -- ---- numbers
 -- the tile sizes that there are
 unfoldable pub tileSized : ℕ → Bool
-tileSized size = eqb size tileSize
+tileSized size = eqb size smallTile || eqb size largeTile
 
 unfoldable pub among : ℕ → ℕ → Bool
 among x most = leb 1 x && leb x most

@@ -22,13 +22,9 @@ pub record Job : Type 0 where
 abbrev pub job : ℕ → ℕ → ℕ → ℕ → Float → List ℕ → List Float → List ℕ → Job
 job size s c t weight tiles colours counts = record { size = size; S = s; C = c; T = t; weight = weight; tiles = tiles; colours = colours; counts = counts }
 
--- the pixels of a tile
-abbrev pub tileSize : ℕ
-tileSize = 64
-
--- the numbers of a call on tiles of 64 pixels
-abbrev pub sizesOf : ℕ → ℕ → ℕ → ℕ → Float → Sizes
-sizesOf s c t n weight = record { size = tileSize; s = s; c = c; t = t; n = n; weight = weight }
+-- the numbers of a call, one by one
+abbrev pub sizesOf : ℕ → ℕ → ℕ → ℕ → ℕ → Float → Sizes
+sizesOf size s c t n weight = record { size = size; s = s; c = c; t = t; n = n; weight = weight }
 
 -- the job that a call's numbers and lists make
 abbrev pub jobOf : Sizes → List ℕ → List Float → List ℕ → Job
@@ -64,9 +60,16 @@ pub record Inside (per : ℕ) (tiles : List ℕ) (t length·part : ℕ) : Type 0
   pub inside : per * (firstOf tiles t + sizeOf tiles t) ≤ length·part
 
 -- ---- limits
--- of a tile's pixels, whatever tile sizes pass
+-- a tile's pixels: 8 by 8, or 16 by 16
+abbrev pub smallTile : ℕ
+smallTile = 64
+
+abbrev pub largeTile : ℕ
+largeTile = 256
+
+-- whatever its size
 abbrev pub mostTileSize : ℕ
-mostTileSize = 256
+mostTileSize = largeTile
 
 abbrev pub mostSubpalettes : ℕ
 mostSubpalettes = 16

@@ -6,7 +6,7 @@ ghost use lib.Dec.{eqb};
 ghost use lib.ListN.{length};
 ghost use Rattle.answer.specs.Rules.{answer};
 ghost use Rattle.job.specs.Job.{sizesOf, firstOf, sizeOf, coloursPart, countsPart, Inside, mostSubpalettes, mostColours};
-ghost use Rattle.job.specs.Checks.{within, firstBad, colourRule};
+ghost use Rattle.job.specs.Checks.{tileSized, within, firstBad, colourRule};
 use answer::Refusal;
 
 // The numbers of a call, by value: how many pixels a tile has at most, subpalettes, colours in each, tiles, samples (0 where none are
@@ -20,15 +20,26 @@ pub struct Sizes {
     pub weight: f32,
 }
 
-// The pixels of a tile, at most.
-pub const TILE_SIZE: usize = 64;
+// A tile's pixels, at most: 8 by 8, or 16 by 16.
+pub const SMALL_TILE: usize = 64;
 
-// The numbers of a call on tiles of 64 pixels: what exports and programs begin with.
-pub fn sizes_of(s: usize, c: usize, t: usize, n: usize, weight: f32) -> Sizes
-    ensures { λ r. ⌜ r ≡ sizesOf s c t n weight ⌝ }
+pub const LARGE_TILE: usize = 256;
+
+pub fn is_tile_size(x: usize) -> bool
+    ensures { λ r. ⌜ r ≡ tileSized x ⌝ }
+{
+    if x == SMALL_TILE {
+        return true;
+    }
+    x == LARGE_TILE
+}
+
+// The numbers of a call, as exports and programs have them one by one.
+pub fn sizes_of(size: usize, s: usize, c: usize, t: usize, n: usize, weight: f32) -> Sizes
+    ensures { λ r. ⌜ r ≡ sizesOf size s c t n weight ⌝ }
 {
     Sizes {
-        size: TILE_SIZE,
+        size,
         s,
         c,
         t,

@@ -3,7 +3,7 @@
 ghost use mathlib.Core.Path.{_≡_};
 ghost use Prim.Native.Nat.{_*_, _≤_};
 ghost use Rattle.answer.specs.Rules.{answer};
-ghost use Rattle.job.specs.Checks.{tileSized, among, weightFits, sizeRules, shapeRules, boundRules};
+ghost use Rattle.job.specs.Checks.{among, weightFits, sizeRules, shapeRules, boundRules};
 ghost use Rattle.job.specs.Job.{mostTiles, mostSubpalettes, mostColours};
 use answer::Refusal;
 use job::Sizes;
@@ -26,13 +26,6 @@ pub fn is_among(x: usize, most: usize) -> bool
     false
 }
 
-// The pixels that a tile may have.
-pub fn is_tile_size(x: usize) -> bool
-    ensures { λ r. ⌜ r ≡ tileSized x ⌝ }
-{
-    x == job::TILE_SIZE
-}
-
 pub fn weight_fits(w: f32) -> bool
     ensures { λ r. ⌜ r ≡ weightFits w ⌝ }
 {
@@ -46,7 +39,7 @@ pub fn weight_fits(w: f32) -> bool
 pub fn check_sizes(z: Sizes) -> Refusal
     ensures { λ r. ⌜ r ≡ answer (sizeRules (z .size) (z .s) (z .c) (z .t)) ⌝ }
 {
-    if !is_tile_size(z.size) {
+    if !job::is_tile_size(z.size) {
         return answer::SIZES;
     }
     if !is_among(z.s, MOST_SUBPALETTES) {

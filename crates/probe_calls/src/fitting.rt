@@ -5,6 +5,7 @@ use fits_outcome::Single;
 
 #[no_mangle]
 pub extern "C" fn probe_single_fit(
+    size: usize,
     s: usize,
     c: usize,
     t: usize,
@@ -18,7 +19,7 @@ pub extern "C" fn probe_single_fit(
     dist: &mut f32,
     fault: &mut usize,
 ) -> u32 {
-    let z = job::sizes_of(s, c, t, 0, weight);
+    let z = job::sizes_of(size, s, c, t, 0, weight);
     match fits::single_fit(z, tiles, colours, counts, palette, hints) {
         Single::Best(near) => {
             *index = near.index;
@@ -34,6 +35,7 @@ pub extern "C" fn probe_single_fit(
 
 #[no_mangle]
 pub extern "C" fn probe_public_best_two(
+    size: usize,
     s: usize,
     c: usize,
     t: usize,
@@ -49,7 +51,7 @@ pub extern "C" fn probe_public_best_two(
     second: &mut f32,
     fault: &mut usize,
 ) -> u32 {
-    let z = job::sizes_of(s, c, t, 0, weight);
+    let z = job::sizes_of(size, s, c, t, 0, weight);
     match fits_two::best_two(z, tiles, colours, counts, palette, hints) {
         Pair::Best(two) => {
             *index = two.index;

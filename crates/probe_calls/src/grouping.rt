@@ -12,6 +12,7 @@ fn zero_of(given: bool, r: u8, g: u8, b: u8) -> Zero {
 // Gives the number, in `entries` how many were written, and in `fault` the index of a refusal.
 #[no_mangle]
 pub extern "C" fn probe_group(
+    size: usize,
     p: usize,
     pixels: &[u8],
     oklab: &[f32],
@@ -28,6 +29,7 @@ pub extern "C" fn probe_group(
 ) -> u32 {
     let zero = zero_of(given, r, g, b);
     match group::group(
+        size,
         p,
         pixels,
         oklab,

@@ -8,6 +8,7 @@ ghost use Rattle.quantizer_needs.specs.Asked.{Growing};
 
 #[no_mangle]
 pub extern "C" fn probe_mse(
+    size: usize,
     s: usize,
     c: usize,
     t: usize,
@@ -20,10 +21,10 @@ pub extern "C" fn probe_mse(
     have: usize,
     hints: &mut [u32],
 ) -> f32
-    requires { ⌜ Shown (jobOf (sizesOf s c t 0 weight) (now tiles) (now colours) (now counts)) (now pal) n have × (length (now hints) ≡ t) ⌝ }
+    requires { ⌜ Shown (jobOf (sizesOf size s c t 0 weight) (now tiles) (now colours) (now counts)) (now pal) n have × (length (now hints) ≡ t) ⌝ }
 {
     let z = Sizes {
-        size: job::TILE_SIZE,
+        size,
         s,
         c,
         t,
@@ -35,6 +36,7 @@ pub extern "C" fn probe_mse(
 
 #[no_mangle]
 pub extern "C" fn probe_grow(
+    size: usize,
     s: usize,
     c: usize,
     t: usize,
@@ -46,10 +48,10 @@ pub extern "C" fn probe_grow(
     have: usize,
     hints: &mut [u32],
 )
-    requires { ⌜ Growing (jobOf (sizesOf s c t 0 weight) (now tiles) (now colours) (now counts)) (now pal) have (now hints) ⌝ }
+    requires { ⌜ Growing (jobOf (sizesOf size s c t 0 weight) (now tiles) (now colours) (now counts)) (now pal) have (now hints) ⌝ }
 {
     let z = Sizes {
-        size: job::TILE_SIZE,
+        size,
         s,
         c,
         t,
@@ -61,6 +63,7 @@ pub extern "C" fn probe_grow(
 
 #[no_mangle]
 pub extern "C" fn probe_replace_weakest(
+    size: usize,
     s: usize,
     c: usize,
     t: usize,
@@ -71,10 +74,10 @@ pub extern "C" fn probe_replace_weakest(
     pal: &mut [f32],
     hints: &mut [u32],
 )
-    requires { ⌜ Shown (jobOf (sizesOf s c t 0 weight) (now tiles) (now colours) (now counts)) (now pal) s c × (length (now hints) ≡ t) ⌝ }
+    requires { ⌜ Shown (jobOf (sizesOf size s c t 0 weight) (now tiles) (now colours) (now counts)) (now pal) s c × (length (now hints) ≡ t) ⌝ }
 {
     let z = Sizes {
-        size: job::TILE_SIZE,
+        size,
         s,
         c,
         t,
@@ -86,6 +89,7 @@ pub extern "C" fn probe_replace_weakest(
 
 #[no_mangle]
 pub extern "C" fn probe_refine(
+    size: usize,
     s: usize,
     c: usize,
     t: usize,
@@ -96,10 +100,10 @@ pub extern "C" fn probe_refine(
     pal: &mut [f32],
     hints: &mut [u32],
 )
-    requires { ⌜ Shown (jobOf (sizesOf s c t 0 weight) (now tiles) (now colours) (now counts)) (now pal) s c × (length (now hints) ≡ t) ⌝ }
+    requires { ⌜ Shown (jobOf (sizesOf size s c t 0 weight) (now tiles) (now colours) (now counts)) (now pal) s c × (length (now hints) ≡ t) ⌝ }
 {
     let z = Sizes {
-        size: job::TILE_SIZE,
+        size,
         s,
         c,
         t,

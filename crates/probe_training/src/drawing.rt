@@ -11,6 +11,7 @@ use prng::Prng;
 // Gives the generator's state after the draw.
 #[no_mangle]
 pub extern "C" fn probe_draw(
+    size: usize,
     s: usize,
     c: usize,
     t: usize,
@@ -29,12 +30,12 @@ pub extern "C" fn probe_draw(
     hints: &mut [u32],
     alpha: f32,
 ) -> u64
-    requires { ⌜ Going (courseOf (sizesOf s c t n weight) (now tiles) (now colours) (now counts) (now samples)) (cycle (deck (now order) state) made) (now pal) subs have (now hints) ⌝ }
+    requires { ⌜ Going (courseOf (sizesOf size s c t n weight) (now tiles) (now colours) (now counts) (now samples)) (cycle (deck (now order) state) made) (now pal) subs have (now hints) ⌝ }
 {
     let prng = Prng { state };
     let at = SampleCycle { prng, made };
     let z = Sizes {
-        size: job::TILE_SIZE,
+        size,
         s,
         c,
         t,

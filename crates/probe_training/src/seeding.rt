@@ -26,6 +26,7 @@ pub extern "C" fn probe_mean(
 
 #[no_mangle]
 pub extern "C" fn probe_seed(
+    size: usize,
     s: usize,
     c: usize,
     t: usize,
@@ -37,10 +38,10 @@ pub extern "C" fn probe_seed(
     samples: &[u32],
     pal: &mut [f32],
 )
-    requires { ⌜ Seeding (courseOf (sizesOf s c t n weight) (now tiles) (now colours) (now counts) (now samples)) (now pal) ⌝ }
+    requires { ⌜ Seeding (courseOf (sizesOf size s c t n weight) (now tiles) (now colours) (now counts) (now samples)) (now pal) ⌝ }
 {
     let z = Sizes {
-        size: job::TILE_SIZE,
+        size,
         s,
         c,
         t,
@@ -52,6 +53,7 @@ pub extern "C" fn probe_seed(
 
 #[no_mangle]
 pub extern "C" fn probe_worst(
+    size: usize,
     s: usize,
     c: usize,
     t: usize,
@@ -63,10 +65,10 @@ pub extern "C" fn probe_worst(
     subs: usize,
     hints: &mut [u32],
 ) -> usize
-    requires { ⌜ Shown (jobOf (sizesOf s c t 0 weight) (now tiles) (now colours) (now counts)) (now pal) subs 1 × (length (now hints) ≡ t) ⌝ }
+    requires { ⌜ Shown (jobOf (sizesOf size s c t 0 weight) (now tiles) (now colours) (now counts)) (now pal) subs 1 × (length (now hints) ≡ t) ⌝ }
 {
     let z = Sizes {
-        size: job::TILE_SIZE,
+        size,
         s,
         c,
         t,

@@ -11,7 +11,8 @@ use Rattle.bits.proofs.Bytes.{length-bits}
 use Rattle.format.specs.Format.{Res, fault, got, next, field, above}
 use Rattle.format.proofs.Reading.{field-short, field-found, above-short, above-found, checked-fault, checked-got, both-fault, both-plain, literal-short, literal-same, literal-other}
 use Rattle.format_pattern.specs.Pattern.{weighs}
-use Rattle.sheet_format.specs.Sheet.{Edition, opening, weight, tiled, coloured, sized, dated, header}
+use Rattle.sheet_format.specs.declared.Edition.{Edition}
+use Rattle.sheet_format.specs.Sheet.{opening, weight, tiled, coloured, sized, dated, header}
 
 module _ (l : List Bool) where
   -- cut short anywhere before its end

@@ -16,7 +16,8 @@ use Rattle.format.proofs.Reading.{both-fault, both-plain}
 use Rattle.sheet_format.proofs.Exact.{rest-lawful}
 use Rattle.sheet_format.proofs.Light.{rest-light}
 use Rattle.sheet_format.proofs.Headed.{header-rest, header-sized, header-long}
-use Rattle.sheet_format.specs.Sheet.{Edition, edition1, Header, Colour, Parts, faultOf, whole, header, rest, sheet, readSheet}
+use Rattle.sheet_format.specs.declared.Edition.{Edition}
+use Rattle.sheet_format.specs.Sheet.{Header, Colour, Parts, faultOf, whole, header, rest, sheet, readSheet}
 use Rattle.sheet_colours.specs.declared.Step.the-variants.{At}
 use Rattle.sheet_check.specs.declared.Checked.{Checked}
 use Rattle.sheet_check.specs.declared.Checked.the-variants.{Refused, Sound}
@@ -44,31 +45,32 @@ head-got (got h r) a b t w e =
     let k = sound-is a b t w (h .0) (h .1 .0) (h .1 .1 .0) (h .1 .1 .1) e in
     (r, ap (λ (y : Header). got y r) (sym (ap₂ {C = Header} (λ i j. (i, j)) (k .0) (ap₂ {C = ℕ × (ℕ × ℕ)} (λ i j. (i, j)) (k .1) (ap₂ {C = ℕ × ℕ} (λ i j. (i, j)) (k .2) (k .3))))))
 
--- a head that was read: its fields, where it ends, its sizes
-pub record Headed (s : List ℕ) (a b t w : ℕ) : Type 0 where
-  pub reads : header edition1 .parse (bits s) ≡ got (a, (b, (t, w))) (drop 86 (bits s))
-  pub long : 86 ≤ 8 * length s
-  pub cells : a * b ≤ 256
+module _ (E : Edition) where
+  -- a head that was read: its fields, where it ends, its sizes
+  pub record Headed (s : List ℕ) (a b t w : ℕ) : Type 0 where
+    pub reads : header E .parse (bits s) ≡ got (a, (b, (t, w))) (drop 86 (bits s))
+    pub long : 86 ≤ 8 * length s
+    pub cells : a * b ≤ 256
 
-pub headed-of : (s : List ℕ) (a b t w : ℕ) → Sound a b t w ≡ headOf (header edition1 .parse (bits s)) → Headed s a b t w
-headed-of s a b t w e =
-    let (r, x) = head-got (header edition1 .parse (bits s)) a b t w e in
-    record {
-      reads = x ∙ ap (got (a, (b, (t, w)))) (header-rest edition1 (bits s) (a, (b, (t, w))) r x);
-      long = omega (arith, header-long edition1 (bits s) (a, (b, (t, w))) r x, length-bits s);
-      cells = header-sized edition1 (bits s) (a, (b, (t, w))) r x .cells;
-    }
+  pub headed-of : (s : List ℕ) (a b t w : ℕ) → Sound a b t w ≡ headOf (header E .parse (bits s)) → Headed s a b t w
+  headed-of s a b t w e =
+      let (r, x) = head-got (header E .parse (bits s)) a b t w e in
+      record {
+        reads = x ∙ ap (got (a, (b, (t, w)))) (header-rest E (bits s) (a, (b, (t, w))) r x);
+        long = omega (arith, header-long E (bits s) (a, (b, (t, w))) r x, length-bits s);
+        cells = header-sized E (bits s) (a, (b, (t, w))) r x .cells;
+      }
 
--- the palette and the tiles that were read behind it, up to bit z
-pub record Parted (s : List ℕ) (n t z : ℕ) : Type 0 where
-  pub parts : List ℕ × List (List Colour)
-  pub reads : rest edition1 n t .parse (drop 86 (bits s)) ≡ got parts (drop z (bits s))
-  pub reach : z ≤ 8 * length s
+  -- the palette and the tiles that were read behind it, up to bit z
+  pub record Parted (s : List ℕ) (n t z : ℕ) : Type 0 where
+    pub parts : List ℕ × List (List Colour)
+    pub reads : rest E n t .parse (drop 86 (bits s)) ≡ got parts (drop z (bits s))
+    pub reach : z ≤ 8 * length s
 
-pub parted-of : (s : List ℕ) (n t z k : ℕ) → 86 ≤ 8 * length s → At z k ≡ stepAt (rest edition1 n t) s 86 → Parted s n t z
-parted-of s n t z k h e =
-    let x = step-at (rest edition1 n t) (rest-lawful edition1 n t) (rest-light edition1 n t) (bits s) 86 (rw length-bits h) z k e in
-    record { parts = x .value; reads = x .reads; reach = omega (arith, x .inside, length-bits s) }
+  pub parted-of : (s : List ℕ) (n t z k : ℕ) → 86 ≤ 8 * length s → At z k ≡ stepAt (rest E n t) s 86 → Parted s n t z
+  parted-of s n t z k h e =
+      let x = step-at (rest E n t) (rest-lawful E n t) (rest-light E n t) (bits s) 86 (rw length-bits h) z k e in
+      record { parts = x .value; reads = x .reads; reach = omega (arith, x .inside, length-bits s) }
 
 -- ---- the whole
 module _ (E : Edition) (s : List ℕ) where

@@ -4,12 +4,14 @@ ghost use mathlib.Core.Path.{_≡_};
 ghost use Prim.Native.Nat.{_*_, _≤_};
 ghost use lib.ListN.{length, drop};
 ghost use Rattle.bits.specs.Bits.{bits};
-ghost use Rattle.sheet_format.specs.Sheet.{edition1, faultOf, header, readSheet};
+ghost use Rattle.sheet_format.specs.Sheet.{faultOf, header, readSheet};
+ghost use Rattle.sheet_format.specs.Proper.{Proper};
 ghost use Rattle.sheet_check.specs.Steps.{headOf, checkedOf};
 ghost use mathlib.Core.Bool.{_&&_};
 ghost use lib.Dec.{ltb};
 ghost use Rattle.format.specs.Format.{clear};
 use answer::Refusal;
+use sheet_format::Edition;
 
 // What a test finds: a refusal, or the numbers at the sheet's head.
 pub enum Checked {
@@ -23,9 +25,9 @@ pub enum Checked {
 }
 
 // The opening, the edition, the sizes and the weight. Of the sizes none is at fault by itself.
-pub fn head(s: &[u8]) -> Checked
+pub fn head(e: Edition, s: &[u8]) -> Checked
     requires { ⌜ length (now s) ≤ 65536 ⌝ }
-    ensures { λ r. ⌜ r ≡ headOf (header edition1 .parse (bits (now (s .entry)))) ⌝ }
+    ensures { λ r. ⌜ r ≡ headOf (header e .parse (bits (now (s .entry)))) ⌝ }
 {
     let end = 8 * s.len();
     if end < 32 {
@@ -37,7 +39,7 @@ pub fn head(s: &[u8]) -> Checked
     if end < sheet_format::SUBS_AT {
         return Checked::Refused(answer::SHEET_BYTES);
     }
-    if bits::get(s, 32, 4) != 1 {
+    if bits::get(s, sheet_format::EDITION_AT, 4) != e.number {
         return Checked::Refused(answer::SHEET_HEAD);
     }
     if end < sheet_format::HEAD_BITS {
@@ -69,14 +71,15 @@ fn fault_of(number: u32, passed: usize) -> Refusal
 }
 
 // A whole sheet. Nothing is written.
-pub fn check(s: &[u8]) -> Checked
-    ensures { λ r. ⌜ r ≡ checkedOf (readSheet edition1 (now (s .entry))) ⌝ }
+pub fn check(e: Edition, s: &[u8]) -> Checked
+    requires { ⌜ Proper e ⌝ }
+    ensures { λ r. ⌜ r ≡ checkedOf (readSheet e (now (s .entry))) ⌝ }
 {
     if 65536 < s.len() {
         return Checked::Refused(answer::SHEET_BYTES);
     }
-    match head(s) {
-        Checked::Refused(e) => Checked::Refused(e),
+    match head(e, s) {
+        Checked::Refused(refusal) => Checked::Refused(refusal),
         Checked::Sound {
             subs,
             each,
@@ -85,6 +88,7 @@ pub fn check(s: &[u8]) -> Checked
         } => {
             let n = 3 * (subs * each);
             match sheet_tiles::palette_then_tiles(
+                e,
                 s,
                 sheet_format::HEAD_BITS,
                 n as usize,

@@ -11,7 +11,8 @@ use Rattle.bits.proofs.Bytes.{length-bits}
 use Rattle.format.specs.Format.{Res, fault, got, next, field, checked, above, times}
 use Rattle.format.proofs.Reading.{field-short, field-found, above-short, above-found, checked-fault, checked-got, both-fault, both-plain}
 use Rattle.format_pattern.specs.Pattern.{small}
-use Rattle.sheet_format.specs.Sheet.{Edition, component, entry}
+use Rattle.sheet_format.specs.declared.Edition.{Edition}
+use Rattle.sheet_format.specs.Sheet.{component, entry}
 
 module _ (s : List ℕ) (q : ℕ) where
   pub component-short : 8 * length s - q < 32 → component .parse (drop q (bits s)) ≡ fault 13 0

@@ -12,7 +12,8 @@ use Rattle.bits.proofs.Bytes.{length-bits}
 use Rattle.format.specs.Format.{Res, fault, got, next, past, Format, none, cons, times}
 use Rattle.format.proofs.Lawful.{Lawful}
 use Rattle.format.proofs.Light.{Light, light-fault, light-got}
-use Rattle.sheet_format.specs.Sheet.{Edition, Colour, entry, colours}
+use Rattle.sheet_format.specs.declared.Edition.{Edition}
+use Rattle.sheet_format.specs.Sheet.{Colour, entry, colours}
 use Rattle.sheet_colours.specs.declared.Step.{Step}
 use Rattle.sheet_colours.specs.declared.Step.the-variants.{Fault, At}
 use Rattle.sheet_colours.specs.Steps.{stepOf, stepAt, behind}

@@ -14,7 +14,8 @@ use Rattle.bits.proofs.Fields.{sets-append}
 use Rattle.format.specs.Format.{Res, fault, got, next, past, Format, field, checked, times}
 use Rattle.format.proofs.Lawful.{cond-got, same-value, same-rest, next-got, past-got}
 use Rattle.format.proofs.Fixed.{field-says, field-fixed, checked-fixed}
-use Rattle.sheet_format.specs.Sheet.{Edition, Colour, colours, tile}
+use Rattle.sheet_format.specs.declared.Edition.{Edition}
+use Rattle.sheet_format.specs.Sheet.{Colour, colours, tile}
 use Rattle.sheet_format.specs.Lists.{tileCounts, tileFloats, allCounts, allFloats, tableOf, total}
 use Rattle.sheet_fill.specs.Fill.{Reads, listOf, listAt}
 use Rattle.sheet_fill.proofs.Colours.{wide, colours-fixed, colours-long}

@@ -11,7 +11,8 @@ use Rattle.format.proofs.Tests.{and-r}
 use Rattle.format.proofs.Lawful.{Lawful, field-lawful, checked-lawful, indexed-lawful, mapped-lawful, above-lawful, both-lawful, literal-lawful, none-lawful, cons-lawful, times-lawful, counted-lawful}
 use Rattle.format.proofs.Files.{decode-encode, encode-decode}
 use Rattle.format_pattern.specs.Pattern.{small, weighs}
-use Rattle.sheet_format.specs.Sheet.{Edition, opening, faultOf, component, Colour, Sheet, whole, parts, entry, colours, tile, header, rest, sheet}
+use Rattle.sheet_format.specs.declared.Edition.{Edition}
+use Rattle.sheet_format.specs.Sheet.{opening, faultOf, component, Colour, Sheet, whole, parts, entry, colours, tile, header, rest, sheet}
 
 pub component-lawful : Lawful component
 component-lawful = indexed-lawful (checked 7 small (field 32)) (checked-lawful 7 small (field 32) (field-lawful 32))

@@ -8,7 +8,8 @@ use lib.ListN.{length, take, drop}
 use Rattle.bits.specs.Bits.{num}
 use Rattle.format.specs.Format.{Res, fault, got, next, past, Format, field, checked, above, both, literal, cons, times, counted}
 use Rattle.format_pattern.specs.Pattern.{small, weighs}
-use Rattle.sheet_format.specs.Sheet.{Edition, opening, component, weight, tiled, coloured, sized, whole, entry, colours, tile, dated, header, rest, sheet}
+use Rattle.sheet_format.specs.declared.Edition.{Edition}
+use Rattle.sheet_format.specs.Sheet.{opening, component, weight, tiled, coloured, sized, whole, entry, colours, tile, dated, header, rest, sheet}
 use Rattle.sheet_format.specs.Opened.{misopened}
 
 module _ (k : ℕ) where

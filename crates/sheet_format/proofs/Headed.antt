@@ -11,7 +11,8 @@ use Rattle.format.specs.Format.{got, field, above}
 use Rattle.format.proofs.Tests.{and-l, and-r}
 use Rattle.format.proofs.Fixed.{Fixed, field-fixed, checked-fixed, above-fixed, both-fixed, literal-fixed}
 use Rattle.format_pattern.specs.Pattern.{weighs}
-use Rattle.sheet_format.specs.Sheet.{Edition, opening, Header, weight, tiled, coloured, sized, dated, header}
+use Rattle.sheet_format.specs.declared.Edition.{Edition}
+use Rattle.sheet_format.specs.Sheet.{opening, Header, weight, tiled, coloured, sized, dated, header}
 use Rattle.sheet_format.proofs.Exact.{header-lawful}
 
 pub record Sized (h : Header) : Type 0 where

@@ -1,3 +1,4 @@
+pub mod Editions
 pub mod Example
 pub mod Headed
 pub mod Exact

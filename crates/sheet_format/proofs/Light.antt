@@ -7,7 +7,8 @@ use Rattle.format.specs.Format.{field, checked, above, times}
 use Rattle.format.proofs.Lawful.{field-lawful, checked-lawful}
 use Rattle.format.proofs.Light.{Light, field-light, checked-light, above-light, indexed-light, both-light, none-light, cons-light, times-light, counted-light}
 use Rattle.format_pattern.specs.Pattern.{small}
-use Rattle.sheet_format.specs.Sheet.{Edition, component, Colour, entry, colours, tile, rest}
+use Rattle.sheet_format.specs.declared.Edition.{Edition}
+use Rattle.sheet_format.specs.Sheet.{component, Colour, entry, colours, tile, rest}
 use Rattle.sheet_format.proofs.Exact.{colours-lawful, colours-long}
 
 pub component-light : Light component

@@ -1,3 +1,4 @@
 pub mod Sheet
 pub mod Lists
 pub mod Opened
+pub mod Proper

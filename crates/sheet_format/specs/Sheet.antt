@@ -8,16 +8,18 @@ use Rattle.answer.specs.declared.Refusal.{Refusal}
 use Rattle.answer.specs.Rules.{refusal}
 use Rattle.format.specs.Format.{Format, indexed, field, checked, mapped, above, both, literal, none, cons, times, counted, Answer, refused, readOf}
 use Rattle.format_pattern.specs.Pattern.{small, weighs}
+use Rattle.sheet_format.specs.declared.Edition.{Edition}
 
 -- what differs between editions: its number, the pixels of a tile, the bits of a tile's number of colours and of a count less one
-pub record Edition : Type 0 where
-  pub number : ℕ
-  pub size : ℕ
-  pub many : ℕ
-  pub each : ℕ
-
 abbrev pub edition1 : Edition
 edition1 = record { number = 1; size = 64; many = 7; each = 6 }
+
+abbrev pub edition2 : Edition
+edition2 = record { number = 2; size = 256; many = 9; each = 8 }
+
+-- the edition of a tile size that there is
+unfoldable pub editionOf : ℕ → Edition
+editionOf size = cond (eqb size (edition2 .size)) edition2 edition1
 
 -- the first field, 54 46 49 54; and the bits of opening, edition, sizes and weight
 abbrev pub opening : ℕ
@@ -109,6 +111,12 @@ module _ (E : Edition) where
   abbrev pub readSheet : List ℕ → Answer Sheet
   readSheet s = cond (leb (length s) 65536) (readOf faultOf sheet s) (refused (refusal 13 0))
 
-  -- the bits of a sheet of s subpalettes of c colours, and t tiles of n colours in all
+  -- how many bits: a tile's colour with its count, t tiles of n colours in all, a sheet of s subpalettes of c colours and those tiles
+  abbrev pub entrySize : ℕ
+  entrySize = E .each + 96
+
+  abbrev pub tilesSize : ℕ → ℕ → ℕ
+  tilesSize t n = E .many * t + entrySize * n
+
   abbrev pub sizeOf : ℕ → ℕ → ℕ → ℕ → ℕ
-  sizeOf s c t n = headSize + 96 * (s * c) + E .many * t + (E .each + 96) * n
+  sizeOf s c t n = headSize + 96 * (s * c) + tilesSize t n

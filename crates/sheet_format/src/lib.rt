@@ -1,12 +1,61 @@
-// The fit sheet as a format, in specs/: described once, for its readers and its writer. Assumes nothing.
+// The fit sheet as a format, in specs/: described once, over its edition, for its readers and its writer. Assumes nothing.
 ghost use mathlib.Core.Path.{_≡_};
 ghost use Prim.Native.Nat.{_*_, _≤_};
-ghost use Rattle.sheet_format.specs.Sheet.{sizeOf, edition1};
+ghost use Rattle.sheet_format.specs.Sheet.{editionOf, entrySize, tilesSize, sizeOf};
+ghost use Rattle.sheet_format.specs.Proper.{Proper};
+ghost use Rattle.sheet_format.specs.Opened.{sizeIn};
+
+// What differs between editions: the number, the pixels of a tile, the bits of a tile's number of colours and of a count less one.
+pub struct Edition {
+    pub number: u32,
+    pub size: u32,
+    pub many: usize,
+    pub each: usize,
+}
+
+const SMALL_TILE: usize = 64;
+
+const LARGE_TILE: usize = 256;
+
+// The edition of a tile size that there is.
+pub fn edition_of(size: usize) -> Edition
+    ensures { λ r. ⌜ r ≡ editionOf size ⌝ }
+{
+    if size == LARGE_TILE {
+        return Edition {
+            number: 2,
+            size: 256,
+            many: 9,
+            each: 8,
+        };
+    }
+    Edition {
+        number: 1,
+        size: 64,
+        many: 7,
+        each: 6,
+    }
+}
+
+// The tile size that a file asks for by its edition: what a program looks at first. Of a file that is no sheet it says nothing.
+pub fn size_in(s: &[u8]) -> usize
+    ensures { λ r. ⌜ r ≡ sizeIn (now (s .entry)) ⌝ }
+{
+    if s.len() < 5 {
+        return SMALL_TILE;
+    }
+    if bits::get(s, EDITION_AT, 4) != 2 {
+        return SMALL_TILE;
+    }
+    LARGE_TILE
+}
 
 // The first field, 54 46 49 54.
 pub const OPENING: u32 = 0x5446_4954;
 
-// The bits at which S, C, T and the weight begin, behind the opening and the edition; and the bits of the whole head.
+// The bits at which the edition, S, C, T and the weight begin, behind the opening; and the bits of the whole head.
+pub const EDITION_AT: usize = 32;
+
 pub const SUBS_AT: usize = 36;
 
 pub const EACH_AT: usize = 40;
@@ -17,10 +66,29 @@ pub const WEIGHT_AT: usize = 54;
 
 pub const HEAD_BITS: usize = 86;
 
-// The bits of a sheet of s subpalettes of c colours, and t tiles of n colours in all.
-pub fn size_of(s: usize, c: usize, t: usize, n: usize) -> usize
-    requires { ⌜ (s * c ≤ 256) × (t ≤ 1024) × (n ≤ 16384) ⌝ }
-    ensures { λ r. ⌜ r ≡ sizeOf edition1 s c t n ⌝ }
+// The bits of three components.
+const COLOUR_BITS: usize = 96;
+
+// The bits of a tile's colour: its count and three components.
+pub fn entry_bits(e: Edition) -> usize
+    requires { ⌜ Proper e ⌝ }
+    ensures { λ r. ⌜ r ≡ entrySize e ⌝ }
 {
-    HEAD_BITS + 96 * (s * c) + 7 * t + 102 * n
+    e.each + COLOUR_BITS
+}
+
+// The bits of t tiles of n colours in all.
+pub fn tiles_bits(e: Edition, t: usize, n: usize) -> usize
+    requires { ⌜ Proper e × (t ≤ 1024) × (n ≤ 16384) ⌝ }
+    ensures { λ r. ⌜ r ≡ tilesSize e t n ⌝ }
+{
+    e.many * t + entry_bits(e) * n
+}
+
+// The bits of a sheet of s subpalettes of c colours, and t tiles of n colours in all.
+pub fn size_of(e: Edition, s: usize, c: usize, t: usize, n: usize) -> usize
+    requires { ⌜ Proper e × (s * c ≤ 256) × (t ≤ 1024) × (n ≤ 16384) ⌝ }
+    ensures { λ r. ⌜ r ≡ sizeOf e s c t n ⌝ }
+{
+    HEAD_BITS + COLOUR_BITS * (s * c) + tiles_bits(e, t, n)
 }

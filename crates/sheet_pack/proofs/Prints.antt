@@ -14,7 +14,8 @@ use Rattle.format.specs.Format.{times}
 use Rattle.job.specs.Job.{Job, sizeOf, countsPart, coloursPart}
 use Rattle.job.specs.Gives.{Ready, Lent}
 use Rattle.job.proofs.Tiles.{counts-length, tile-three}
-use Rattle.sheet_format.specs.Sheet.{Edition, edition1, component, Colour, colours, tile, sheet}
+use Rattle.sheet_format.specs.declared.Edition.{Edition}
+use Rattle.sheet_format.specs.Sheet.{edition1, component, Colour, colours, tile, sheet}
 use Rattle.sheet_format.specs.Sheet as form
 use Rattle.sheet_format.specs.Lists.{patterns}
 use Rattle.sheet_pack.specs.Packed.{coloursOf, tilesFrom, sheetOf, words, coloursBits, tileBits, tilesBits, headBits, sheetBits}

@@ -6,7 +6,8 @@ use lib.ListN.{length, getD, take, drop}
 use lib.Ieee.{Float, binary32, toBits}
 use Rattle.bits.specs.Bits.{bitsOf}
 use Rattle.job.specs.Job.{Job, coloursPart, countsPart}
-use Rattle.sheet_format.specs.Sheet.{Edition, opening, Colour, Sheet}
+use Rattle.sheet_format.specs.declared.Edition.{Edition}
+use Rattle.sheet_format.specs.Sheet.{opening, Colour, Sheet}
 use Rattle.sheet_format.specs.Lists.{patterns}
 
 -- ---- the sheet of a job

@@ -6,7 +6,8 @@ use lib.ListN.{drop}
 use Rattle.bits.specs.Bits.{bits}
 use Rattle.format.specs.Format.{Res, fault, got, next, past, times}
 use Rattle.format.proofs.Reading.{both-fault, both-got}
-use Rattle.sheet_format.specs.Sheet.{Edition, component, Colour, tile, rest}
+use Rattle.sheet_format.specs.declared.Edition.{Edition}
+use Rattle.sheet_format.specs.Sheet.{component, Colour, tile, rest}
 use Rattle.sheet_colours.specs.declared.Step.{Step}
 use Rattle.sheet_colours.specs.declared.Step.the-variants.{Fault}
 use Rattle.sheet_colours.specs.Steps.{stepOf, stepAt, behind}

@@ -10,7 +10,8 @@ use Rattle.bits.specs.Bits.{bits, fieldAt}
 use Rattle.bits.proofs.Bytes.{length-bits}
 use Rattle.format.specs.Format.{Res, fault, got, next, field}
 use Rattle.format.proofs.Reading.{field-short, field-found, checked-fault, checked-got}
-use Rattle.sheet_format.specs.Sheet.{Edition, Colour, colours, tile}
+use Rattle.sheet_format.specs.declared.Edition.{Edition}
+use Rattle.sheet_format.specs.Sheet.{Colour, colours, tile}
 use Rattle.sheet_format.proofs.Exact.{colours-lawful, colours-long}
 use Rattle.sheet_colours.specs.declared.Step.the-variants.{Fault, At}
 use Rattle.sheet_colours.specs.Steps.{stepOf, stepAt}

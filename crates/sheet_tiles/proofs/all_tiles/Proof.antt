@@ -7,7 +7,7 @@ use lib.ListN.{length, drop}
 use Rattle.format.specs.Format.{fault, times}
 use Rattle.bits.specs.Bits.{bits}
 use Rattle.bits.proofs.Bytes.{length-bits}
-use Rattle.sheet_format.specs.Sheet.{tile, edition1}
+use Rattle.sheet_format.specs.Sheet.{tile}
 use Rattle.sheet_format.proofs.Exact.{tile-lawful}
 use Rattle.sheet_format.proofs.Light.{tile-light}
 use Rattle.sheet_colours.specs.Steps.{stepAt, behind}
@@ -16,14 +16,14 @@ use Rattle.sheet_tiles.proofs.all_tiles.Statement.{statement}
 use Rattle.sheet_tiles.proofs.all_tiles.Tie as tie
 
 abbrev Inv-loop : tie.InvT-loop
-Inv-loop s p t q₀ passed₀ i₀ q passed i =
-    (i ≤ t) × (q ≤ 8 * length s) × (passed ≤ q) × (behind passed (stepAt (times (t - i) (tile edition1)) s q) ≡ stepAt (times t (tile edition1)) s p)
+Inv-loop e s p t q₀ passed₀ i₀ q passed i =
+    (i ≤ t) × (q ≤ 8 * length s) × (passed ≤ q) × (behind passed (stepAt (times (t - i) (tile e)) s q) ≡ stepAt (times t (tile e)) s p)
 
 abbrev μ-loop : tie.MeasureT-loop
-μ-loop s p t q₀ passed₀ i₀ q passed i = t - i
+μ-loop e s p t q₀ passed₀ i₀ q passed i = t - i
 
 loop-holds : tie.Need-loop-holds Inv-loop μ-loop
-loop-holds c = let a = c .before .args in (omega arith, omega arith, omega arith, turn-start (tile edition1) (a .s .now) (a .t) (a .p))
+loop-holds c = let a = c .before .args in (omega arith, omega arith, omega arith, turn-start (tile (a .e)) (a .s .now) (a .t) (a .p))
 
 one-tile-requires : tie.Need-one-tile-requires Inv-loop μ-loop
 one-tile-requires c κs = omega arith
@@ -34,21 +34,21 @@ enum-known-f c = c .match .keys1
 -- a fault of the next tile
 faulted : (c : tie.After-known-told Inv-loop μ-loop) →
     let at-loop = c .before .before .before .before .before in let a = at-loop .before .before .args in let found = c .before .f .given .0 in
-    tile edition1 .parse (drop (at-loop .loop .q) (bits (a .s .now))) ≡ fault (found .0) (found .1 .0)
+    tile (a .e) .parse (drop (at-loop .loop .q) (bits (a .s .now))) ≡ fault (found .0) (found .1 .0)
 faulted c =
     let after-f = c .before in let after-one-tile = after-f .before .before in
     step-fault _ _ _ _ _ (sym (after-f .f .given .1) ∙ after-one-tile .one-tile .ensures)
 
-add-t13 : tie.Need-add-t13 Inv-loop μ-loop
-add-t13 c =
+add-t14 : tie.Need-add-t14 Inv-loop μ-loop
+add-t14 c =
     let at-loop = c .before .before .before .before .before in let a = at-loop .before .before .args in let found = c .before .f .given .0 in
-    omega (arith, fault-few (tile edition1) (tile-light edition1) (a .s .now) (at-loop .loop .q) (found .0) (found .1 .0) (faulted c))
+    omega (arith, fault-few (tile (a .e)) (tile-light (a .e)) (a .s .now) (at-loop .loop .q) (found .0) (found .1 .0) (faulted c))
 
 returns : tie.Need-returns Inv-loop μ-loop
 returns c =
     let at-loop = c .before .before .before .before .before in let a = at-loop .before .before .args in let turn = at-loop .loop in
     let found = c .before .f .given .0 in
-    turn-fault (tile edition1) (a .s .now) (a .t) (turn .i) (turn .q) (turn .passed) _ (turn .inv .3) (found .0) (found .1 .0) _ refl (omega arith) (faulted c)
+    turn-fault (tile (a .e)) (a .s .now) (a .t) (turn .i) (turn .q) (turn .passed) _ (turn .inv .3) (found .0) (found .1 .0) _ refl (omega arith) (faulted c)
 
 enum-known-z : tie.Need-enum-known-z Inv-loop μ-loop
 enum-known-z c = c .match .keys2
@@ -56,10 +56,10 @@ enum-known-z c = c .match .keys2
 -- the next tile
 reached : (c : tie.After-known-told2 Inv-loop μ-loop) →
     let at-loop = c .before .before .before .before .before in let a = at-loop .before .before .args in let found = c .before .z .given .0 in
-    Reached (tile edition1) (bits (a .s .now)) (at-loop .loop .q) (found .0) (found .1 .0)
+    Reached (tile (a .e)) (bits (a .s .now)) (at-loop .loop .q) (found .0) (found .1 .0)
 reached c =
-    let after-z = c .before in let after-one-tile = after-z .before .before in
-    step-at (tile edition1) (tile-lawful edition1) (tile-light edition1) _ _ (rw length-bits (omega arith)) _ _
+    let after-z = c .before in let after-one-tile = after-z .before .before in let a = after-one-tile .before .before .before .before .args in
+    step-at (tile (a .e)) (tile-lawful (a .e)) (tile-light (a .e)) _ _ (rw length-bits (omega arith)) _ _
     (sym (after-z .z .given .1) ∙ after-one-tile .one-tile .ensures)
 
 add-passed : tie.Need-add-passed Inv-loop μ-loop
@@ -76,7 +76,7 @@ loop-less c = omega arith
 again : (c : tie.After-known-told2 Inv-loop μ-loop) →
     let at-loop = c .before .before .before .before .before in let a = at-loop .before .before .args in let turn = at-loop .loop in
     let found = c .before .z .given .0 in
-    Inv-loop (a .s .now) (a .p) (a .t) 0 0 0 (found .0) (turn .passed + found .1 .0) (turn .i + 1)
+    Inv-loop (a .e) (a .s .now) (a .p) (a .t) 0 0 0 (found .0) (turn .passed + found .1 .0) (turn .i + 1)
 again c =
     let at-loop = c .before .before .before .before .before in let a = at-loop .before .before .args in let turn = at-loop .loop in
     let z : ℕ = c .before .z .given .0 .0 in
@@ -84,7 +84,7 @@ again c =
       omega arith,
       omega (arith, x .inside, length-bits (a .s .now)),
       omega (arith, x .few),
-      turn-got (tile edition1) (a .s .now) (a .t) (turn .i) (turn .q) (turn .passed) _ (turn .inv .3) (x .value) z _ (ap (λ (k : ℕ). turn .passed + k) (x .holds))
+      turn-got (tile (a .e)) (a .s .now) (a .t) (turn .i) (turn .q) (turn .passed) _ (turn .inv .3) (x .value) z _ (ap (λ (k : ℕ). turn .passed + k) (x .holds))
           (omega arith) (x .reads),
     )
 
@@ -94,9 +94,9 @@ loop-again c = again c
 returns-2 : tie.Need-returns-2 Inv-loop μ-loop
 returns-2 c =
     let at-loop = c .before in let start = at-loop .before .before in let turn = at-loop .loop in let a = start .args in
-    turn-end (tile edition1) (a .s .now) (a .t) (turn .i) (turn .q) (turn .passed) _ (turn .inv .3) (omega arith) (omega arith)
+    turn-end (tile (a .e)) (a .s .now) (a .t) (turn .i) (turn .q) (turn .passed) _ (turn .inv .3) (omega arith) (omega arith)
 
 pub all-tiles-spec : {M : Type 1} → statement M
 all-tiles-spec =
     tie.close
-    (tie.spec Inv-loop μ-loop loop-holds one-tile-requires enum-known-f add-t13 returns enum-known-z add-passed add-i loop-less loop-again returns-2)
+    (tie.spec Inv-loop μ-loop loop-holds one-tile-requires enum-known-f add-t14 returns enum-known-z add-passed add-i loop-less loop-again returns-2)
