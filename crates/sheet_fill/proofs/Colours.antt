@@ -17,15 +17,15 @@ use Rattle.format.specs.Format.{fault, got, Format, field, checked, above, time
 use Rattle.format.proofs.Lawful.{cond-got, same-value, same-rest, next-got}
 use Rattle.format.proofs.Fixed.{Fixed, field-says, checked-fixed, above-fixed, both-fixed, both-first, both-second, times-fixed, times-long, cons-parts}
 use Rattle.sheet_format.specs.declared.Edition.{Edition}
-use Rattle.sheet_format.specs.Sheet.{component, Colour, entry, colours}
+use Rattle.sheet_format.specs.Sheet.{component, Colour, entry, colours, entrySize}
 use Rattle.sheet_format.specs.Lists.{floats, tileCounts, tileFloats}
 use Rattle.sheet_fill.specs.Fill.{Reads, listOf, listAt}
 use Rattle.sheet_fill.proofs.Components.{component-fixed}
 
 module _ (E : Edition) where
-  -- the bits of a colour, and its count
-  abbrev pub wide : ℕ
-  wide = E .each + 96
+  -- the bits of a colour and its count
+  abbrev wide : ℕ
+  wide = entrySize E
 
   abbrev countOf : ℕ → Format ℕ
   countOf sum = checked 6 (λ c. leb (sum + c) (E .size)) (above (E .each))

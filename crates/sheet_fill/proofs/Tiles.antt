@@ -15,10 +15,12 @@ use Rattle.format.specs.Format.{Res, fault, got, next, past, Format, field, che
 use Rattle.format.proofs.Lawful.{cond-got, same-value, same-rest, next-got, past-got}
 use Rattle.format.proofs.Fixed.{field-says, field-fixed, checked-fixed}
 use Rattle.sheet_format.specs.declared.Edition.{Edition}
-use Rattle.sheet_format.specs.Sheet.{Colour, colours, tile}
+use Rattle.sheet_format.specs.Sheet.{Colour, colours, tile, entrySize}
+use Rattle.sheet_format.specs.Proper.{Proper}
+use Rattle.sheet_format.proofs.Editions.{tiles-most}
 use Rattle.sheet_format.specs.Lists.{tileCounts, tileFloats, allCounts, allFloats, tableOf, total}
 use Rattle.sheet_fill.specs.Fill.{Reads, listOf, listAt}
-use Rattle.sheet_fill.proofs.Colours.{wide, colours-fixed, colours-long}
+use Rattle.sheet_fill.proofs.Colours.{colours-fixed, colours-long}
 
 module _ (E : Edition) where
   abbrev number : Format ℕ
@@ -37,8 +39,8 @@ module _ (E : Edition) where
     pub room : E .many ≤ 8 * length s - q
     pub few : n ≤ E .size
     pub here : Reads (colours E n 0) s (q + E .many)
-    pub left : Reads (times m (tile E)) s (q + (E .many + wide E * n))
-    pub list : listAt (times (suc m) (tile E)) s q ≡ listAt (colours E n 0) s (q + E .many) ∷ listAt (times m (tile E)) s (q + (E .many + wide E * n))
+    pub left : Reads (times m (tile E)) s (q + (E .many + entrySize E * n))
+    pub list : listAt (times (suc m) (tile E)) s q ≡ listAt (colours E n 0) s (q + E .many) ∷ listAt (times m (tile E)) s (q + (E .many + entrySize E * n))
     pub long : length (listAt (colours E n 0) s (q + E .many)) ≡ n
     pub thrice : length (tileFloats (listAt (colours E n 0) s (q + E .many))) ≡ 3 * n
 
@@ -51,9 +53,9 @@ module _ (E : Edition) where
       let d : k ≡ n = c .1 ∙ sym en in
       let f : colours E n 0 .parse (drop (q + E .many) (bits s)) ≡ got x o =
       ap₂ (λ (z : ℕ) (l : List Bool). colours E z 0 .parse l) (sym d) (sym (checked-fixed 5 (λ n. leb n (E .size)) (field (E .many)) (E .many) (field-fixed (E .many)) (bits s) q k j a)) ∙ b in
-      let z : q + E .many + wide E * n ≡ q + (E .many + wide E * n) = omega arith in
-      let g : o ≡ drop (q + (E .many + wide E * n)) (bits s) = colours-fixed E n 0 (bits s) (q + E .many) x o f ∙ ap (λ (i : ℕ). drop i (bits s)) z in
-      let h : times m (tile E) .parse (drop (q + (E .many + wide E * n)) (bits s)) ≡ got t r = ap (times m (tile E) .parse) (sym g) ∙ w ∙ ap (got t) (same-rest (x ∷ t) vs i r y) in
+      let z : q + E .many + entrySize E * n ≡ q + (E .many + entrySize E * n) = omega arith in
+      let g : o ≡ drop (q + (E .many + entrySize E * n)) (bits s) = colours-fixed E n 0 (bits s) (q + E .many) x o f ∙ ap (λ (i : ℕ). drop i (bits s)) z in
+      let h : times m (tile E) .parse (drop (q + (E .many + entrySize E * n)) (bits s)) ≡ got t r = ap (times m (tile E) .parse) (sym g) ∙ w ∙ ap (got t) (same-rest (x ∷ t) vs i r y) in
       let l = colours-long E n 0 (bits s) (q + E .many) x o f in
       record {
         room = c .0;
@@ -64,6 +66,10 @@ module _ (E : Edition) where
         long = ap (λ (o : Res (List Colour)). length (listOf o)) f ∙ l .0;
         thrice = ap (λ (o : Res (List Colour)). length (tileFloats (listOf o))) f ∙ l .1;
       }
+
+  -- a tile takes few bits
+  pub tile-most : Proper E → {s : List ℕ} {q m n : ℕ} → Tile-turn s q m n → E .many + entrySize E * n ≤ 26633
+  tile-most proper {n = n} turn = omega (arith, tiles-most E proper 1 n, turn .few, proper .few)
 
   -- the loop's invariant: what is left to store gives the whole, and has room
   pub record Tiling (s : List ℕ) (m q k j : ℕ) (t c : List ℕ) (f : List Float) (gt gc : List ℕ) (gf : List Float) (all : ℕ) : Type 0 where
@@ -93,7 +99,7 @@ module _ (E : Edition) where
       this = listAt (colours E n 0) s (q + E .many)
 
       more : List (List Colour)
-      more = listAt (times (m - (i + 1)) (tile E)) s (q + (E .many + wide E * n))
+      more = listAt (times (m - (i + 1)) (tile E)) s (q + (E .many + entrySize E * n))
 
       split : listAt (times (m - i) (tile E)) s q ≡ this ∷ more
       unfolding this more
@@ -110,7 +116,7 @@ module _ (E : Edition) where
       tiling-fits = omega (arith, tiling-room)
 
       pub tiling-again : (d : List ℕ) (g : List Float) → d ≡ sets c k (tileCounts (listAt (colours E n 0) s (q + E .many))) → g ≡ sets f (3 * k) (tileFloats (listAt (colours E n 0) s (q + E .many)))
-          → Tiling s (m - (i + 1)) (q + (E .many + wide E * n)) (k + n) (2 * (i + 1)) (set (set t (2 * i) k) (2 * i + 1) n) d g gt gc gf all
+          → Tiling s (m - (i + 1)) (q + (E .many + entrySize E * n)) (k + n) (2 * (i + 1)) (set (set t (2 * i) k) (2 * i + 1) n) d g gt gc gf all
       unfolding this more
       tiling-again d g ed eg =
           let a : 2 * (i + 1) ≡ suc (suc (2 * i)) = omega arith in

@@ -16,10 +16,10 @@ use Rattle.sheet_format.specs.Opened.{sizeIn}
 use Rattle.sheet_format.specs.Proper.{Proper}
 
 edition1-proper : Proper edition1
-edition1-proper = record { numbered = lit≤ tt; many = lit≤ tt; each = lit≤ tt; few = lit≤ tt; narrow-many = lit≤ tt; narrow-each = lit≤ tt; wide-each = lit≤ tt }
+edition1-proper = record { numbered = lit≤ tt; many = lit≤ tt; each = lit≤ tt; few = lit≤ tt; narrow-many = lit≤ tt; narrow-each = lit≤ tt; wide-many = lit≤ tt; wide-each = lit≤ tt }
 
 edition2-proper : Proper edition2
-edition2-proper = record { numbered = lit≤ tt; many = lit≤ tt; each = lit≤ tt; few = lit≤ tt; narrow-many = lit≤ tt; narrow-each = lit≤ tt; wide-each = lit≤ tt }
+edition2-proper = record { numbered = lit≤ tt; many = lit≤ tt; each = lit≤ tt; few = lit≤ tt; narrow-many = lit≤ tt; narrow-each = lit≤ tt; wide-many = lit≤ tt; wide-each = lit≤ tt }
 
 pub proper : (size : ℕ) → Proper (editionOf size)
 unfolding editionOf

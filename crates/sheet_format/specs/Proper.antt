@@ -10,4 +10,5 @@ pub record Proper (E : Edition) : Type 0 where
   pub few : E .size ≤ 256
   pub narrow-many : E .many ≤ 9
   pub narrow-each : E .each ≤ 8
+  pub wide-many : 7 ≤ E .many
   pub wide-each : 6 ≤ E .each

@@ -1,7 +1,7 @@
 // The fit sheet as a format, in specs/: described once, over its edition, for its readers and its writer. Assumes nothing.
 ghost use mathlib.Core.Path.{_≡_};
 ghost use Prim.Native.Nat.{_*_, _≤_};
-ghost use Rattle.sheet_format.specs.Sheet.{editionOf, entrySize, tilesSize, sizeOf};
+ghost use Rattle.sheet_format.specs.Sheet.{editionOf, sizeOf};
 ghost use Rattle.sheet_format.specs.Proper.{Proper};
 ghost use Rattle.sheet_format.specs.Opened.{sizeIn};
 
@@ -66,29 +66,13 @@ pub const WEIGHT_AT: usize = 54;
 
 pub const HEAD_BITS: usize = 86;
 
-// The bits of three components.
-const COLOUR_BITS: usize = 96;
-
-// The bits of a tile's colour: its count and three components.
-pub fn entry_bits(e: Edition) -> usize
-    requires { ⌜ Proper e ⌝ }
-    ensures { λ r. ⌜ r ≡ entrySize e ⌝ }
-{
-    e.each + COLOUR_BITS
-}
-
-// The bits of t tiles of n colours in all.
-pub fn tiles_bits(e: Edition, t: usize, n: usize) -> usize
-    requires { ⌜ Proper e × (t ≤ 1024) × (n ≤ 16384) ⌝ }
-    ensures { λ r. ⌜ r ≡ tilesSize e t n ⌝ }
-{
-    e.many * t + entry_bits(e) * n
-}
+// The bits of a colour's three components.
+pub const COLOUR_BITS: usize = 96;
 
 // The bits of a sheet of s subpalettes of c colours, and t tiles of n colours in all.
 pub fn size_of(e: Edition, s: usize, c: usize, t: usize, n: usize) -> usize
     requires { ⌜ Proper e × (s * c ≤ 256) × (t ≤ 1024) × (n ≤ 16384) ⌝ }
     ensures { λ r. ⌜ r ≡ sizeOf e s c t n ⌝ }
 {
-    HEAD_BITS + COLOUR_BITS * (s * c) + tiles_bits(e, t, n)
+    HEAD_BITS + COLOUR_BITS * (s * c) + (e.many * t + (e.each + COLOUR_BITS) * n)
 }

@@ -11,7 +11,7 @@ use Rattle.sheet_check.proofs.check.Statement.{statement}
 use Rattle.sheet_check.proofs.check.Tie as tie
 
 returns : tie.Need-returns
-returns c = read-long _ _ (c .if1 .taken)
+returns c = let start = c .before .before in read-long (start .args .e) (start .args .s .now) (c .if1 .taken)
 
 head-requires : tie.Need-head-requires
 head-requires c κs = search needs

@@ -8,7 +8,7 @@ use lib.Seq.{sets}
 use Rattle.bits.specs.Bits.{bits}
 use Rattle.bits.proofs.Bytes.{length-bits}
 use Rattle.bits.proofs.Fields.{field-lt}
-use Rattle.sheet_format.specs.Sheet.{edition1, colours}
+use Rattle.sheet_format.specs.Sheet.{colours}
 use Rattle.sheet_format.specs.Lists.{tileCounts, tileFloats}
 use Rattle.sheet_fill.specs.Fill.{Reads, listAt}
 use Rattle.sheet_fill.proofs.Colours.{Filling, filling-now, filling-again, filling-end}
@@ -16,12 +16,12 @@ use Rattle.sheet_fill.proofs.fill_colours.Statement.{statement}
 use Rattle.sheet_fill.proofs.fill_colours.Tie as tie
 
 abbrev Inv-loop : tie.InvT-loop
-Inv-loop s p n counts₀ parts₀ k q₀ i₀ counts parts q i =
+Inv-loop e s p n counts₀ parts₀ k q₀ i₀ counts parts q i =
     (i ≤ n) × (length counts ≡ length counts₀) × (length parts ≡ length parts₀)
-    × Filling edition1 s (n - i) q (k + i) counts parts (sets counts₀ k (tileCounts (listAt (colours edition1 n 0) s p))) (sets parts₀ (3 * k) (tileFloats (listAt (colours edition1 n 0) s p)))
+    × Filling e s (n - i) q (k + i) counts parts (sets counts₀ k (tileCounts (listAt (colours e n 0) s p))) (sets parts₀ (3 * k) (tileFloats (listAt (colours e n 0) s p)))
 
 abbrev μ-loop : tie.MeasureT-loop
-μ-loop s p n counts₀ parts₀ k q₀ i₀ counts parts q i = n - i
+μ-loop e s p n counts₀ parts₀ k q₀ i₀ counts parts q i = n - i
 
 loop-holds : tie.Need-loop-holds Inv-loop μ-loop
 loop-holds c =
@@ -32,7 +32,7 @@ loop-holds c =
       refl,
       record {
         sum = 0;
-        reads = subst (λ (j : ℕ). Reads (colours edition1 j 0) (a .s .now) (a .p)) (sym (sub-zero (a .n))) (start .pre .3);
+        reads = subst (λ (j : ℕ). Reads (colours (a .e) j 0) (a .s .now) (a .p)) (sym (sub-zero (a .n))) (start .pre .4);
         counts = rw (add-zero, sub-zero);
         parts = rw (add-zero, sub-zero);
       },
@@ -44,13 +44,13 @@ add-j c = omega arith
 get-requires : tie.Need-get-requires Inv-loop μ-loop
 get-requires c κs =
     let at-loop = c .before in let start = at-loop .before .before .before .before in let a = start .args in
-    omega (arith, filling-now edition1 (a .n) (at-loop .loop .i) (a .k) (at-loop .loop .inv .3) (omega arith) .room)
+    omega (arith, filling-now (a .e) (a .n) (at-loop .loop .i) (a .k) (at-loop .loop .inv .3) (omega arith) .room)
 
 add-counts : tie.Need-add-counts Inv-loop μ-loop
 add-counts c =
     let at-loop = c .before .before in let start = at-loop .before .before .before .before in let turn = at-loop .loop in let a = start .args in
-    let room = filling-now edition1 (a .n) (turn .i) (a .k) (turn .inv .3) (omega arith) .room in
-    omega (arith, c .get .ensures, field-lt (bits (a .s .now)) (turn .q) 6 6 (rw length-bits (omega arith)) (omega arith))
+    let room = filling-now (a .e) (a .n) (turn .i) (a .k) (turn .inv .3) (omega arith) .room in
+    omega (arith, c .get .ensures, field-lt (bits (a .s .now)) (turn .q) (a .e .each) 8 (rw length-bits (omega arith)) (omega arith))
 
 mul-counts : tie.Need-mul-counts Inv-loop μ-loop
 mul-counts c = omega arith
@@ -60,21 +60,25 @@ slice-write-counts c = omega arith
 
 add-fill-components : tie.Need-add-fill-components Inv-loop μ-loop
 add-fill-components c =
-    let at-loop = c .before .before in let start = at-loop .before .before .before .before in let a = start .args in
-    omega (arith, filling-now edition1 (a .n) (at-loop .loop .i) (a .k) (at-loop .loop .inv .3) (omega arith) .room)
+    let at-loop = c .before .before .before in let start = at-loop .before .before .before .before in let a = start .args in
+    omega (arith, filling-now (a .e) (a .n) (at-loop .loop .i) (a .k) (at-loop .loop .inv .3) (omega arith) .room)
 
 mul-fill-components : tie.Need-mul-fill-components Inv-loop μ-loop
 mul-fill-components c = omega arith
 
 fill-components-requires : tie.Need-fill-components-requires Inv-loop μ-loop
 fill-components-requires c κs =
-    let at-loop = c .before .before .before in let start = at-loop .before .before .before .before in let a = start .args in
-    (start .pre .0, omega arith, filling-now edition1 (a .n) (at-loop .loop .i) (a .k) (at-loop .loop .inv .3) (omega arith) .parts)
+    let at-loop = c .before .before .before .before in let start = at-loop .before .before .before .before in let a = start .args in
+    (start .pre .1, omega arith, filling-now (a .e) (a .n) (at-loop .loop .i) (a .k) (at-loop .loop .inv .3) (omega arith) .parts)
 
 add-q : tie.Need-add-q Inv-loop μ-loop
-add-q c =
-    let at-loop = c .before .before .before .before .before .before in let start = at-loop .before .before .before .before in let a = start .args in
-    omega (arith, filling-now edition1 (a .n) (at-loop .loop .i) (a .k) (at-loop .loop .inv .3) (omega arith) .room)
+add-q c = let start = c .before .before .before .before .before .before .before .before .before .before .before .before in omega (arith, start .pre .0 .narrow-each)
+
+add-q-2 : tie.Need-add-q-2 Inv-loop μ-loop
+add-q-2 c =
+    let past-loop-test = c .before .before .before .before .before .before .before in let at-loop = past-loop-test .before in let start = at-loop .before .before .before .before in let a = start .args in
+    let turn = filling-now (a .e) (a .n) (at-loop .loop .i) (a .k) (at-loop .loop .inv .3) (past-loop-test .loop-test .taken) in
+    omega (arith, turn .room, start .pre .0 .narrow-each, start .pre .0 .wide-each)
 
 add-i : tie.Need-add-i Inv-loop μ-loop
 add-i c = omega arith
@@ -84,13 +88,13 @@ loop-less c = omega arith
 
 loop-again : tie.Need-loop-again Inv-loop μ-loop
 loop-again c =
-    let after-fill-components = c .before .before in let after-get = after-fill-components .before .before in
+    let after-fill-components = c .before .before .before in let after-get = after-fill-components .before .before .before in
     let at-loop = after-get .before .before in let start = at-loop .before .before .before .before in let turn = at-loop .loop in
     let a = start .args in (
       omega arith,
       length-set (turn .counts) (a .k + turn .i) (after-get .get .result + 1) ∙ turn .inv .1,
       after-fill-components .fill-components .kept .1 .1 .1 .0 ∙ turn .inv .2,
-      filling-again edition1 (a .n) (turn .i) (a .k) (turn .inv .3) (omega arith) (after-get .get .result) _ (after-get .get .ensures)
+      filling-again (a .e) (a .n) (turn .i) (a .k) (turn .inv .3) (omega arith) (after-get .get .result) _ (after-get .get .ensures)
           (after-fill-components .fill-components .ensures),
     )
 
@@ -103,10 +107,10 @@ same-length-2 c = omega arith
 returns : tie.Need-returns Inv-loop μ-loop
 returns c =
     let at-loop = c .before in let start = at-loop .before .before .before .before in let a = start .args in
-    filling-end edition1 (a .n) (at-loop .loop .i) (a .k) (at-loop .loop .inv .3) (omega arith)
+    filling-end (a .e) (a .n) (at-loop .loop .i) (a .k) (at-loop .loop .inv .3) (omega arith)
 
 pub fill-colours-spec : {M : Type 1} → statement M
 fill-colours-spec =
     tie.close
     (tie.spec Inv-loop μ-loop loop-holds add-j get-requires add-counts mul-counts slice-write-counts add-fill-components mul-fill-components
-    fill-components-requires add-q add-i loop-less loop-again same-length same-length-2 returns)
+    fill-components-requires add-q add-q-2 add-i loop-less loop-again same-length same-length-2 returns)

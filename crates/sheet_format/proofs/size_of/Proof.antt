@@ -14,13 +14,20 @@ mul-result-2 c = search needs
 add-result : tie.Need-add-result
 add-result c = search needs
 
-tiles-bits-requires : tie.Need-tiles-bits-requires
-tiles-bits-requires c κs = search needs
+mul-result-3 : tie.Need-mul-result-3
+mul-result-3 c = let start = c .before in let a = start .args in omega (arith, tiles-most (a .e) (start .pre .0) (a .t) (a .n))
 
 add-result-2 : tie.Need-add-result-2
-add-result-2 c =
-    let start = c .before in let a = start .args in
-    omega (arith, c .tiles-bits .ensures, tiles-most (a .e) (start .pre .0) (a .t) (a .n))
+add-result-2 c = search needs
+
+mul-result-4 : tie.Need-mul-result-4
+mul-result-4 c = let start = c .before .before in let a = start .args in omega (arith, tiles-most (a .e) (start .pre .0) (a .t) (a .n))
+
+add-result-3 : tie.Need-add-result-3
+add-result-3 c = let start = c .before .before in let a = start .args in omega (arith, tiles-most (a .e) (start .pre .0) (a .t) (a .n))
+
+add-result-4 : tie.Need-add-result-4
+add-result-4 c = let start = c .before .before in let a = start .args in omega (arith, tiles-most (a .e) (start .pre .0) (a .t) (a .n))
 
 returns : tie.Need-returns
 returns c = search needs
@@ -28,4 +35,4 @@ returns c = search needs
 pub size-of-spec : {M : Type 1} → statement M
 size-of-spec =
     tie.close
-    (tie.spec mul-result mul-result-2 add-result tiles-bits-requires add-result-2 returns)
+    (tie.spec mul-result mul-result-2 add-result mul-result-3 add-result-2 mul-result-4 add-result-3 add-result-4 returns)
