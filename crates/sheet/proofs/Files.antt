@@ -25,14 +25,15 @@ use Rattle.job.specs.Job.{Job}
 use Rattle.job.specs.Checks.{plainAnswer}
 use Rattle.job.specs.Gives.{Ready, Lent, Plain}
 use Rattle.job.proofs.Ready.{plain-ready}
-use Rattle.sheet_format.specs.Sheet.{edition1, sheet, sizeOf}
+use Rattle.sheet_format.specs.declared.Edition.{Edition}
+use Rattle.sheet_format.specs.Sheet.{editionOf, sheet, sizeOf}
 use Rattle.sheet_pack.specs.Packed.{sheetOf, sheetBits}
 use Rattle.sheet_pack.proofs.Prints.{sheet-size, sheet-print}
 use Rattle.sheet_room.specs.Room.{placeFor}
 use Rattle.sheet_room.proofs.Places.{unplaced}
 use Rattle.sheet.specs.declared.Writing.{Writing}
 use Rattle.sheet.specs.declared.Writing.the-variants.{Refused, Bytes}
-use Rattle.sheet.specs.Sheets.{storedIn, writeDef}
+use Rattle.sheet.specs.Sheets.{fileOf, storedIn, writeDef}
 
 -- each element is a byte, as a slice of bytes has it
 abbrev Bytewise : List ℕ → Type 0
@@ -84,26 +85,26 @@ stored-front old new n q ho hn ln lq room e =
     (e ∙ ap (sets (bits old) 0) (sym (bits-bytesOf n q lq)) ∙ sym (bits-sets (bytesOf n q) old 0 (omega (arith, length-bytesOf n q))))
 
 -- ---- the file of a job's sheet
-module _ (J : Job) (R : Ready J) (palette : List Float) (L : Lent (J .S) (J .C) palette) where
+module _ (E : Edition) (J : Job) (R : Ready J) (palette : List Float) (L : Lent (J .S) (J .C) palette) where
   abbrev wide : ℕ
-  wide = sizeOf edition1 (J .S) (J .C) (J .T) (length (J .counts))
+  wide = sizeOf E (J .S) (J .C) (J .T) (length (J .counts))
 
-  printed-long : length (sheet edition1 .print (sheetOf J palette)) ≡ wide
-  printed-long = ap length (sheet-print J R palette L edition1) ∙ sheet-size J R palette L
+  printed-long : length (sheet E .print (sheetOf J palette)) ≡ wide
+  printed-long = ap length (sheet-print J R palette L E) ∙ sheet-size J R palette L E
 
-  pub file-long : length (encode (sheet edition1) (sheetOf J palette)) ≡ bytesFor wide
-  file-long = for-any (sheet edition1 .print (sheetOf J palette)) printed-long
+  pub file-long : length (encode (sheet E) (sheetOf J palette)) ≡ bytesFor wide
+  file-long = for-any (sheet E .print (sheetOf J palette)) printed-long
     where
       for-any : (p : List Bool) → length p ≡ wide → length (bytesOf (bytesFor (length p)) (p ++ replicate (8 * bytesFor (length p) - length p) false)) ≡ bytesFor wide
       for-any p e = length-bytesOf (bytesFor (length p)) (p ++ replicate (8 * bytesFor (length p) - length p) false) ∙ ap bytesFor e
 
   pub file-stored : (old new : List ℕ) (n : ℕ) → n ≡ wide → Bytewise old → Bytewise new → length new ≡ length old → bytesFor n ≤ length old
-      → bits new ≡ sets (bits old) 0 (sheetBits edition1 (sheetOf J palette) ++ replicate (8 * bytesFor n - n) false)
-      → new ≡ sets old 0 (encode (sheet edition1) (sheetOf J palette))
+      → bits new ≡ sets (bits old) 0 (sheetBits E (sheetOf J palette) ++ replicate (8 * bytesFor n - n) false)
+      → new ≡ sets old 0 (encode (sheet E) (sheetOf J palette))
   file-stored old new n en ho hn ln room e =
-      for-any (sheet edition1 .print (sheetOf J palette)) (printed-long ∙ sym en) (sym (sheet-print J R palette L edition1))
+      for-any (sheet E .print (sheetOf J palette)) (printed-long ∙ sym en) (sym (sheet-print J R palette L E))
     where
-      for-any : (p : List Bool) → length p ≡ n → sheetBits edition1 (sheetOf J palette) ≡ p
+      for-any : (p : List Bool) → length p ≡ n → sheetBits E (sheetOf J palette) ≡ p
           → new ≡ sets old 0 (bytesOf (bytesFor (length p)) (p ++ replicate (8 * bytesFor (length p) - length p) false))
       for-any p lp ep =
           let q : List Bool = p ++ replicate (8 * bytesFor n - n) false in
@@ -141,39 +142,39 @@ module _ (file old : List ℕ) where
   stored n new h l en e = ap₂ {C = Outcome Writing (List ℕ)} (λ i v. outcome (Bytes i) v) en e ∙ sym (stored-in-place h l)
 
 module _ (J : Job) (palette : List Float) (old : List ℕ) (r : Refusal) (e : r ≡ plainAnswer J palette true) where
-  abbrev file : List ℕ
-  file = encode (sheet edition1) (sheetOf J palette)
-
   -- the job's own refusals come first
   pub job-refused : (r .number ≡ 0 → ⊥) → outcome (Refused r) old ≡ writeDef J palette old
   unfolding writeDef
-  job-refused z = was-refused r (plainAnswer J palette true) e (storedIn file old) (λ x. Refused x) old z
+  job-refused z = was-refused r (plainAnswer J palette true) e (storedIn (fileOf J palette) old) (λ x. Refused x) old z
 
   module _ (z : r .number ≡ 0) where
     pub passed : Plain J palette true
     passed = plain-ready J palette true (subst (λ (x : Refusal). x .number ≡ 0) e z)
 
-    by-file : (x : Outcome Writing (List ℕ)) → x ≡ storedIn file old → x ≡ writeDef J palette old
+    by-file : (x : Outcome Writing (List ℕ)) → x ≡ storedIn (fileOf J palette) old → x ≡ writeDef J palette old
     unfolding writeDef
-    by-file x f = was-done r (plainAnswer J palette true) e (storedIn file old) (λ x. Refused x) old z x f
+    by-file x f = was-done r (plainAnswer J palette true) e (storedIn (fileOf J palette) old) (λ x. Refused x) old z x f
 
-    module _ (n k : ℕ) (en : n ≡ sizeOf edition1 (J .S) (J .C) (J .T) (length (J .counts))) (ek : k ≡ bytesFor n) where
-      file-is : k ≡ length file
-      file-is = ek ∙ ap bytesFor en ∙ sym (file-long J (passed .ready) palette (passed .lent))
+    module _ (E : Edition) (named : E ≡ editionOf (J .size)) (n k : ℕ) (en : n ≡ sizeOf E (J .S) (J .C) (J .T) (length (J .counts))) (ek : k ≡ bytesFor n) where
+      file-is : k ≡ length (fileOf J palette)
+      file-is =
+          ek ∙ ap bytesFor en ∙ sym (file-long E J (passed .ready) palette (passed .lent))
+          ∙ ap (λ (x : Edition). length (encode (sheet x) (sheetOf J palette))) named
 
       too-large : 65536 < k → outcome (Refused (refusal 13 0)) old ≡ writeDef J palette old
-      too-large h = by-file _ (large file old (subst (λ (i : ℕ). 65536 < i) file-is h))
+      too-large h = by-file _ (large (fileOf J palette) old (subst (λ (i : ℕ). 65536 < i) file-is h))
 
       roomless-place : k ≤ 65536 → length old < k → outcome (Refused (refusal 3 0)) old ≡ writeDef J palette old
-      roomless-place h l = by-file _ (roomless file old (subst (λ (i : ℕ). i ≤ 65536) file-is h) (subst (λ (i : ℕ). length old < i) file-is l))
+      roomless-place h l = by-file _ (roomless (fileOf J palette) old (subst (λ (i : ℕ). i ≤ 65536) file-is h) (subst (λ (i : ℕ). length old < i) file-is l))
 
       pub no-place : (y : Refusal) → y ≡ placeFor k (length old) → (y .number ≡ 0 → ⊥) → outcome (Refused y) old ≡ writeDef J palette old
       no-place y ey h = unplaced k (length old) y ey (λ x. outcome (Refused x) old ≡ writeDef J palette old) h too-large roomless-place
 
       pub file-written : (new : List ℕ) → k ≤ 65536 → k ≤ length old → Bytewise old → Bytewise new → length new ≡ length old
-          → bits new ≡ sets (bits old) 0 (sheetBits edition1 (sheetOf J palette) ++ replicate (8 * bytesFor n - n) false)
+          → bits new ≡ sets (bits old) 0 (sheetBits E (sheetOf J palette) ++ replicate (8 * bytesFor n - n) false)
           → outcome (Bytes k) new ≡ writeDef J palette old
       file-written new h l ho hn ln f =
           by-file _
-          (stored file old k new (subst (λ (i : ℕ). i ≤ 65536) file-is h) (subst (λ (i : ℕ). i ≤ length old) file-is l) file-is
-          (file-stored J (passed .ready) palette (passed .lent) old new n en ho hn ln (omega arith) f))
+          (stored (fileOf J palette) old k new (subst (λ (i : ℕ). i ≤ 65536) file-is h) (subst (λ (i : ℕ). i ≤ length old) file-is l) file-is
+          (file-stored E J (passed .ready) palette (passed .lent) old new n en ho hn ln (omega arith) f
+          ∙ ap (λ (x : Edition). sets old 0 (encode (sheet x) (sheetOf J palette))) named))

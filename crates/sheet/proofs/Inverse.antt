@@ -16,10 +16,12 @@ use Rattle.answer.specs.Outcome.{Outcome, outcome, decided}
 use Rattle.answer.proofs.Passing.{all-pass}
 use Rattle.answer.proofs.Outcomes.{decided-done}
 use Rattle.format.specs.Format.{Answer, refused, accepted, readOf, encode}
-use Rattle.job.specs.Job.{Job, tileSize, sizesOf}
+use Rattle.job.specs.Job.{Job, sizesOf}
 use Rattle.job.specs.Checks.{tileSized, plainRules, plainAnswer}
 use Rattle.job.proofs.Ready.{plain-ready}
-use Rattle.sheet_format.specs.Sheet.{edition1, Sheet, faultOf, sheet, readSheet}
+use Rattle.sheet_format.specs.declared.Edition.{Edition}
+use Rattle.sheet_format.specs.Sheet.{editionOf, Sheet, faultOf, sheet, readSheet}
+use Rattle.sheet_format.proofs.Editions.{proper}
 use Rattle.sheet_format.proofs.Exact.{sheet-there, sheet-back}
 use Rattle.sheet_format.specs.Lists.{floats, total}
 use Rattle.sheet_check.specs.Steps.{checkedOf}
@@ -28,7 +30,8 @@ use Rattle.sheet.specs.declared.Reading.{Reading}
 use Rattle.sheet.specs.declared.Reading.the-variants as reading
 use Rattle.sheet.specs.declared.Writing.{Writing}
 use Rattle.sheet.specs.declared.Writing.the-variants.{Refused, Bytes}
-use Rattle.sheet.specs.Sheets.{jobIn, Room, room, roomy, readInto, readDef, storedIn, writeDef}
+use Rattle.sheet.specs.Sheets.{jobIn, Room, room, enough, readInto, readDef, fileOf, storedIn, writeDef}
+use Rattle.sheet.proofs.Editions.{edition-size, edition-sized, edition-again}
 use Rattle.sheet.proofs.Floats.{Singles}
 use Rattle.sheet.proofs.Kept.{job-back, palette-back, sheet-good}
 use Rattle.sheet.proofs.Again.{sheet-again}
@@ -41,37 +44,46 @@ pub sets-front : {A : Type 0} (v l : List A) → length v ≤ length l → take 
 sets-front v l h = ap (take (length v)) (sets-eq v l 0 (omega arith)) ∙ take-at v (drop (0 + length v) l) (length v) refl
 
 -- ---- sheets as bits
-pub read-written : (x : Sheet) → T (sheet edition1 .good x) → length (encode (sheet edition1) x) ≤ 65536 → readSheet edition1 (encode (sheet edition1) x) ≡ accepted x
-read-written x g h =
-    ap (λ (b : Bool). cond b (readOf faultOf (sheet edition1) (encode (sheet edition1) x)) (refused (refusal 13 0))) (le-leb (length (encode (sheet edition1) x)) 65536 h) ∙ sheet-there edition1 x g
+module _ (E : Edition) where
+  pub read-written : (x : Sheet) → T (sheet E .good x) → length (encode (sheet E) x) ≤ 65536 → readSheet E (encode (sheet E) x) ≡ accepted x
+  read-written x g h =
+      ap (λ (b : Bool). cond b (readOf faultOf (sheet E) (encode (sheet E) x)) (refused (refusal 13 0))) (le-leb (length (encode (sheet E) x)) 65536 h) ∙ sheet-there E x g
 
-pub written-read : (b : List ℕ) (x : Sheet) → T (areBytes b) → readSheet edition1 b ≡ accepted x → (encode (sheet edition1) x ≡ b) × T (sheet edition1 .good x)
-written-read b x h e = sheet-back edition1 b x h (within-limit b x e .1)
+  pub written-read : (b : List ℕ) (x : Sheet) → T (areBytes b) → readSheet E b ≡ accepted x → (encode (sheet E) x ≡ b) × T (sheet E .good x)
+  written-read b x h e = sheet-back E b x h (within-limit E b x e .1)
 
 same-sheet : (x y : Sheet) → _≡_ {A = Answer Sheet} (accepted x) (accepted y) → x ≡ y
 same-sheet x y e = cc
 
 -- an accepted sheet has few colours, and its job passes the checks of every call without samples
-accepted-total : (b : List ℕ) (x : Sheet) → readSheet edition1 b ≡ accepted x → total (x .content) ≤ 5140
-accepted-total b x e =
-    let A = accepted-says b (x .subs) (x .each) (x .tiles) (x .weight) (sym (ap checkedOf e)) in
-    subst (λ (y : Sheet). total (y .content) ≤ 5140) (sym (same-sheet x _ (sym e ∙ A .is))) (A .fit)
+module _ (size : ℕ) (b : List ℕ) (x : Sheet) where
+  accepted-total : readSheet (editionOf size) b ≡ accepted x → total (x .content) ≤ 5140
+  accepted-total e =
+      let A = accepted-says (editionOf size) (proper size) b (x .subs) (x .each) (x .tiles) (x .weight) (sym (ap checkedOf e)) in
+      subst (λ (y : Sheet). total (y .content) ≤ 5140) (sym (same-sheet x _ (sym e ∙ A .is))) (A .fit)
 
-pub accepted-few : (b : List ℕ) (x : Sheet) → T (areBytes b) → readSheet edition1 b ≡ accepted x → length (jobIn x .counts) ≤ 5140
-accepted-few b x h e = omega (arith, accepted-total b x e, content-counts x (written-read b x h e .1))
+  pub accepted-few : T (areBytes b) → readSheet (editionOf size) b ≡ accepted x → length (jobIn (editionOf size) x .counts) ≤ 5140
+  accepted-few h e = omega (arith, accepted-total e, content-counts (editionOf size) x (written-read (editionOf size) b x h e .1))
 
-pub accepted-job : (b : List ℕ) (x : Sheet) → T (areBytes b) → readSheet edition1 b ≡ accepted x → plainAnswer (jobIn x) (floats (x .palette)) true .number ≡ 0
-accepted-job b x h e = let few = accepted-total b x e in taken x (written-read b x h e .1) (omega arith)
+  pub accepted-job : T (areBytes b) → readSheet (editionOf size) b ≡ accepted x → plainAnswer (jobIn (editionOf size) x) (floats (x .palette)) true .number ≡ 0
+  accepted-job h e = let few = accepted-total e in taken (editionOf size) (edition-sized size) x (written-read (editionOf size) b x h e .1) (omega arith)
 
--- a job that passes has tiles of 64 pixels
-plain-sized : (J : Job) (palette : List Float) (room : Bool) → plainAnswer J palette room .number ≡ 0 → J .size ≡ tileSize
-unfolding plainAnswer numbered tileSized
-plain-sized J palette room e = eqb-true (J .size) tileSize (all-pass (plainRules J palette room) refl e .0)
+-- its file is the bytes that were read
+pub file-again : (size : ℕ) (b : List ℕ) (x : Sheet) → T (areBytes b) → readSheet (editionOf size) b ≡ accepted x → fileOf (jobIn (editionOf size) x) (floats (x .palette)) ≡ b
+file-again size b x h e =
+    let r = written-read (editionOf size) b x h e in
+    ap (λ (E : Edition). encode (sheet E) (sheetOf (jobIn (editionOf size) x) (floats (x .palette)))) (edition-again size)
+    ∙ ap (encode (sheet (editionOf size))) (sheet-again (editionOf size) x (r .1)) ∙ r .0
+
+-- a job that passes has one of the tile sizes
+plain-sized : (J : Job) (palette : List Float) (room : Bool) → plainAnswer J palette room .number ≡ 0 → tileSized (J .size) ≡ true
+unfolding plainAnswer numbered
+plain-sized J palette room e = all-pass (plainRules J palette room) refl e .0
 
 -- ---- written, then read
 module _ (J : Job) (palette : List Float) (old : List ℕ) (n : ℕ) (new : List ℕ) (w : outcome (Bytes n) new ≡ writeDef J palette old) where
   abbrev file : List ℕ
-  file = encode (sheet edition1) (sheetOf J palette)
+  file = fileOf J palette
 
   -- what an answer of n bytes says
   record Wrote : Type 0 where
@@ -118,31 +130,32 @@ module _ (J : Job) (palette : List Float) (old : List ℕ) (n : ℕ) (new : List
       let W = wrote in
       ap₂ (λ (i : ℕ) (l : List ℕ). take i l) (W .number) (W .stored) ∙ sets-front file old (W .room)
 
-  -- are read as the same job, in floats of 32 bits; what isn't filled stays
-  pub read-back : T (fits binary32 (J .weight)) → Singles (J .colours) → Singles palette → (h : Room) → roomy (length (h .tiles)) (length (h .colours)) (length (h .counts)) (length (h .palette)) ≡ true
-      → readDef (take n new) h
-      ≡ outcome (reading.Sheet (sizesOf (J .S) (J .C) (J .T) 0 (J .weight))) (room (sets (h .tiles) 0 (J .tiles)) (sets (h .colours) 0 (J .colours)) (sets (h .counts) 0 (J .counts)) (sets (h .palette) 0 palette))
+  -- are read as the same job, in floats of 32 bits, by a reader that is told its tile size; what isn't filled stays
+  pub read-back : T (fits binary32 (J .weight)) → Singles (J .colours) → Singles palette → (h : Room) → enough h ≡ true
+      → readDef (J .size) (take n new) h
+      ≡ outcome (reading.Sheet (sizesOf (J .size) (J .S) (J .C) (J .T) 0 (J .weight))) (room (sets (h .tiles) 0 (J .tiles)) (sets (h .colours) 0 (J .colours)) (sets (h .counts) 0 (J .counts)) (sets (h .palette) 0 palette))
   unfolding readDef
   read-back Fw Fc Fp h r =
+      let E : Edition = editionOf (J .size) in
       let W = wrote in
       let P = plain-ready J palette true (W .passed) in
-      let sized = plain-sized J palette true (W .passed) in
-      let g = sheet-good J (P .ready) sized Fc Fw palette (P .lent) Fp in
-      ap (λ (b : Bool). readInto (cond b (readSheet edition1 (take n new)) (refused (refusal 3 0))) h) r
-      ∙ ap (λ (b : List ℕ). readInto (readSheet edition1 b) h) front
-      ∙ ap (λ (a : Answer Sheet). readInto a h) (read-written (sheetOf J palette) g (W .small))
-      ∙ ap₂ {C = Outcome Reading Room} (λ K p. outcome (reading.Sheet (sizesOf (K .S) (K .C) (K .T) 0 (K .weight)))
+      let there = plain-sized J palette true (W .passed) in
+      let sized = sym (edition-size (J .size) there) in
+      let g = sheet-good E (proper (J .size)) J (P .ready) sized Fc Fw palette (P .lent) Fp in
+      ap₂ (λ (a b : Bool). readInto E (cond a (cond b (readSheet E (take n new)) (refused (refusal 3 0))) (refused (refusal 2 0))) h) there r
+      ∙ ap (λ (b : List ℕ). readInto E (readSheet E b) h) front
+      ∙ ap (λ (a : Answer Sheet). readInto E a h) (read-written E (sheetOf J palette) g (W .small))
+      ∙ ap₂ {C = Outcome Reading Room} (λ K p. outcome (reading.Sheet (sizesOf (K .size) (K .S) (K .C) (K .T) 0 (K .weight)))
       (room (sets (h .tiles) 0 (K .tiles)) (sets (h .colours) 0 (K .colours)) (sets (h .counts) 0 (K .counts)) (sets (h .palette) 0 p)))
-      (job-back J (P .ready) sized Fc Fw palette (P .lent) Fp) (palette-back J (P .ready) sized Fc Fw palette (P .lent) Fp)
+      (job-back E (proper (J .size)) J (P .ready) sized Fc Fw palette (P .lent) Fp) (palette-back E (proper (J .size)) J (P .ready) sized Fc Fw palette (P .lent) Fp)
 
 -- ---- read, then written
 -- the sheet whose job a reading fills in has the bytes that were read, whatever the room
-pub write-back : (b : List ℕ) (x : Sheet) → T (areBytes b) → readSheet edition1 b ≡ accepted x → (old : List ℕ) → length b ≤ length old
-    → writeDef (jobIn x) (floats (x .palette)) old ≡ outcome (Bytes (length b)) (sets old 0 b)
+pub write-back : (size : ℕ) (b : List ℕ) (x : Sheet) → T (areBytes b) → readSheet (editionOf size) b ≡ accepted x → (old : List ℕ) → length b ≤ length old
+    → writeDef (jobIn (editionOf size) x) (floats (x .palette)) old ≡ outcome (Bytes (length b)) (sets old 0 b)
 unfolding writeDef
-write-back b x h e old room =
-    let r = written-read b x h e in
-    let file : encode (sheet edition1) (sheetOf (jobIn x) (floats (x .palette))) ≡ b = ap (encode (sheet edition1)) (sheet-again x (r .1)) ∙ r .0 in
-    decided-done (plainAnswer (jobIn x) (floats (x .palette)) true) _ _ old (accepted-job b x h e)
-    ∙ ap (λ (l : List ℕ). storedIn l old) file
-    ∙ stored-in-place b old (within-limit b x e .0) room
+write-back size b x h e old room =
+    let E : Edition = editionOf size in
+    decided-done (plainAnswer (jobIn E x) (floats (x .palette)) true) _ _ old (accepted-job size b x h e)
+    ∙ ap (λ (l : List ℕ). storedIn l old) (file-again size b x h e)
+    ∙ stored-in-place b old (within-limit E b x e .0) room

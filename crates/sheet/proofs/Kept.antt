@@ -3,7 +3,7 @@
 use mathlib.Core.Path.{_≡_, refl, sym, ap, ap₂, _∙_, subst}
 use Prim.Native.Nat.{ℕ, zero, suc, _+_, _*_, _^_, _≤_, _<_}
 use native.Mathlib.Omega.{arith}
-use native.Mathlib.Nat.{zero-add, zero-mul, mul-pos}
+use native.Mathlib.Nat.{zero-add, zero-mul, mul-pos, le-trans}
 use mathlib.Core.Bool.{Bool, true, false, _&&_}
 use mathlib.Core.List.{List, [], _∷_, _++_}
 use lib.Dec.{T, leb, ltb, lt→ltb, le→leb}
@@ -18,11 +18,13 @@ use Rattle.ieee.specs.Terms.{zeroF, Within}
 use Rattle.color.specs.Color.{Bounded}
 use Rattle.format.specs.Format.{above, times}
 use Rattle.format.proofs.Tests.{and-in}
-use Rattle.job.specs.Job.{Job, job, tileSize, firstOf, sizeOf, countsPart, coloursPart}
+use Rattle.job.specs.Job.{Job, job, firstOf, sizeOf, countsPart, coloursPart}
 use Rattle.job.specs.Gives.{Ready, Lent}
 use Rattle.job.proofs.Tiles.{counts-length, tile-three, tile-bounded}
 use Rattle.format_pattern.specs.Pattern.{weighs}
-use Rattle.sheet_format.specs.Sheet.{edition1, component, Colour, colours, tile, sheet}
+use Rattle.sheet_format.specs.declared.Edition.{Edition}
+use Rattle.sheet_format.specs.Proper.{Proper}
+use Rattle.sheet_format.specs.Sheet.{component, Colour, colours, tile, sheet}
 use Rattle.sheet_format.specs.Lists.{floats, patterns, tileCounts, tileFloats, allCounts, allFloats, tableOf}
 use Rattle.sheet_pack.specs.Packed.{coloursOf, tilesFrom, sheetOf, Counted}
 use Rattle.sheet_pack.proofs.Prints.{length-coloursOf}
@@ -49,17 +51,18 @@ unfolding sum
 sum-front c cs zero = omega arith
 sum-front c cs (suc n) = omega (arith, sum-front c cs n)
 
-colours-good : (cs : List ℕ) (xs : List Float) (done : ℕ) → length xs ≡ 3 * length cs → Counted cs → done + sum (λ k. getD cs k 0) (length cs) ≤ 64 → Singles xs → Bounded xs 2
-    → T (colours edition1 (length cs) done .good (coloursOf cs xs))
-colours-good [] xs done l c h s b = tt
-colours-good (n ∷ cs) xs done l c h s b =
+colours-good : (E : Edition) → Proper E → (cs : List ℕ) (xs : List Float) (done : ℕ) → length xs ≡ 3 * length cs → Counted cs → done + sum (λ k. getD cs k 0) (length cs) ≤ E .size → Singles xs → Bounded xs 2
+    → T (colours E (length cs) done .good (coloursOf cs xs))
+colours-good E proper [] xs done l c h s b = tt
+colours-good E proper (n ∷ cs) xs done l c h s b =
     let v : List ℕ = patterns (take 3 xs) in
-    let k : done + (n + sum (λ k. getD cs k 0) (length cs)) ≤ 64 = subst (λ (i : ℕ). done + i ≤ 64) (sum-front n cs (length cs)) h in
-    and-in ((above 6 .good n && leb (done + n) 64) && times 3 component .good v) (colours edition1 (length cs) (done + n) .good (coloursOf cs (drop 3 xs)))
-    (and-in (above 6 .good n && leb (done + n) 64) (times 3 component .good v)
-    (and-in (above 6 .good n) (leb (done + n) 64) (above-good 6 n (c 0 (omega arith)) (omega arith)) (le→leb (done + n) 64 (omega arith)))
+    let k : done + (n + sum (λ k. getD cs k 0) (length cs)) ≤ E .size = subst (λ (i : ℕ). done + i ≤ E .size) (sum-front n cs (length cs)) h in
+    let few : n ≤ E .size = omega arith in
+    and-in ((above (E .each) .good n && leb (done + n) (E .size)) && times 3 component .good v) (colours E (length cs) (done + n) .good (coloursOf cs (drop 3 xs)))
+    (and-in (above (E .each) .good n && leb (done + n) (E .size)) (times 3 component .good v)
+    (and-in (above (E .each) .good n) (leb (done + n) (E .size)) (above-good (E .each) n (c 0 (omega arith)) (le-trans few (proper .each))) (le→leb (done + n) (E .size) (omega arith)))
     (components-good 3 (take 3 xs) (length-take-le 3 xs (omega arith)) (singles-take 3 xs s) (bounded-take 2 3 xs b)))
-    (colours-good cs (drop 3 xs) (done + n) (length-drop 3 xs ∙ omega arith) (λ i m. c (suc i) (omega arith)) (omega arith) (singles-drop 3 xs s) (bounded-drop 2 3 xs b))
+    (colours-good E proper cs (drop 3 xs) (done + n) (length-drop 3 xs ∙ omega arith) (λ i m. c (suc i) (omega arith)) (omega arith) (singles-drop 3 xs s) (bounded-drop 2 3 xs b))
 
 counts-of : (cs : List ℕ) (xs : List Float) → tileCounts (coloursOf cs xs) ≡ cs
 counts-of [] xs = refl
@@ -76,26 +79,26 @@ floats-of (c ∷ cs) xs e s =
     ∙ take-append-drop 3 xs
 
 -- ---- a job of floats of 32 bits that passed its checks
-module _ (J : Job) (R : Ready J) (sized : J .size ≡ tileSize) (F : Singles (J .colours)) where
+module _ (E : Edition) (proper : Proper E) (J : Job) (R : Ready J) (sized : J .size ≡ E .size) (F : Singles (J .colours)) where
   abbrev from : ℕ → ℕ → List (List Colour)
   from i m = tilesFrom (J .tiles) (J .colours) (J .counts) i m
 
   singles-part : (i : ℕ) → Singles (coloursPart (J .tiles) (J .colours) i)
   singles-part i = singles-take (3 * sizeOf (J .tiles) i) (drop (3 * firstOf (J .tiles) i) (J .colours)) (singles-drop (3 * firstOf (J .tiles) i) (J .colours) F)
 
-  tiles-good : (m i : ℕ) → i + m ≡ J .T → T (times m (tile edition1) .good (from i m))
+  tiles-good : (m i : ℕ) → i + m ≡ J .T → T (times m (tile E) .good (from i m))
   tiles-good zero i e = tt
   tiles-good (suc m) i e =
       let cs : List ℕ = countsPart (J .tiles) (J .counts) i in
       let xs : List Float = coloursPart (J .tiles) (J .colours) i in
       let x : List Colour = coloursOf cs xs in
       let l : i < J .T = omega arith in
-      let few : length cs ≤ 64 = omega (arith, counts-length J R i l, R .short i l, sized) in
-      and-in (tile edition1 .good x) (times m (tile edition1) .good (from (suc i) m))
-      (subst (λ (j : ℕ). T ((ltb j (2 ^ 7) && leb j 64) && colours edition1 j 0 .good x)) (sym (length-coloursOf cs xs))
-      (and-in (ltb (length cs) (2 ^ 7) && leb (length cs) 64) (colours edition1 (length cs) 0 .good x)
-      (and-in (ltb (length cs) (2 ^ 7)) (leb (length cs) 64) (lt→ltb (length cs) (2 ^ 7) (omega arith)) (le→leb (length cs) 64 few))
-      (colours-good cs xs 0 (tile-three J R i l) (λ k n. R .low i k l n) (omega (arith, R .full i l, sized)) (singles-part i) (tile-bounded J R i l))))
+      let few : length cs ≤ E .size = omega (arith, counts-length J R i l, R .short i l, sized) in
+      and-in (tile E .good x) (times m (tile E) .good (from (suc i) m))
+      (subst (λ (j : ℕ). T ((ltb j (2 ^ E .many) && leb j (E .size)) && colours E j 0 .good x)) (sym (length-coloursOf cs xs))
+      (and-in (ltb (length cs) (2 ^ E .many) && leb (length cs) (E .size)) (colours E (length cs) 0 .good x)
+      (and-in (ltb (length cs) (2 ^ E .many)) (leb (length cs) (E .size)) (lt→ltb (length cs) (2 ^ E .many) (omega (arith, proper .many))) (le→leb (length cs) (E .size) few))
+      (colours-good E proper cs xs 0 (tile-three J R i l) (λ k n. R .low i k l n) (omega (arith, R .full i l, sized)) (singles-part i) (tile-bounded J R i l))))
       (tiles-good m (suc i) (omega arith))
 
   -- ---- counts, colours and table, one tile after another
@@ -151,28 +154,29 @@ module _ (J : Job) (R : Ready J) (sized : J .size ≡ tileSize) (F : Singles (J 
 
   -- ---- the whole
   module _ (F32 : T (fits binary32 (J .weight))) (palette : List Float) (L : Lent (J .S) (J .C) palette) (P : Singles palette) where
-    pub job-back : jobIn (sheetOf J palette) ≡ J
+    pub job-back : jobIn E (sheetOf J palette) ≡ J
     job-back =
         let tiles : tableOf 0 (from 0 (J .T)) ≡ J .tiles = ap (λ (j : ℕ). tableOf j (from 0 (J .T))) (sym none) ∙ all-table (J .T) 0 (zero-add (J .T)) in
         let colours : allFloats (from 0 (J .T)) ≡ J .colours = all-floats (J .T) 0 (zero-add (J .T)) ∙ ap (λ (j : ℕ). drop (3 * j) (J .colours)) none in
         let counts : allCounts (from 0 (J .T)) ≡ J .counts = all-counts (J .T) 0 (zero-add (J .T)) ∙ ap (λ (j : ℕ). drop j (J .counts)) none in
-        ap₂ {C = Job} (λ w t. job tileSize (J .S) (J .C) (J .T) w t (allFloats (from 0 (J .T))) (allCounts (from 0 (J .T)))) (ofBits-toBits binary32 (J .weight) F32) tiles
-        ∙ ap₂ {C = Job} (λ f c. job tileSize (J .S) (J .C) (J .T) (J .weight) (J .tiles) f c) colours counts
+        ap₂ {C = Job} (λ w t. job (E .size) (J .S) (J .C) (J .T) w t (allFloats (from 0 (J .T))) (allCounts (from 0 (J .T)))) (ofBits-toBits binary32 (J .weight) F32) tiles
+        ∙ ap₂ {C = Job} (λ f c. job (E .size) (J .S) (J .C) (J .T) (J .weight) (J .tiles) f c) colours counts
         ∙ ap {B = Job} (λ n. job n (J .S) (J .C) (J .T) (J .weight) (J .tiles) (J .colours) (J .counts)) (sym sized)
 
     pub palette-back : floats (sheetOf J palette .palette) ≡ palette
     palette-back = round-trip palette P
 
-    pub sheet-good : T (sheet edition1 .good (sheetOf J palette))
+    pub sheet-good : T (sheet E .good (sheetOf J palette))
     sheet-good =
         let w : ℕ = toBits binary32 (J .weight) in
         let N : Bool = above 10 .good (J .T) in
         let C : Bool = above 4 .good (J .C) in
         let W : Bool = ltb w (2 ^ 32) && weighs w in
         let p : Bool = times (3 * (J .S * J .C)) component .good (patterns palette) in
-        let v : Bool = times (J .T) (tile edition1) .good (from 0 (J .T)) in
-        and-in (above 4 .good (J .S) && (C && (N && W))) (p && v)
+        let v : Bool = times (J .T) (tile E) .good (from 0 (J .T)) in
+        and-in (ltb (E .number) (2 ^ 4) && (above 4 .good (J .S) && (C && (N && W)))) (p && v)
+        (and-in (ltb (E .number) (2 ^ 4)) (above 4 .good (J .S) && (C && (N && W))) (lt→ltb (E .number) (2 ^ 4) (proper .numbered))
         (and-in (above 4 .good (J .S)) (C && (N && W)) (above-good 4 (J .S) (R .sizes .subs) (R .sizes .few))
         (and-in C (N && W) (above-good 4 (J .C) (R .sizes .some) (R .sizes .cap))
-        (and-in N W (above-good 10 (J .T) (R .sizes .tiled) (R .sizes .tiles)) (weight-good (J .weight) F32 (above-zero (J .weight) (R .weight) (R .heavy), R .heavy)))))
+        (and-in N W (above-good 10 (J .T) (R .sizes .tiled) (R .sizes .tiles)) (weight-good (J .weight) F32 (above-zero (J .weight) (R .weight) (R .heavy), R .heavy))))))
         (and-in p v (components-good (3 * (J .S * J .C)) palette (L .room) P (L .bounded)) (tiles-good (J .T) 0 (zero-add (J .T))))

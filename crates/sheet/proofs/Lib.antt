@@ -5,4 +5,5 @@ pub mod Taken
 pub mod Kept
 pub mod Floats
 pub mod Inverse
+pub mod Editions
 pub mod Accepted

@@ -1,6 +1,6 @@
 -- The public reader and writer: what each answers, and what the lent memory holds then. Definitions only. Assumes nothing.
 use Prim.Native.Nat.{ℕ}
-use mathlib.Core.Bool.{true, cond}
+use mathlib.Core.Bool.{Bool, true, cond}
 use mathlib.Core.List.{List}
 use lib.Dec.{leb}
 use lib.ListN.{length}
@@ -12,8 +12,9 @@ use Rattle.answer.specs.Outcome.{Outcome, outcome, decided}
 use Rattle.format.specs.Format.{Answer, refused, accepted, encode}
 use Rattle.job.specs.declared.Sizes.{Sizes}
 use Rattle.job.specs.Job.{Job, sizesOf, jobOf}
-use Rattle.job.specs.Checks.{plainAnswer}
-use Rattle.sheet_format.specs.Sheet.{Sheet, edition1, sheet, readSheet}
+use Rattle.job.specs.Checks.{tileSized, plainAnswer}
+use Rattle.sheet_format.specs.declared.Edition.{Edition}
+use Rattle.sheet_format.specs.Sheet.{Sheet, editionOf, sheet, readSheet}
 use Rattle.sheet_format.specs.Lists.{floats, allCounts, allFloats, tableOf}
 use Rattle.sheet_pack.specs.Packed.{sheetOf}
 unfoldable pub use Rattle.sheet_room.specs.Room.{roomy}
@@ -22,12 +23,12 @@ use Rattle.sheet.specs.declared.Reading.the-variants as reading
 use Rattle.sheet.specs.declared.Writing.{Writing}
 use Rattle.sheet.specs.declared.Writing.the-variants as writing
 
--- the numbers of the job that a sheet holds, and the job
-abbrev pub sizesIn : Sheet → Sizes
-sizesIn x = sizesOf (x .subs) (x .each) (x .tiles) 0 (ofBits binary32 (x .weight))
+-- the numbers of the job that a sheet of an edition holds, and the job
+abbrev pub sizesIn : Edition → Sheet → Sizes
+sizesIn E x = sizesOf (E .size) (x .subs) (x .each) (x .tiles) 0 (ofBits binary32 (x .weight))
 
-abbrev pub jobIn : Sheet → Job
-jobIn x = jobOf (sizesIn x) (tableOf 0 (x .content)) (allFloats (x .content)) (allCounts (x .content))
+abbrev pub jobIn : Edition → Sheet → Job
+jobIn E x = jobOf (sizesIn E x) (tableOf 0 (x .content)) (allFloats (x .content)) (allCounts (x .content))
 
 -- ---- reading
 -- the memory that a reading is lent
@@ -45,25 +46,37 @@ abbrev pub refusalOfReading : Reading → Refusal
 refusalOfReading (reading.Refused e) = e
 refusalOfReading (reading.Sheet z) = nothing
 
+-- there is room for any sheet
+abbrev pub enough : Room → Bool
+enough h = roomy (length (h .tiles)) (length (h .colours)) (length (h .counts)) (length (h .palette))
+
+-- what is found by a reader that is told the tile size: 2 where there is no such size, then 3 for room, then what the bytes hold
+abbrev pub found : ℕ → List ℕ → Room → Answer Sheet
+found size bytes h =
+    cond (tileSized size) (cond (enough h) (readSheet (editionOf size) bytes) (refused (refusal 3 0))) (refused (refusal 2 0))
+
 -- a sheet's lists stand in the first places; what isn't filled stays
 abbrev pub filled : Sheet → Room → Room
 filled x h =
-    room (sets (h .tiles) 0 (jobIn x .tiles)) (sets (h .colours) 0 (jobIn x .colours)) (sets (h .counts) 0 (jobIn x .counts)) (sets (h .palette) 0 (floats (x .palette)))
+    room (sets (h .tiles) 0 (tableOf 0 (x .content))) (sets (h .colours) 0 (allFloats (x .content))) (sets (h .counts) 0 (allCounts (x .content)))
+    (sets (h .palette) 0 (floats (x .palette)))
 
-abbrev pub readInto : Answer Sheet → Room → Outcome Reading Room
-readInto (refused e) h = outcome (reading.Refused e) h
-readInto (accepted x) h = outcome (reading.Sheet (sizesIn x)) (filled x h)
+abbrev pub readInto : Edition → Answer Sheet → Room → Outcome Reading Room
+readInto E (refused e) h = outcome (reading.Refused e) h
+readInto E (accepted x) h = outcome (reading.Sheet (sizesIn E x)) (filled x h)
 
--- 3 for room comes first
-unfoldable pub readDef : List ℕ → Room → Outcome Reading Room
-readDef bytes h =
-    readInto (cond (roomy (length (h .tiles)) (length (h .colours)) (length (h .counts)) (length (h .palette))) (readSheet edition1 bytes) (refused (refusal 3 0))) h
+unfoldable pub readDef : ℕ → List ℕ → Room → Outcome Reading Room
+readDef size bytes h = readInto (editionOf size) (found size bytes h) h
 
 -- ---- writing
 -- the answer's cases: how many bytes, or a refusal
 abbrev pub refusalOfWriting : Writing → Refusal
 refusalOfWriting (writing.Refused e) = e
 refusalOfWriting (writing.Bytes n) = nothing
+
+-- the bytes of a job's sheet, in the edition that its tile size names
+abbrev pub fileOf : Job → List Float → List ℕ
+fileOf J palette = encode (sheet (editionOf (J .size))) (sheetOf J palette)
 
 -- a file into lent bytes: 13 where it is too large, then 3 where it has no room
 unfoldable pub storedIn : List ℕ → List ℕ → Outcome Writing (List ℕ)
@@ -72,8 +85,8 @@ storedIn file found =
     (cond (leb (length file) (length found)) (outcome (writing.Bytes (length file)) (sets found 0 file)) (outcome (writing.Refused (refusal 3 0)) found))
     (outcome (writing.Refused (refusal 13 0)) found)
 
--- the job's own refusals come first
+-- the job's own refusals come first; its tile size names the edition
 unfoldable pub writeDef : Job → List Float → List ℕ → Outcome Writing (List ℕ)
 writeDef J palette found =
     let e = plainAnswer J palette true in
-    decided e (storedIn (encode (sheet edition1) (sheetOf J palette)) found) (writing.Refused e) found
+    decided e (storedIn (fileOf J palette) found) (writing.Refused e) found

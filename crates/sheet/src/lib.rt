@@ -13,8 +13,9 @@ pub enum Reading {
     Sheet(Sizes),
 }
 
-// A sheet into lent slices: two numbers a tile, three a colour. What isn't filled stays.
+// A sheet, of the edition that the tile size names, into lent slices: two numbers a tile, three a colour. What isn't filled stays.
 pub fn read(
+    size: usize,
     bytes: &[u8],
     tiles: &mut [u32],
     colours: &mut [f32],
@@ -22,13 +23,17 @@ pub fn read(
     palette: &mut [f32],
 ) -> Reading
     ensures { λ r. ⌜ outcome r (room (now (tiles .exit)) (now (colours .exit)) (now (counts .exit)) (now (palette .exit)))
-        ≡ readDef (now (bytes .entry)) (room (now (tiles .entry)) (now (colours .entry)) (now (counts .entry)) (now (palette .entry))) ⌝ }
+        ≡ readDef size (now (bytes .entry)) (room (now (tiles .entry)) (now (colours .entry)) (now (counts .entry)) (now (palette .entry))) ⌝ }
 {
+    if !job::is_tile_size(size) {
+        return Reading::Refused(answer::SIZES);
+    }
     if !sheet_room::has_room(tiles.len(), colours.len(), counts.len(), palette.len()) {
         return Reading::Refused(answer::LENGTHS);
     }
-    match sheet_check::check(bytes) {
-        sheet_check::Checked::Refused(e) => Reading::Refused(e),
+    let e = sheet_format::edition_of(size);
+    match sheet_check::check(e, bytes) {
+        sheet_check::Checked::Refused(refusal) => Reading::Refused(refusal),
         sheet_check::Checked::Sound {
             subs,
             each,
@@ -38,6 +43,7 @@ pub fn read(
             let n = (3 * (subs * each)) as usize;
             sheet_fill::fill_components(bytes, sheet_format::HEAD_BITS, n, palette, 0);
             sheet_fill::fill_tiles(
+                e,
                 bytes,
                 sheet_format::HEAD_BITS + n * 32,
                 t as usize,
@@ -46,7 +52,14 @@ pub fn read(
                 colours,
             );
             let heavy = format_pattern::weight(weight);
-            Reading::Sheet(job::sizes_of(subs as usize, each as usize, t as usize, 0, heavy))
+            Reading::Sheet(job::sizes_of(
+                size,
+                subs as usize,
+                each as usize,
+                t as usize,
+                0,
+                heavy,
+            ))
         }
     }
 }
@@ -57,7 +70,7 @@ pub enum Writing {
     Bytes(usize),
 }
 
-// The sheet of a job and a palette, into lent bytes. Those past it stay.
+// The sheet of a job and a palette, of the edition that the job's tile size names, into lent bytes. Those past it stay.
 pub fn write(
     z: Sizes,
     tiles: &[u32],
@@ -73,12 +86,13 @@ pub fn write(
     if refusal.number != 0 {
         return Writing::Refused(refusal);
     }
-    let size = sheet_format::size_of(z.s, z.c, z.t, counts.len());
+    let e = sheet_format::edition_of(z.size);
+    let size = sheet_format::size_of(e, z.s, z.c, z.t, counts.len());
     let n = format::bytes_for(size);
     let fault = sheet_room::place_for(n, dst.len());
     if fault.number != 0 {
         return Writing::Refused(fault);
     }
-    sheet_whole::pack_sheet(z, tiles, colours, counts, palette, dst, size);
+    sheet_whole::pack_sheet(e, z, tiles, colours, counts, palette, dst, size);
     Writing::Bytes(n)
 }

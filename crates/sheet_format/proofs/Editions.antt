@@ -11,7 +11,7 @@ use borrow.Author.Tests.{eq-eqb, ne-eqb, le-leb, lt-leb}
 use Rattle.bits.specs.Bits.{bits, fieldAt}
 use Rattle.bits.proofs.Bytes.{length-bits}
 use Rattle.sheet_format.specs.declared.Edition.{Edition}
-use Rattle.sheet_format.specs.Sheet.{edition1, edition2, editionOf, tilesSize}
+use Rattle.sheet_format.specs.Sheet.{edition1, edition2, editionOf, entrySize, tilesSize}
 use Rattle.sheet_format.specs.Opened.{sizeIn}
 use Rattle.sheet_format.specs.Proper.{Proper}
 
@@ -43,6 +43,16 @@ module _ (E : Edition) (proper : Proper E) (t n : ℕ) where
       let wide : 102 ≤ E .each + 96 = omega (arith, proper .wide-each) in
       let b : 102 * n ≤ (E .each + 96) * n = mul-le-mul wide (le-refl n) in
       omega arith
+
+-- there is room for one of n more
+pub one-more : (w i n : ℕ) → i < n → w * i + w ≤ w * n
+one-more w i n h = let next : i + 1 ≤ n = omega arith in let z : w * (i + 1) ≤ w * n = mul-le-mul (le-refl w) next in omega arith
+
+-- and for a tile of k colours behind i tiles of a
+pub tile-more : (E : Edition) (t i n a k : ℕ) → i < t → a + k ≤ n → tilesSize E i a + (E .many + entrySize E * k) ≤ tilesSize E t n
+tile-more E t i n a k h g =
+    let colours : entrySize E * (a + k) ≤ entrySize E * n = mul-le-mul (le-refl (entrySize E)) g in
+    omega (arith, one-more (E .many) i t h)
 
 -- ---- the tile size that a file asks for
 module _ (s : List ℕ) where

@@ -13,7 +13,8 @@ use Rattle.color.specs.Color.{Bounded}
 use Rattle.job.specs.Job.{Job, sizeOf, countsPart, coloursPart}
 use Rattle.job.specs.Gives.{Ready}
 use Rattle.job.proofs.Tiles.{counts-length, tile-three, tile-bounded}
-use Rattle.sheet_format.specs.Sheet.{edition1, Colour}
+use Rattle.sheet_format.specs.declared.Edition.{Edition}
+use Rattle.sheet_format.specs.Sheet.{Colour, entrySize}
 use Rattle.sheet_pack.specs.Packed.{coloursOf, tilesFrom, coloursBits, tileBits, Counted}
 use Rattle.sheet_pack.proofs.Prints.{length-coloursBits}
 
@@ -21,7 +22,7 @@ pub none-before : (tb : List ℕ) → sum (sizeOf tb) 0 ≡ 0
 unfolding sum
 none-before tb = refl
 
-module _ (J : Job) (R : Ready J) (i : ℕ) (h : i < J .T) where
+module _ (E : Edition) (J : Job) (R : Ready J) (i : ℕ) (h : i < J .T) where
   pub record Here (part : List ℕ) (xs : List Float) : Type 0 where
     pub three : length xs ≡ 3 * length part
     pub counted : Counted part
@@ -29,7 +30,7 @@ module _ (J : Job) (R : Ready J) (i : ℕ) (h : i < J .T) where
     pub few : length part ≤ 256
     pub reach : sum (sizeOf (J .tiles)) i + length part ≤ length (J .counts)
     pub after : sum (sizeOf (J .tiles)) (i + 1) ≡ sum (sizeOf (J .tiles)) i + length part
-    pub bits : length (tileBits edition1 (coloursOf part xs)) ≡ 7 + 102 * length part
+    pub bits : length (tileBits E (coloursOf part xs)) ≡ E .many + entrySize E * length part
     pub next : coloursOf part xs ∷ tilesFrom (J .tiles) (J .colours) (J .counts) (suc i) (J .T - (i + 1)) ≡ tilesFrom (J .tiles) (J .colours) (J .counts) i (suc (J .T - (i + 1)))
 
   size : (part : List ℕ) → part ≡ countsPart (J .tiles) (J .counts) i → length part ≡ sizeOf (J .tiles) i
@@ -38,10 +39,10 @@ module _ (J : Job) (R : Ready J) (i : ℕ) (h : i < J .T) where
   spread : (part : List ℕ) (xs : List Float) → part ≡ countsPart (J .tiles) (J .counts) i → xs ≡ coloursPart (J .tiles) (J .colours) i → length xs ≡ 3 * length part
   spread part xs e g = ap length g ∙ tile-three J R i h ∙ ap (λ (l : List ℕ). 3 * length l) (sym e)
 
-  tile-bits : (part : List ℕ) (xs : List Float) → length xs ≡ 3 * length part → length (tileBits edition1 (coloursOf part xs)) ≡ 7 + 102 * length part
+  tile-bits : (part : List ℕ) (xs : List Float) → length xs ≡ 3 * length part → length (tileBits E (coloursOf part xs)) ≡ E .many + entrySize E * length part
   tile-bits part xs e =
-      length-append (bitsOf 7 (length (coloursOf part xs))) (coloursBits edition1 (coloursOf part xs))
-      ∙ ap₂ (λ (a b : ℕ). a + b) (length-bitsOf 7 (length (coloursOf part xs))) (length-coloursBits part xs e)
+      length-append (bitsOf (E .many) (length (coloursOf part xs))) (coloursBits E (coloursOf part xs))
+      ∙ ap₂ (λ (a b : ℕ). a + b) (length-bitsOf (E .many) (length (coloursOf part xs))) (length-coloursBits E part xs e)
 
   pub here : (part : List ℕ) (xs : List Float) → part ≡ countsPart (J .tiles) (J .counts) i → xs ≡ coloursPart (J .tiles) (J .colours) i → Here part xs
   here part xs e g = record {

@@ -2,6 +2,7 @@
 use mathlib.Core.Path.{_≡_, refl, sym, ap, ap₂, _∙_}
 use Prim.Native.Nat.{ℕ, zero, suc, pred, _+_, _*_, _≤_}
 use native.Mathlib.Omega.{arith}
+use native.Mathlib.Nat.{mul-zero}
 use mathlib.Core.Bool.{Bool}
 use mathlib.Core.List.{List, [], _∷_, _++_, append-assoc}
 use lib.ListN.{length, take, drop, length-append, length-map, length-drop}
@@ -15,7 +16,7 @@ use Rattle.job.specs.Job.{Job, sizeOf, countsPart, coloursPart}
 use Rattle.job.specs.Gives.{Ready, Lent}
 use Rattle.job.proofs.Tiles.{counts-length, tile-three}
 use Rattle.sheet_format.specs.declared.Edition.{Edition}
-use Rattle.sheet_format.specs.Sheet.{edition1, component, Colour, colours, tile, sheet}
+use Rattle.sheet_format.specs.Sheet.{component, Colour, colours, tile, sheet, entrySize, tilesSize}
 use Rattle.sheet_format.specs.Sheet as form
 use Rattle.sheet_format.specs.Lists.{patterns}
 use Rattle.sheet_pack.specs.Packed.{coloursOf, tilesFrom, sheetOf, words, coloursBits, tileBits, tilesBits, headBits, sheetBits}
@@ -32,19 +33,19 @@ length-coloursOf (c ∷ cs) xs = ap suc (length-coloursOf cs (drop 3 xs))
 pub three : (xs : List Float) → 3 ≤ length xs → length (patterns (take 3 xs)) ≡ 3
 three xs h = length-map (take 3 xs) (toBits binary32) ∙ length-take-le 3 xs h
 
-pub length-coloursBits : (cs : List ℕ) (xs : List Float) → length xs ≡ 3 * length cs → length (coloursBits edition1 (coloursOf cs xs)) ≡ 102 * length cs
-length-coloursBits [] xs e = refl
-length-coloursBits (c ∷ cs) xs e =
+pub length-coloursBits : (E : Edition) (cs : List ℕ) (xs : List Float) → length xs ≡ 3 * length cs → length (coloursBits E (coloursOf cs xs)) ≡ entrySize E * length cs
+length-coloursBits E [] xs e = sym (mul-zero (entrySize E))
+length-coloursBits E (c ∷ cs) xs e =
     let w : List Bool = words (patterns (take 3 xs)) in
-    let r : List Bool = coloursBits edition1 (coloursOf cs (drop 3 xs)) in
-    length-append (bitsOf 6 (pred c)) (w ++ r)
+    let r : List Bool = coloursBits E (coloursOf cs (drop 3 xs)) in
+    length-append (bitsOf (E .each) (pred c)) (w ++ r)
     ∙ omega (
       arith,
-      length-bitsOf 6 (pred c),
+      length-bitsOf (E .each) (pred c),
       length-append w r,
       length-words (patterns (take 3 xs)),
       three xs (omega arith),
-      length-coloursBits cs (drop 3 xs) (length-drop 3 xs ∙ omega arith),
+      length-coloursBits E cs (drop 3 xs) (length-drop 3 xs ∙ omega arith),
     )
 
 -- ---- what the format prints
@@ -81,41 +82,46 @@ module _ (J : Job) (R : Ready J) where
       (tiles-print E m (suc i) (omega arith))
 
   -- those from tile i on, with the bits of the colours before it
-  tiles-size : (m i : ℕ) → i + m ≡ J .T
-      → length (tilesBits edition1 (tilesFrom (J .tiles) (J .colours) (J .counts) i m)) + 102 * sum (sizeOf (J .tiles)) i ≡ 7 * m + 102 * length (J .counts)
+  tiles-size : (E : Edition) (m i : ℕ) → i + m ≡ J .T
+      → length (tilesBits E (tilesFrom (J .tiles) (J .colours) (J .counts) i m)) + entrySize E * sum (sizeOf (J .tiles)) i ≡ tilesSize E m (length (J .counts))
   unfolding sum
-  tiles-size zero i e = let z : i ≡ J .T = omega arith in omega (arith, ap (sum (sizeOf (J .tiles))) z, R .whole)
-  tiles-size (suc m) i e =
+  tiles-size E zero i e =
+      let z : i ≡ J .T = omega arith in
+      let all : sum (sizeOf (J .tiles)) i ≡ length (J .counts) = ap (sum (sizeOf (J .tiles))) z ∙ R .whole in
+      rw all (omega arith)
+  tiles-size E (suc m) i e =
       let cs : List ℕ = countsPart (J .tiles) (J .counts) i in
       let xs : List Float = coloursPart (J .tiles) (J .colours) i in
       let x : List Colour = coloursOf cs xs in
-      let r : List Bool = tilesBits edition1 (tilesFrom (J .tiles) (J .colours) (J .counts) (suc i) m) in
+      let whole : sum (sizeOf (J .tiles)) (suc i) ≡ sum (sizeOf (J .tiles)) i + length cs = omega (arith, counts-length J R i (omega arith)) in
+      let more : entrySize E * sum (sizeOf (J .tiles)) (suc i) ≡ entrySize E * (sum (sizeOf (J .tiles)) i + length cs) = ap (λ (n : ℕ). entrySize E * n) whole in
+      let r : List Bool = tilesBits E (tilesFrom (J .tiles) (J .colours) (J .counts) (suc i) m) in
       omega (
         arith,
-        length-append (bitsOf 7 (length x) ++ coloursBits edition1 x) r,
-        length-append (bitsOf 7 (length x)) (coloursBits edition1 x),
-        length-bitsOf 7 (length x),
-        length-coloursBits cs xs (tile-three J R i (omega arith)),
-        counts-length J R i (omega arith),
-        tiles-size m (suc i) (omega arith),
+        length-append (bitsOf (E .many) (length x) ++ coloursBits E x) r,
+        length-append (bitsOf (E .many) (length x)) (coloursBits E x),
+        length-bitsOf (E .many) (length x),
+        length-coloursBits E cs xs (tile-three J R i (omega arith)),
+        more,
+        tiles-size E m (suc i) (omega arith),
       )
 
-  pub content-size : length (tilesBits edition1 (tilesFrom (J .tiles) (J .colours) (J .counts) 0 (J .T))) ≡ 7 * J .T + 102 * length (J .counts)
+  pub content-size : (E : Edition) → length (tilesBits E (tilesFrom (J .tiles) (J .colours) (J .counts) 0 (J .T))) ≡ tilesSize E (J .T) (length (J .counts))
   unfolding sum
-  content-size = omega (arith, tiles-size (J .T) 0 (omega arith))
+  content-size E = omega (arith, tiles-size E (J .T) 0 (omega arith))
 
   module _ (palette : List Float) (L : Lent (J .S) (J .C) palette) where
     pub palette-size : length (words (patterns palette)) ≡ 96 * (J .S * J .C)
     palette-size = length-words (patterns palette) ∙ omega (arith, length-map palette (toBits binary32), L .room)
 
-    pub head-long : length (headBits edition1 (J .S) (J .C) (J .T) (toBits binary32 (J .weight))) ≡ 86
+    pub head-long : (E : Edition) → length (headBits E (J .S) (J .C) (J .T) (toBits binary32 (J .weight))) ≡ 86
     unfolding headBits
-    head-long = refl
+    head-long E = refl
 
-    pub sheet-size : length (sheetBits edition1 (sheetOf J palette)) ≡ form.sizeOf edition1 (J .S) (J .C) (J .T) (length (J .counts))
-    sheet-size =
-        length-append (headBits edition1 (J .S) (J .C) (J .T) (toBits binary32 (J .weight))) (words (patterns palette) ++ tilesBits edition1 (tilesFrom (J .tiles) (J .colours) (J .counts) 0 (J .T)))
-        ∙ omega (arith, head-long, length-append (words (patterns palette)) (tilesBits edition1 (tilesFrom (J .tiles) (J .colours) (J .counts) 0 (J .T))), palette-size, content-size)
+    pub sheet-size : (E : Edition) → length (sheetBits E (sheetOf J palette)) ≡ form.sizeOf E (J .S) (J .C) (J .T) (length (J .counts))
+    sheet-size E =
+        length-append (headBits E (J .S) (J .C) (J .T) (toBits binary32 (J .weight))) (words (patterns palette) ++ tilesBits E (tilesFrom (J .tiles) (J .colours) (J .counts) 0 (J .T)))
+        ∙ omega (arith, head-long E, length-append (words (patterns palette)) (tilesBits E (tilesFrom (J .tiles) (J .colours) (J .counts) 0 (J .T))), palette-size, content-size E)
 
     pub sheet-print : (E : Edition) → sheet E .print (sheetOf J palette) ≡ sheetBits E (sheetOf J palette)
     unfolding headBits

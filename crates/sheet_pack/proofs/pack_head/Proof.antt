@@ -51,7 +51,7 @@ returns c =
     let after-put4 = after-put5 .before .before .before .before in let after-put3 = after-put4 .before .before .before .before in
     let after-put2 = after-put3 .before .before .before .before in let after-put = after-put2 .before .before .before .before in
     let start = after-put .before .before .before in let a = start .args in
-    head-done _ _ _ _ _ _ _ (a .s) (a .c) (a .t) (a .w) (rw length-bits (omega arith))
+    head-done (a .e) _ _ _ _ _ _ _ (a .s) (a .c) (a .t) (a .w) (rw length-bits (omega arith))
     (after-put .put .ensures) (after-put2 .put2 .ensures) (after-put3 .put3 .ensures) (after-put4 .put4 .ensures) (after-put5 .put5 .ensures) (after-put6 .put6 .ensures)
 
 pub pack-head-spec : {M : Type 1} → statement M

@@ -25,9 +25,9 @@ same-length c = search needs
 
 returns : tie.Need-returns
 returns c =
-    let after-pack-colours = c .before .before in let after-put = after-pack-colours .before .before .before .before in
+    let after-pack-colours = c .before .before in let after-put = after-pack-colours .before .before .before .before .before in
     let start = after-put .before .before .before .before .before in let a = start .args in
-    tile-done (a .counts .now) (a .colours .now) _ _ _ (a .p) (length (a .counts .now)) (rw length-bits (omega arith)) refl (after-put .put .ensures)
+    tile-done (a .e) (a .counts .now) (a .colours .now) _ _ _ (a .p) (length (a .counts .now)) (rw length-bits (omega arith)) refl (after-put .put .ensures)
     (after-pack-colours .pack-colours .ensures)
 
 pub pack-tile-spec : {M : Type 1} → statement M

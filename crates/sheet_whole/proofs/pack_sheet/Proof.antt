@@ -28,7 +28,7 @@ sub-spare c = search needs
 float-to-bits-pack-head : tie.Need-float-to-bits-pack-head
 float-to-bits-pack-head c =
     let after-bytes-for = c .before .before in let start = after-bytes-for .before .before .before .before .before .before in
-    within-real (start .args .z .weight) 16 1 (start .pre .0 .heavy)
+    within-real (start .args .z .weight) 16 1 (start .pre .1 .heavy)
 
 pack-head-requires : tie.Need-pack-head-requires
 pack-head-requires c κs = search needs
@@ -51,8 +51,8 @@ returns c =
     let after-pack-components = after-pack-tiles .before .before .before .before in
     let after-pack-head = after-pack-components .before .before .before .before in let after-bytes-for = after-pack-head .before .before .before in
     let start = after-bytes-for .before .before .before .before .before .before in let a = start .args in
-    sheet-done (jobOf (a .z) (a .tiles .now) (a .colours .now) (a .counts .now)) (start .pre .0) (a .palette .now) (start .pre .1)
-    _ _ _ _ _ (a .size) (8 * after-bytes-for .bytes-for .result - a .size) (start .pre .2) (rw length-bits (omega arith))
+    sheet-done (a .e) (jobOf (a .z) (a .tiles .now) (a .colours .now) (a .counts .now)) (start .pre .1) (a .palette .now) (start .pre .2)
+    _ _ _ _ _ (a .size) (8 * after-bytes-for .bytes-for .result - a .size) (start .pre .3) (rw length-bits (omega arith))
     (ap (λ (n : ℕ). 8 * n - a .size) (after-bytes-for .bytes-for .ensures))
     (after-pack-head .pack-head .ensures) (after-pack-components .pack-components .ensures) (after-pack-tiles .pack-tiles .ensures) (after-put .put .ensures)
 
