@@ -5,6 +5,7 @@ use sheet::Writing;
 
 #[no_mangle]
 pub extern "C" fn probe_sheet_read(
+    size: usize,
     bytes: &[u8],
     tiles: &mut [u32],
     colours: &mut [f32],
@@ -16,7 +17,7 @@ pub extern "C" fn probe_sheet_read(
     heavy: &mut f32,
     fault: &mut usize,
 ) -> u32 {
-    match sheet::read(bytes, tiles, colours, counts, palette) {
+    match sheet::read(size, bytes, tiles, colours, counts, palette) {
         Reading::Refused(e) => {
             *fault = e.index;
             e.number
@@ -33,6 +34,7 @@ pub extern "C" fn probe_sheet_read(
 
 #[no_mangle]
 pub extern "C" fn probe_sheet_write(
+    size: usize,
     s: usize,
     c: usize,
     t: usize,
@@ -42,17 +44,17 @@ pub extern "C" fn probe_sheet_write(
     counts: &[u32],
     palette: &[f32],
     dst: &mut [u8],
-    size: &mut usize,
+    written: &mut usize,
     fault: &mut usize,
 ) -> u32 {
-    let z = job::sizes_of(s, c, t, 0, weight);
+    let z = job::sizes_of(size, s, c, t, 0, weight);
     match sheet::write(z, tiles, colours, counts, palette, dst) {
         Writing::Refused(e) => {
             *fault = e.index;
             e.number
         }
         Writing::Bytes(n) => {
-            *size = n;
+            *written = n;
             0
         }
     }

@@ -10,26 +10,24 @@ use lib.Ieee.{Float}
 use Rattle.answer.specs.declared.Refusal.{Refusal}
 use Rattle.answer.specs.Outcome.{Outcome, outcome}
 use Rattle.answer.proofs.Outcomes.{decided-done}
-use Rattle.format.specs.Format.{encode}
 use Rattle.job.specs.Job.{Job}
 use Rattle.job.specs.Checks.{plainAnswer}
 use Rattle.job.proofs.Ready.{plain-ready}
-use Rattle.sheet_format.specs.Sheet.{edition1, sheet}
-use Rattle.sheet_pack.specs.Packed.{sheetOf}
+use Rattle.sheet_format.specs.Sheet.{editionOf}
 use Rattle.sheet.proofs.Files.{file-long, stored-in-place}
 use Rattle.sheet.specs.declared.Writing.{Writing}
 use Rattle.sheet.specs.declared.Writing.the-variants.{Refused, Bytes}
-use Rattle.sheet.specs.Sheets.{writeDef}
+use Rattle.sheet.specs.Sheets.{fileOf, writeDef}
 use Rattle.sheet_parts.specs.Front.{Writable}
 use Rattle.fit_lines.specs.Lines.{Stored}
 
 -- the file of a job is as long with every palette
 pub same-long : (J : Job) (p q : List Float) → plainAnswer J p true .number ≡ 0 → plainAnswer J q true .number ≡ 0
-    → length (encode (sheet edition1) (sheetOf J q)) ≡ length (encode (sheet edition1) (sheetOf J p))
+    → length (fileOf J q) ≡ length (fileOf J p)
 same-long J p q h g =
     let P = plain-ready J p true h in
     let Q = plain-ready J q true g in
-    file-long J (Q .ready) q (Q .lent) ∙ sym (file-long J (P .ready) p (P .lent))
+    file-long (editionOf (J .size)) J (Q .ready) q (Q .lent) ∙ sym (file-long (editionOf (J .size)) J (P .ready) p (P .lent))
 
 -- a palette that passes can be written where another could
 pub still-writable : (J : Job) (p q : List Float) → Writable J p → plainAnswer J q true .number ≡ 0 → Writable J q
@@ -38,7 +36,7 @@ still-writable J p q W h = record { passed = h; small = omega (arith, same-long 
 -- ---- the writer
 module _ (J : Job) (p : List Float) (out : List ℕ) (W : Writable J p) (room : 65536 ≤ length out) where
   abbrev file : List ℕ
-  file = encode (sheet edition1) (sheetOf J p)
+  file = fileOf J p
 
   by-writer : writeDef J p out ≡ outcome (Bytes (length file)) (sets out 0 file)
   unfolding writeDef

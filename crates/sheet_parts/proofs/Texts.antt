@@ -2,7 +2,7 @@
 use mathlib.Core.Path.{_≡_, sym, ap, ap₂, _∙_, subst, subst₂}
 use Prim.Native.Nat.{ℕ, _+_, _≤_, _<_}
 use native.Mathlib.Omega.{arith}
-use mathlib.Core.Bool.{Bool, cond}
+use mathlib.Core.Bool.{Bool, true, cond}
 use mathlib.Core.List.{List}
 use lib.Dec.{T}
 use lib.Pow.{areBytes}
@@ -16,33 +16,34 @@ use Rattle.answer.specs.Outcome.{Outcome, outcome}
 use Rattle.format.specs.Format.{Answer}
 use Rattle.job.specs.declared.Sizes.{Sizes}
 use Rattle.job.specs.Job.{Job}
+use Rattle.job.specs.Checks.{tileSized}
 use Rattle.fit_lines.specs.Lines.{Stored, refusedLine}
-use Rattle.sheet_format.specs.Sheet.{Sheet, edition1, readSheet}
+use Rattle.sheet_format.specs.Sheet.{Sheet, editionOf, readSheet}
 use Rattle.sheet.specs.declared.Reading.{Reading}
 use Rattle.sheet.specs.declared.Reading.the-variants as reading
 use Rattle.sheet.specs.Sheets.{Room, readDef}
 use Rattle.sheet_parts.specs.Front.{frontJob, frontPalette, Front}
-use Rattle.sheet_parts.specs.Texts.{sheetText, printedIn}
+use Rattle.sheet_parts.specs.Texts.{sheetText, textAt, printedIn}
 use Rattle.sheet_parts.proofs.Readings.{Lengths, refused-says, sheet-says}
 
 -- ---- by what the reader says: the refusal's line, or what is printed for the job in the first places
-module _ (b : List ℕ) (h : Room) (L : Lengths h) (r : Reading) (after : Room) (e : outcome r after ≡ readDef b h) where
+module _ (size : ℕ) (there : tileSized size ≡ true) (b : List ℕ) (h : Room) (L : Lengths h) (r : Reading) (after : Room) (e : outcome r after ≡ readDef size b h) where
   module _ (f : Job → List Float → List ℕ) (found out : List ℕ) (m : ℕ) where
-    by-reading : (a : Answer Sheet) → readSheet edition1 b ≡ a → Stored found out 0 m (sheetText f a) → Stored found out 0 m (sheetText f (readSheet edition1 b))
-    by-reading a k s = subst (λ (x : Answer Sheet). Stored found out 0 m (sheetText f x)) (sym k) s
+    by-reading : (a : Answer Sheet) → readSheet (editionOf size) b ≡ a → Stored found out 0 m (sheetText f (editionOf size) a) → Stored found out 0 m (textAt f size b)
+    by-reading a k s = subst (λ (x : Answer Sheet). Stored found out 0 m (sheetText f (editionOf size) x)) (sym k) s
 
-    pub refused-text : (y : Refusal) → r ≡ reading.Refused y → Stored found out 0 m (refusedLine (y .number)) → Stored found out 0 m (sheetText f (readSheet edition1 b))
-    refused-text y g s = by-reading _ (refused-says b h L r after e y g) s
+    pub refused-text : (y : Refusal) → r ≡ reading.Refused y → Stored found out 0 m (refusedLine (y .number)) → Stored found out 0 m (textAt f size b)
+    refused-text y g s = by-reading _ (refused-says size b h L there r after e y g) s
 
     pub front-text : T (areBytes b) → (z : Sizes) → r ≡ reading.Sheet z
         → Stored found out 0 m (f (frontJob z (after .tiles) (after .colours) (after .counts)) (frontPalette z (after .palette)))
-        → Stored found out 0 m (sheetText f (readSheet edition1 b))
+        → Stored found out 0 m (textAt f size b)
     front-text bytes z g s =
-        let G = sheet-says b h L r after e bytes z g in
+        let G = sheet-says size b h L there r after e bytes z g in
         by-reading _ (G .is) (subst₂ (λ (J : Job) (p : List Float). Stored found out 0 m (f J p)) (G .job) (G .palette) s)
 
   pub held : T (areBytes b) → (z : Sizes) → r ≡ reading.Sheet z → Front z (after .tiles) (after .colours) (after .counts) (after .palette)
-  held bytes z g = sheet-says b h L r after e bytes z g .front
+  held bytes z g = sheet-says size b h L there r after e bytes z g .front
 
 -- ---- the outcome
 module _ (most : ℕ) (text found : List ℕ) where

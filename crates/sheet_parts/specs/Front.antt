@@ -5,18 +5,16 @@ use mathlib.Core.Bool.{true}
 use mathlib.Core.List.{List}
 use lib.ListN.{length, take}
 use lib.Ieee.{Float}
-use Rattle.format.specs.Format.{encode}
 use Rattle.job.specs.declared.Sizes.{Sizes}
 use Rattle.job.specs.Job.{Job, jobOf, firstOf, sizeOf, mostTileColours}
 use Rattle.job.specs.Checks.{plainAnswer}
 use Rattle.palette_tile.specs.Tiles.{Shown}
-use Rattle.sheet_format.specs.Sheet.{edition1, sheet}
-use Rattle.sheet_pack.specs.Packed.{sheetOf}
+use Rattle.sheet.specs.Sheets.{fileOf}
 
 -- a job and a palette that can be written as a sheet
 pub record Writable (J : Job) (p : List Float) : Type 0 where
   pub passed : plainAnswer J p true .number ≡ 0
-  pub small : length (encode (sheet edition1) (sheetOf J p)) ≤ 65536
+  pub small : length (fileOf J p) ≤ 65536
 
 -- the colours of the first t tiles, which stand one behind the other
 abbrev pub coloursTo : List ℕ → ℕ → ℕ

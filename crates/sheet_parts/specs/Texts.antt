@@ -10,14 +10,19 @@ use Rattle.format.specs.Format.{Answer, refused, accepted}
 use Rattle.answer.specs.Outcome.{Outcome, outcome}
 use Rattle.job.specs.Job.{Job}
 use Rattle.fit_lines.specs.Lines.{refusedLine}
-use Rattle.sheet_format.specs.Sheet.{Sheet}
+use Rattle.sheet_format.specs.declared.Edition.{Edition}
+use Rattle.sheet_format.specs.Sheet.{Sheet, editionOf, readSheet}
 use Rattle.sheet_format.specs.Lists.{floats}
 use Rattle.sheet.specs.Sheets.{jobIn}
 
--- a line with a refusal's number, or what f prints for the job that the sheet holds
-abbrev pub sheetText : (Job → List Float → List ℕ) → Answer Sheet → List ℕ
-sheetText f (refused e) = refusedLine (e .number)
-sheetText f (accepted x) = f (jobIn x) (floats (x .palette))
+-- a line with a refusal's number, or what f prints for the job that a sheet of an edition holds
+abbrev pub sheetText : (Job → List Float → List ℕ) → Edition → Answer Sheet → List ℕ
+sheetText f E (refused e) = refusedLine (e .number)
+sheetText f E (accepted x) = f (jobIn E x) (floats (x .palette))
+
+-- for bytes that are read as the tile size says
+abbrev pub textAt : (Job → List Float → List ℕ) → ℕ → List ℕ → List ℕ
+textAt f size bytes = sheetText f (editionOf size) (readSheet (editionOf size) bytes)
 
 -- ---- into lent bytes, and how many that is: none are written where there is too little room for any sheet's text
 unfoldable pub printedIn : ℕ → List ℕ → List ℕ → Outcome ℕ (List ℕ)

@@ -4,10 +4,8 @@ use job::Sizes;
 ghost use mathlib.Core.Path.{_≡_};
 ghost use Prim.Native.Nat.{ℕ, _*_, _≤_};
 ghost use lib.ListN.{length, getD};
-ghost use Rattle.format.specs.Format.{encode};
 ghost use Rattle.job.specs.Job.{jobOf};
-ghost use Rattle.sheet_format.specs.Sheet.{edition1, sheet};
-ghost use Rattle.sheet_pack.specs.Packed.{sheetOf};
+ghost use Rattle.sheet.specs.Sheets.{fileOf};
 ghost use Rattle.fit_lines.specs.Lines.{Stored};
 ghost use Rattle.sheet_parts.specs.Front.{Writable, coloursTo};
 
@@ -62,7 +60,7 @@ pub fn put_sheet(
     out: &mut [u8],
 ) -> usize
     requires { ⌜ Writable (jobOf z (now tiles) (now colours) (now counts)) (now palette) × (65536 ≤ length (now out)) ⌝ }
-    ensures { λ r. ⌜ Stored (now (out .entry)) (now (out .exit)) 0 r (encode (sheet edition1) (sheetOf (jobOf z (now (tiles .entry)) (now (colours .entry)) (now (counts .entry))) (now (palette .entry)))) × (r ≤ 65536) ⌝ }
+    ensures { λ r. ⌜ Stored (now (out .entry)) (now (out .exit)) 0 r (fileOf (jobOf z (now (tiles .entry)) (now (colours .entry)) (now (counts .entry))) (now (palette .entry))) × (r ≤ 65536) ⌝ }
 {
     match sheet::write(z, tiles, colours, counts, palette, out) {
         sheet::Writing::Refused(_) => 0,
