@@ -2,15 +2,15 @@
 use Prim.Native.Nat.{ℕ}
 use mathlib.Core.List.{List}
 use Rattle.answer.specs.Outcome.{Outcome}
-use Rattle.format.specs.Format.{Answer}
 use Rattle.fit_tiles.specs.Text.{fitText}
 pub use Rattle.fit_tiles.specs.Text.{mostText}
-use Rattle.sheet_format.specs.Sheet.{Sheet, edition1, readSheet}
-use Rattle.sheet_parts.specs.Texts.{sheetText, printedIn}
+use Rattle.sheet_format.specs.Opened.{sizeIn}
+use Rattle.sheet_parts.specs.Texts.{textAt, printedIn}
 
-abbrev pub textOf : Answer Sheet → List ℕ
-textOf a = sheetText fitText a
+-- into lent bytes, which have room for any sheet's lines or get none: by a reader that is told the tile size
+abbrev pub fitTold : ℕ → List ℕ → List ℕ → Outcome ℕ (List ℕ)
+fitTold size sheet found = printedIn mostText (textAt fitText size sheet) found
 
--- into lent bytes, which have room for any sheet's lines or get none
+-- `fit` itself looks at the sheet's edition first
 abbrev pub fitDef : List ℕ → List ℕ → Outcome ℕ (List ℕ)
-fitDef sheet found = printedIn mostText (textOf (readSheet edition1 sheet)) found
+fitDef sheet found = fitTold (sizeIn sheet) sheet found

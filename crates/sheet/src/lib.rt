@@ -52,14 +52,7 @@ pub fn read(
                 colours,
             );
             let heavy = format_pattern::weight(weight);
-            Reading::Sheet(job::sizes_of(
-                size,
-                subs as usize,
-                each as usize,
-                t as usize,
-                0,
-                heavy,
-            ))
+            Reading::Sheet(job::sizes_of(size, subs as usize, each as usize, t as usize, 0, heavy))
         }
     }
 }

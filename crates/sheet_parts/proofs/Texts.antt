@@ -19,25 +19,31 @@ use Rattle.job.specs.Job.{Job}
 use Rattle.job.specs.Checks.{tileSized}
 use Rattle.fit_lines.specs.Lines.{Stored, refusedLine}
 use Rattle.sheet_format.specs.Sheet.{Sheet, editionOf, readSheet}
+use Rattle.sheet_format.specs.Opened.{sizeIn}
+use Rattle.sheet.proofs.Editions.{asked-sized}
 use Rattle.sheet.specs.declared.Reading.{Reading}
 use Rattle.sheet.specs.declared.Reading.the-variants as reading
 use Rattle.sheet.specs.Sheets.{Room, readDef}
 use Rattle.sheet_parts.specs.Front.{frontJob, frontPalette, Front}
-use Rattle.sheet_parts.specs.Texts.{sheetText, textAt, printedIn}
+use Rattle.sheet_parts.specs.Texts.{sheetText, textAt, textFor, printedIn}
 use Rattle.sheet_parts.proofs.Readings.{Lengths, refused-says, sheet-says}
 
 -- ---- by what the reader says: the refusal's line, or what is printed for the job in the first places
-module _ (size : ℕ) (there : tileSized size ≡ true) (b : List ℕ) (h : Room) (L : Lengths h) (r : Reading) (after : Room) (e : outcome r after ≡ readDef size b h) where
-  module _ (f : Job → List Float → List ℕ) (found out : List ℕ) (m : ℕ) where
-    by-reading : (a : Answer Sheet) → readSheet (editionOf size) b ≡ a → Stored found out 0 m (sheetText f (editionOf size) a) → Stored found out 0 m (textAt f size b)
-    by-reading a k s = subst (λ (x : Answer Sheet). Stored found out 0 m (sheetText f (editionOf size) x)) (sym k) s
+module _ (b : List ℕ) (size : ℕ) (asked : size ≡ sizeIn b) (h : Room) (L : Lengths h) (r : Reading) (after : Room) (e : outcome r after ≡ readDef size b h) where
+  there : tileSized size ≡ true
+  there = ap tileSized asked ∙ asked-sized b
 
-    pub refused-text : (y : Refusal) → r ≡ reading.Refused y → Stored found out 0 m (refusedLine (y .number)) → Stored found out 0 m (textAt f size b)
+  module _ (f : Job → List Float → List ℕ) (found out : List ℕ) (m : ℕ) where
+    by-reading : (a : Answer Sheet) → readSheet (editionOf size) b ≡ a → Stored found out 0 m (sheetText f (editionOf size) a) → Stored found out 0 m (textFor f b)
+    by-reading a k s =
+        subst (λ (n : ℕ). Stored found out 0 m (textAt f n b)) asked (subst (λ (x : Answer Sheet). Stored found out 0 m (sheetText f (editionOf size) x)) (sym k) s)
+
+    pub refused-text : (y : Refusal) → r ≡ reading.Refused y → Stored found out 0 m (refusedLine (y .number)) → Stored found out 0 m (textFor f b)
     refused-text y g s = by-reading _ (refused-says size b h L there r after e y g) s
 
     pub front-text : T (areBytes b) → (z : Sizes) → r ≡ reading.Sheet z
         → Stored found out 0 m (f (frontJob z (after .tiles) (after .colours) (after .counts)) (frontPalette z (after .palette)))
-        → Stored found out 0 m (textAt f size b)
+        → Stored found out 0 m (textFor f b)
     front-text bytes z g s =
         let G = sheet-says size b h L there r after e bytes z g in
         by-reading _ (G .is) (subst₂ (λ (J : Job) (p : List Float). Stored found out 0 m (f J p)) (G .job) (G .palette) s)

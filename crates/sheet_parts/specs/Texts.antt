@@ -12,6 +12,7 @@ use Rattle.job.specs.Job.{Job}
 use Rattle.fit_lines.specs.Lines.{refusedLine}
 use Rattle.sheet_format.specs.declared.Edition.{Edition}
 use Rattle.sheet_format.specs.Sheet.{Sheet, editionOf, readSheet}
+use Rattle.sheet_format.specs.Opened.{sizeIn}
 use Rattle.sheet_format.specs.Lists.{floats}
 use Rattle.sheet.specs.Sheets.{jobIn}
 
@@ -23,6 +24,10 @@ sheetText f E (accepted x) = f (jobIn E x) (floats (x .palette))
 -- for bytes that are read as the tile size says
 abbrev pub textAt : (Job → List Float → List ℕ) → ℕ → List ℕ → List ℕ
 textAt f size bytes = sheetText f (editionOf size) (readSheet (editionOf size) bytes)
+
+-- and as their own edition asks, which a program looks at first
+abbrev pub textFor : (Job → List Float → List ℕ) → List ℕ → List ℕ
+textFor f bytes = textAt f (sizeIn bytes) bytes
 
 -- ---- into lent bytes, and how many that is: none are written where there is too little room for any sheet's text
 unfoldable pub printedIn : ℕ → List ℕ → List ℕ → Outcome ℕ (List ℕ)

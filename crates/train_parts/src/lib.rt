@@ -4,17 +4,17 @@ ghost use Prim.Native.Nat.{_≤_};
 ghost use lib.ListN.{length, take};
 ghost use Rattle.train_run.specs.Training.{cutOne, cut};
 
-// Room for the order and for the samples of any sheet. The contracts give only the lengths.
+// Room for the order and for the samples of any run. The contracts give only the lengths.
 pub fn order_room() -> [u32; 16384]
     ensures { λ r. ⌜ 16384 ≡ length r ⌝ }
 {
     [0; 16384]
 }
 
-pub fn samples_room() -> [u32; 131072]
-    ensures { λ r. ⌜ 131072 ≡ length r ⌝ }
+pub fn samples_room() -> [u32; 32768]
+    ensures { λ r. ⌜ 32768 ≡ length r ⌝ }
 {
-    [0; 131072]
+    [0; 32768]
 }
 
 fn cut_one(x: f32) -> f32

@@ -1,4 +1,5 @@
 pub mod Stores
 pub mod Named
 pub mod Numbers
+mod Counts
 pub mod Accepted

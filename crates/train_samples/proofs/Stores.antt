@@ -6,7 +6,7 @@ use native.Mathlib.Numerals.{add-one}
 use mathlib.Core.List.{List, [], _∷_}
 use lib.ListN.{length, getD, set}
 use Rattle.lists.specs.Every.{sum}
-use Rattle.job.specs.Job.{countsPart}
+use Rattle.job.specs.Job.{countsPart, mostTileSize}
 use Rattle.fit_lines.specs.Lines.{Stored}
 use Rattle.fit_lines.proofs.Stores.{both-stored}
 use Rattle.train_samples.specs.Samples.{alike, tileSamples, units, samplesTo, unitsTo, Countable}
@@ -43,11 +43,8 @@ unfolding units sum
 next-fits cs k at q n l e h = omega (arith, sum-grows (λ j. getD cs j 0) (suc k) (length cs) l)
 
 module _ (tiles counts : List ℕ) (t : ℕ) (C : Countable tiles counts t) where
-  few-units : (i : ℕ) → i ≤ t → unitsTo tiles counts i ≤ 64 * i
+  pub part-fits : (l m : List ℕ) (q i n : ℕ) {part : List ℕ} → i < t → Stored l m 0 q (samplesTo tiles counts i) → part ≡ countsPart tiles counts i
+      → 2 * unitsTo tiles counts t ≤ n → (length part ≤ mostTileSize) × (q + 2 * units part ≤ n)
   unfolding unitsTo sum
-  few-units zero l = omega arith
-  few-units (suc i) l = omega (arith, few-units i (omega arith), C .full i (omega arith))
-
-  pub part-fits : (l m : List ℕ) (q i n : ℕ) {part : List ℕ} → i < t → Stored l m 0 q (samplesTo tiles counts i) → part ≡ countsPart tiles counts i → 131072 ≤ n
-      → (length part ≤ 64) × (q + 2 * units part ≤ n)
-  part-fits l m q i n h s e big = rw e (C .short i h, omega (arith, s .place, length-samples tiles counts i, few-units i (omega arith), C .full i h, C .few))
+  part-fits l m q i n h s e room =
+      rw e (C .short i h, omega (arith, s .place, length-samples tiles counts i, sum-grows (λ j. units (countsPart tiles counts j)) (suc i) t h))

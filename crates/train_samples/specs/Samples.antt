@@ -3,7 +3,7 @@ use Prim.Native.Nat.{ℕ, zero, suc, _≤_, _<_}
 use mathlib.Core.List.{List, [], _∷_, _++_}
 use lib.ListN.{length, getD}
 use Rattle.lists.specs.Every.{sum}
-use Rattle.job.specs.Job.{countsPart, Inside}
+use Rattle.job.specs.Job.{countsPart, Inside, mostTileSize, mostTiles}
 
 -- m samples of the colour at place k of tile i, two numbers each
 unfoldable pub alike : ℕ → ℕ → ℕ → List ℕ
@@ -29,9 +29,9 @@ module _ (tiles counts : List ℕ) where
   unfoldable pub unitsTo : ℕ → ℕ
   unitsTo t = sum (λ i. units (countsPart tiles counts i)) t
 
--- what is asked of a table of t tiles: each stands in it and among the counts, and has at most 64 pixels
+-- what is asked of a table of t tiles: each stands in it and among the counts, and has no more pixels than any tile
 pub record Countable (tiles counts : List ℕ) (t : ℕ) : Type 0 where
-  pub few : t ≤ 1024
+  pub few : t ≤ mostTiles
   pub placed : (i : ℕ) → i < t → Inside 1 tiles i (length counts)
-  pub short : (i : ℕ) → i < t → length (countsPart tiles counts i) ≤ 64
-  pub full : (i : ℕ) → i < t → units (countsPart tiles counts i) ≤ 64
+  pub short : (i : ℕ) → i < t → length (countsPart tiles counts i) ≤ mostTileSize
+  pub full : (i : ℕ) → i < t → units (countsPart tiles counts i) ≤ mostTileSize

@@ -1,11 +1,41 @@
-// The samples that `train` draws, into lent memory: one for each unit of count, tile by tile, colour by colour; each function gives the place
-// behind what it wrote. And which refusal a number of samples gets. Assumes nothing.
+// The samples that `train` draws, one for each unit of count, tile by tile, colour by colour: how many they are, which refusal that number
+// gets, and the samples in lent memory, where each function gives the place behind what it wrote. Assumes nothing.
 ghost use Prim.Native.Nat.{_+_, _*_, _≤_};
 ghost use lib.ListN.{length};
 ghost use Rattle.fit_lines.specs.Lines.{Stored};
-ghost use Rattle.train_samples.specs.Samples.{alike, tileSamples, units, samplesTo, Countable};
+ghost use Rattle.train_samples.specs.Samples.{alike, tileSamples, units, unitsTo, samplesTo, Countable};
+ghost use Rattle.job.specs.Job.{mostTileSize};
 ghost use mathlib.Core.Path.{_≡_};
 ghost use Rattle.train_samples.specs.Refusal.{refusalOf};
+
+// The samples of a tile whose counts are `part`.
+fn count_tile(part: &[u32]) -> usize
+    requires { ⌜ units (now part) ≤ mostTileSize ⌝ }
+    ensures { λ r. ⌜ r ≡ units (now (part .entry)) ⌝ }
+{
+    let mut n = 0;
+    let mut k = 0;
+    while k < part.len() {
+        n += job::wide(part[k]);
+        k += 1;
+    }
+    n
+}
+
+// The samples of t tiles.
+pub fn count_samples(t: usize, tiles: &[u32], counts: &[u32]) -> usize
+    requires { ⌜ Countable (now tiles) (now counts) t ⌝ }
+    ensures { λ r. ⌜ r ≡ unitsTo (now (tiles .entry)) (now (counts .entry)) t ⌝ }
+{
+    let mut n = 0;
+    let mut i = 0;
+    while i < t {
+        let part = job::counts_part(tiles, counts, i);
+        n += count_tile(part);
+        i += 1;
+    }
+    n
+}
 
 // m samples of the colour at place k of tile i.
 fn put_alike(samples: &mut [u32], at: usize, i: u32, k: u32, m: u32) -> usize
@@ -25,7 +55,7 @@ fn put_alike(samples: &mut [u32], at: usize, i: u32, k: u32, m: u32) -> usize
 
 // The samples of tile i, whose counts are `part`.
 fn put_tile(samples: &mut [u32], at: usize, i: u32, part: &[u32]) -> usize
-    requires { ⌜ (length (now part) ≤ 64) × (at + 2 * units (now part) ≤ length (now samples)) ⌝ }
+    requires { ⌜ (length (now part) ≤ mostTileSize) × (at + 2 * units (now part) ≤ length (now samples)) ⌝ }
     ensures { λ r. ⌜ Stored (now (samples .entry)) (now (samples .exit)) at r (tileSamples i (now (part .entry)) (length (now (part .entry)))) ⌝ }
 {
     let mut q = at;
@@ -39,7 +69,7 @@ fn put_tile(samples: &mut [u32], at: usize, i: u32, part: &[u32]) -> usize
 
 // The samples of t tiles, from the first place on.
 pub fn put_samples(t: usize, tiles: &[u32], counts: &[u32], samples: &mut [u32]) -> usize
-    requires { ⌜ Countable (now tiles) (now counts) t × (131072 ≤ length (now samples)) ⌝ }
+    requires { ⌜ Countable (now tiles) (now counts) t × (2 * unitsTo (now tiles) (now counts) t ≤ length (now samples)) ⌝ }
     ensures { λ r. ⌜ Stored (now (samples .entry)) (now (samples .exit)) 0 r (samplesTo (now (tiles .entry)) (now (counts .entry)) t) ⌝ }
 {
     let mut q = 0;

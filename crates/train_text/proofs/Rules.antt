@@ -7,12 +7,12 @@ use native.Mathlib.Omega.{arith}
 use lib.Dec.{ltb}
 use lib.ListN.{length, getD}
 use lib.Ieee.{Float}
-use borrow.Author.Tests.{eqb-true, eq-eqb, le-leb, lt-ltb}
+use borrow.Author.Tests.{eq-eqb, le-leb, lt-ltb}
 use Rattle.lists.proofs.Tests.{and-i}
-use Rattle.job.specs.Job.{Job, tileSize, mostSamples, two}
+use Rattle.job.specs.Job.{Job, mostSamples, two}
 use Rattle.answer.specs.Rules.{Passed, numbered}
 use Rattle.answer.proofs.Passing.{all-pass, passed-number}
-use Rattle.job.specs.Checks.{tileSized, componentsFit, sampleTest, sampleFits, samplesFit, tables, boundRules, placeRules, plainRules, plainAnswer}
+use Rattle.job.specs.Checks.{componentsFit, sampleTest, sampleFits, samplesFit, tables, boundRules, placeRules, plainRules, plainAnswer}
 use Rattle.job.specs.Gives.{Ready}
 use Rattle.job.proofs.Ready.{plain-ready}
 use Rattle.job.proofs.Tiles.{counts-length, counts-placed}
@@ -28,10 +28,6 @@ module _ (J : Job) (p : List Float) (h : plainAnswer J p true .number ≡ 0) whe
   unfolding plainAnswer numbered
   passed = all-pass (plainRules J p true) refl h
 
-  sized : J .size ≡ tileSize
-  unfolding tileSized
-  sized = eqb-true (J .size) tileSize (passed .0)
-
   ready : Ready J
   ready = plain-ready J p true h .ready
 
@@ -43,8 +39,8 @@ module _ (J : Job) (p : List Float) (h : plainAnswer J p true .number ≡ 0) whe
   countable = record {
     few = ready .sizes .tiles;
     placed = λ i l. counts-placed J ready i l;
-    short = λ i l. omega (arith, sized, ready .short i l, counts-length J ready i l);
-    full = λ i l. unfold units in omega (arith, sized, ready .full i l);
+    short = λ i l. omega (arith, ready .sizes .small, ready .short i l, counts-length J ready i l);
+    full = λ i l. unfold units in omega (arith, ready .sizes .small, ready .full i l);
   }
 
   -- with another palette

@@ -2,15 +2,13 @@
 use Prim.Native.Nat.{ℕ}
 use mathlib.Core.List.{List}
 use Rattle.answer.specs.Outcome.{Outcome}
-use Rattle.format.specs.Format.{Answer}
-use Rattle.sheet_format.specs.Sheet.{Sheet, edition1, readSheet}
-use Rattle.sheet_parts.specs.Texts.{sheetText, printedIn}
+use Rattle.sheet_parts.specs.Texts.{textFor, printedIn}
 use Rattle.train_text.specs.Trained.{jobText}
 
--- a refusal's line, or what is written for the job that the sheet holds
-abbrev pub textOf : Answer Sheet → List ℕ
-textOf a = sheetText (λ J p. jobText J) a
+-- a refusal's line, or what is written for the job that the sheet holds, which is read as its edition asks
+abbrev pub trainText : List ℕ → List ℕ
+trainText sheet = textFor (λ J p. jobText J) sheet
 
 -- into lent bytes, which have room for any sheet or get none
 abbrev pub trainDef : List ℕ → List ℕ → Outcome ℕ (List ℕ)
-trainDef sheet found = printedIn 65536 (textOf (readSheet edition1 sheet)) found
+trainDef sheet found = printedIn 65536 (trainText sheet) found

@@ -10,9 +10,7 @@ use Rattle.job.specs.Job.{Job}
 use Rattle.answer.specs.Rules.{Passed}
 use Rattle.quantizer.specs.Course.{Course, course}
 use Rattle.run_stages.specs.Calls.{jobRules}
-use Rattle.format.specs.Format.{encode}
-use Rattle.sheet_format.specs.Sheet.{edition1, sheet}
-use Rattle.sheet_pack.specs.Packed.{sheetOf}
+use Rattle.sheet.specs.Sheets.{fileOf}
 use Rattle.fit_lines.specs.Lines.{refusedLine}
 use Rattle.train_run.specs.Training.{trained}
 use Rattle.train_samples.specs.Refusal.{refusalOf}
@@ -26,9 +24,9 @@ unitCourse J = course J (unitsTo (J .tiles) (J .counts) (J .T)) (samplesTo (J .t
 unfoldable pub trainedPalette : Course → List Float
 trainedPalette K = trained K (replicate (K .job .T) 0) .palette
 
--- the sheet with that palette in place of its own
+-- the sheet with that palette in place of its own, in the same edition
 unfoldable pub trainedFile : Job → List ℕ
-trainedFile J = encode (sheet edition1) (sheetOf J (trainedPalette (unitCourse J)))
+trainedFile J = fileOf J (trainedPalette (unitCourse J))
 
 -- that sheet, or the line of a refusal
 unfoldable pub jobText : Job → List ℕ

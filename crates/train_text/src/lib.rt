@@ -48,11 +48,19 @@ pub fn train(bytes: &[u8], out: &mut [u8]) -> usize
     if out.len() < MOST_BYTES {
         return 0;
     }
+    let size = sheet_format::size_in(bytes);
     let mut tiles = sheet_parts::tiles_room();
     let mut colours = sheet_parts::colours_room();
     let mut counts = sheet_parts::counts_room();
     let mut palette = sheet_parts::palette_room();
-    match sheet::read(bytes, &mut tiles, &mut colours, &mut counts, &mut palette) {
+    match sheet::read(
+        size,
+        bytes,
+        &mut tiles,
+        &mut colours,
+        &mut counts,
+        &mut palette,
+    ) {
         sheet::Reading::Refused(e) => fit_lines::put_refused(out, 0, e.number),
         sheet::Reading::Sheet(z) => put_job(z, &tiles, &colours, &counts, &mut palette, out),
     }

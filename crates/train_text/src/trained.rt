@@ -20,13 +20,13 @@ pub fn put_trained(
     ensures { λ r. ⌜ Stored (now (out .entry)) (now (out .exit)) 0 r
         (jobText (jobOf z (now (tiles .entry)) (now (colours .entry)) (now (counts .entry)))) × (r ≤ 65536) ⌝ }
 {
-    let mut samples = train_parts::samples_room();
-    let m = train_samples::put_samples(z.t, tiles, counts, &mut samples);
-    let n = m / 2;
+    let n = train_samples::count_samples(z.t, tiles, counts);
     let number = train_samples::refusal(n);
     if number != 0 {
         return fit_lines::put_refused(out, 0, number);
     }
+    let mut samples = train_parts::samples_room();
+    let m = train_samples::put_samples(z.t, tiles, counts, &mut samples);
     let sampled = Sizes {
         size: z.size,
         s: z.s,

@@ -12,6 +12,9 @@ use Rattle.fit_text.proofs.fit.Tie as tie
 returns : tie.Need-returns
 returns c = nothing-told _ _ _ (c .if1 .taken)
 
+size-in-requires : tie.Need-size-in-requires
+size-in-requires c κs = search needs
+
 tiles-room-requires : tie.Need-tiles-room-requires
 tiles-room-requires c κs = search needs
 
@@ -68,10 +71,10 @@ put-job-requires : tie.Need-put-job-requires
 put-job-requires c κs =
     let after-z = c .before .before .before .before .before .before in let after-read = after-z .before .before .before .before .before .before in
     let after-palette-room = after-read .before .before .before .before .before in
-    let past-if1 = after-palette-room .before .before .before .before in let lent = past-if1 .before .before in let start = lent .before in
+    let after-size-in = after-palette-room .before .before .before .before in let past-if1 = after-size-in .before in let lent = past-if1 .before .before in let start = lent .before in
     let bytes = are-bytes (start .args .bytes .now) (λ i. omega (arith, lent .shared-slice-known .given i)) in
     let z = after-z .z .given in
-    (held _ _ (rooms after-palette-room) _ _ (after-read .read .ensures) bytes (z .0 .0) (z .1), past-if1 .if1 .left)
+    (held _ _ (after-size-in .size-in .ensures) _ (rooms after-palette-room) _ _ (after-read .read .ensures) bytes (z .0 .0) (z .1), past-if1 .if1 .left)
 
 same-length : tie.Need-same-length
 same-length c = search needs
@@ -81,10 +84,10 @@ returns-2 c =
     let after-put-refused = c .before .before in let after-e = after-put-refused .before .before .before in
     let after-read = after-e .before .before .before .before .before .before in
     let after-palette-room = after-read .before .before .before .before .before in
-    let past-if1 = after-palette-room .before .before .before .before in
+    let after-size-in = after-palette-room .before .before .before .before in let past-if1 = after-size-in .before in
     let line = after-put-refused .put-refused in
     let e = after-e .e .given in
-    told _ _ _ _ _ (past-if1 .if1 .left) (refused-text _ _ (rooms after-palette-room) _ _ (after-read .read .ensures) fitText _ _ _ (e .0 .0) (e .1) (line .ensures))
+    told _ _ _ _ _ (past-if1 .if1 .left) (refused-text _ _ (after-size-in .size-in .ensures) _ (rooms after-palette-room) _ _ (after-read .read .ensures) fitText _ _ _ (e .0 .0) (e .1) (line .ensures))
     (omega (arith, line .ensures .place, refused-most (e .0 .0 .number))) (line .kept .0)
 
 same-length-2 : tie.Need-same-length-2
@@ -95,17 +98,17 @@ returns-3 c =
     let after-put-job = c .before .before in let after-z = after-put-job .before .before .before .before .before .before .before in
     let after-read = after-z .before .before .before .before .before .before in
     let after-palette-room = after-read .before .before .before .before .before in
-    let past-if1 = after-palette-room .before .before .before .before in let lent = past-if1 .before .before in let start = lent .before in
+    let after-size-in = after-palette-room .before .before .before .before in let past-if1 = after-size-in .before in let lent = past-if1 .before .before in let start = lent .before in
     let lines = after-put-job .put-job in
     let bytes = are-bytes (start .args .bytes .now) (λ i. omega (arith, lent .shared-slice-known .given i)) in
     let z = after-z .z .given in
-    told _ _ _ _ _ (past-if1 .if1 .left) (front-text _ _ (rooms after-palette-room) _ _ (after-read .read .ensures) fitText _ _ _ bytes (z .0 .0) (z .1)
+    told _ _ _ _ _ (past-if1 .if1 .left) (front-text _ _ (after-size-in .size-in .ensures) _ (rooms after-palette-room) _ _ (after-read .read .ensures) fitText _ _ _ bytes (z .0 .0) (z .1)
     (lines .ensures .0))
     (lines .ensures .1) (lines .kept .1 .1 .1 .1 .1 .0)
 
 pub fit-spec : {M : Type 1} → statement M
 fit-spec =
     tie.close
-    (tie.spec returns tiles-room-requires colours-room-requires counts-room-requires palette-room-requires slice-aggregate-read slice-aggregate-read-2
+    (tie.spec returns size-in-requires tiles-room-requires colours-room-requires counts-room-requires palette-room-requires slice-aggregate-read slice-aggregate-read-2
     slice-aggregate-read-3 slice-aggregate-read-4 read-requires enum-known-e put-refused-requires enum-known-z slice-aggregate-put-job
     slice-aggregate-put-job-2 slice-aggregate-put-job-3 slice-aggregate-put-job-4 put-job-requires same-length returns-2 same-length-2 returns-3)
