@@ -15,7 +15,7 @@ use Rattle.answer.specs.Outcome.{Outcome, outcome, decided}
 use Rattle.answer.proofs.Passing.{answer-then}
 use Rattle.answer.proofs.Places.{plain, plain-then, aside}
 use Rattle.job.specs.Job.{Job, isEmpty}
-use Rattle.job.specs.Checks.{plainRules, plainAnswer}
+use Rattle.job.specs.Checks.{tileSized, plainRules, plainAnswer}
 use Rattle.job.specs.Bad.{plainNames}
 use Rattle.job.proofs.Indexes.{Placed, unplaced, plain-placed}
 use Rattle.fits_outcome.specs.Fits.{refusalOfSingle, singleDef}
@@ -30,17 +30,17 @@ use Rattle.group.specs.declared.Grouped.the-variants as grouped
 use Rattle.group.specs.Group as groups
 use Rattle.bits.specs.Bits.{bits}
 use Rattle.format.specs.Format.{Res, fault, got, clear, Answer, refused, accepted, ended}
-use Rattle.sheet_format.specs.Sheet.{Sheet, edition1, sheet, faultOf}
+use Rattle.sheet_format.specs.Sheet.{Sheet, editionOf, sheet, faultOf}
 use Rattle.sheet.specs.declared.Reading.the-variants as reading
 use Rattle.sheet.specs.declared.Writing.{Writing}
 use Rattle.sheet.specs.declared.Writing.the-variants as writing
-use Rattle.sheet.specs.Sheets.{Room, roomy, refusalOfReading, readInto, readDef, refusalOfWriting, storedIn, writeDef}
+use Rattle.sheet.specs.Sheets.{Room, enough, found, refusalOfReading, readInto, readDef, fileOf, refusalOfWriting, storedIn, writeDef}
 use Rattle.quantizer.specs.Course.{Course}
 use Rattle.run_stages.specs.Calls.{Memory, advanced, startRules, advanceRules, handInRules, resultRules, startAnswer, advanceAnswer, handInAnswer, resultAnswer, startCall, advanceCall, handInCall, resultCall}
 use Rattle.run_calls.specs.Names.{startNames, runNames, handInNames}
 use Rattle.run_calls.proofs.Indexes.{start-placed, advance-placed, handIn-placed, result-placed}
 use Rattle.demands.specs.Calls.{Call, Ruled}
-use Rattle.demands.specs.First.{itself, refusalIn, found, colourNames, file, writeRules, First}
+use Rattle.demands.specs.First.{itself, refusalIn, colourNames, writeRules, First}
 use Rattle.demands.proofs.Calls.{decides, ruled}
 
 -- ---- start, advance, hand-in, result
@@ -99,17 +99,17 @@ grouping : (size : ℕ) (q : Pixels) (m : EntryRoom) → Call (groups.grouping s
 unfolding groups.grouping
 grouping size q m = decides groups.refusalOf grouped.Refused (λ e. refl) _ refl m (groupAnswer size q m) (λ z. sym (accepted-nothing size q m z))
 
--- ---- the sheet's reader: 3 for room, then 13 for size, then the first fault in field order (Sheets: 0, 3, 12 and 13 exactly when)
-read-sheet : (bytes : List ℕ) (h : Room) → Call (readDef bytes h) refusalOfReading (refusalIn (found bytes h)) reading.Refused h
+-- ---- the sheet's reader: 2 for the tile size, 3 for room, 13 for too many bytes, then the first fault in field order (Sheets: 0, 2, 3, 12 and 13 exactly when)
+read-sheet : (size : ℕ) (bytes : List ℕ) (h : Room) → Call (readDef size bytes h) refusalOfReading (refusalIn (found size bytes h)) reading.Refused h
 unfolding readDef
-read-sheet bytes h = by (found bytes h)
+read-sheet size bytes h = by (found size bytes h)
   where
-    by : (a : Answer Sheet) → Call (readInto a h) refusalOfReading (refusalIn a) reading.Refused h
+    by : (a : Answer Sheet) → Call (readInto (editionOf size) a h) refusalOfReading (refusalIn a) reading.Refused h
     by (refused e) = record { only = λ x y p q. p ∙ sym q; numbers = refl; refuses = λ n. refl }
     by (accepted x) = record { only = λ x y p q. p ∙ sym q; numbers = refl; refuses = λ n. absurd (n refl) }
 
-read-index : (bytes : List ℕ) (h : Room) → Names colourNames (refusalIn (found bytes h))
-read-index bytes h = by (roomy (length (h .tiles)) (length (h .colours)) (length (h .counts)) (length (h .palette))) (leb (length bytes) 65536) (sheet edition1 .parse (bits bytes))
+read-index : (size : ℕ) (bytes : List ℕ) (h : Room) → Names colourNames (refusalIn (found size bytes h))
+read-index size bytes h = by (tileSized size) (enough h) (leb (length bytes) 65536) (sheet (editionOf size) .parse (bits bytes))
   where
     none : (number : ℕ) → Names colourNames (refusal number 0)
     none number = (λ _. tt, λ _. refl)
@@ -122,10 +122,11 @@ read-index bytes h = by (roomy (length (h .tiles)) (length (h .colours)) (length
     parsed (fault n i) = (λ _. tt, λ h. rw (ne-eqb n 7 h))
     parsed (got x r) = last (ltb (length r) 8 && clear r) x
 
-    by : (r s : Bool) (x : Res Sheet) → Names colourNames (refusalIn (cond r (cond s (ended faultOf x) (refused (refusal 13 0))) (refused (refusal 3 0))))
-    by true true x = parsed x
-    by true false x = none 13
-    by false s x = none 3
+    by : (t r s : Bool) (x : Res Sheet) → Names colourNames (refusalIn (cond t (cond r (cond s (ended faultOf x) (refused (refusal 13 0))) (refused (refusal 3 0))) (refused (refusal 2 0))))
+    by true true true x = parsed x
+    by true true false x = none 13
+    by true false s x = none 3
+    by false r s x = none 2
 
 -- ---- its writer: as for fitting, then 13, then 3 for room
 module _ (J : Job) (palette : List Float) (bytes : List ℕ) where
@@ -133,7 +134,7 @@ module _ (J : Job) (palette : List Float) (bytes : List ℕ) where
   unwritten e = outcome (writing.Refused e) bytes
 
   abbrev written : Outcome Writing (List ℕ)
-  written = outcome (writing.Bytes (length (file J palette))) (sets bytes 0 (file J palette))
+  written = outcome (writing.Bytes (length (fileOf J palette))) (sets bytes 0 (fileOf J palette))
 
   in-order : (rules : List Rule) (p q : Bool) → numbered rules ≡ true
       → decided (answer rules) (cond p (cond q written (unwritten (refusal 3 0))) (unwritten (refusal 13 0))) (writing.Refused (answer rules)) bytes
@@ -158,9 +159,9 @@ module _ (J : Job) (palette : List Float) (bytes : List ℕ) where
   unfolding writeDef storedIn plainAnswer numbered
   write-sheet =
       subst⁻¹ (λ (d : Outcome Writing (List ℕ)). Ruled d refusalOfWriting (writeRules J palette bytes) writing.Refused bytes (plainNames J palette))
-      (in-order (plainRules J palette true) (leb (length (file J palette)) 65536) (leb (length (file J palette)) (length bytes)) refl)
+      (in-order (plainRules J palette true) (leb (length (fileOf J palette)) 65536) (leb (length (fileOf J palette)) (length bytes)) refl)
       (ruled refusalOfWriting writing.Refused (λ e. refl) written refl bytes (writeRules J palette bytes) refl (plainNames J palette)
-      (plain-index J palette [] true (rule 13 (leb (length (file J palette)) 65536) ∷ rule 3 (leb (length (file J palette)) (length bytes)) ∷ []) refl refl))
+      (plain-index J palette [] true (rule 13 (leb (length (fileOf J palette)) 65536) ∷ rule 3 (leb (length (fileOf J palette)) (length bytes)) ∷ []) refl refl))
 
 pub first-demand : First
 first-demand =

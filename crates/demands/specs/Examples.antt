@@ -11,7 +11,7 @@ use Rattle.prng.specs.Shuffle.{deck, shuffleOf}
 use Rattle.cycle.specs.Tenth.{tenth}
 use Rattle.stats.specs.Stats.{valueAt, leastTwo}
 use Rattle.stats_extremes.specs.Extremes.{argmaxOf, argminOf}
-use Rattle.job.specs.Job.{Job, job, tileSize}
+use Rattle.job.specs.Job.{Job, job, smallTile}
 use Rattle.color.specs.Blend.{blend}
 use Rattle.palette_tile.specs.Tiles.{fitAt}
 use Rattle.assign_tiles.specs.Tiles.{tileMemory}
@@ -45,7 +45,7 @@ five = ofBits binary32 0x40a00000
 
 -- ---- the sheet of docs/SCOPE.md: (0.25, 0, 0) four times; an empty tile; (0.5, 0, 0) twice; (1, 0, 0) once
 abbrev pub sheetJob : Job
-sheetJob = job tileSize 2 1 4 one (0 ∷ 1 ∷ 1 ∷ 0 ∷ 1 ∷ 1 ∷ 2 ∷ 1 ∷ []) (quarter ∷ nought ∷ nought ∷ half ∷ nought ∷ nought ∷ one ∷ nought ∷ nought ∷ []) (4 ∷ 2 ∷ 1 ∷ [])
+sheetJob = job smallTile 2 1 4 one (0 ∷ 1 ∷ 1 ∷ 0 ∷ 1 ∷ 1 ∷ 2 ∷ 1 ∷ []) (quarter ∷ nought ∷ nought ∷ half ∷ nought ∷ nought ∷ one ∷ nought ∷ nought ∷ []) (4 ∷ 2 ∷ 1 ∷ [])
 
 -- subpalettes (0, 0, 0) and (1, 0, 0)
 abbrev pub sheetPalette : List Float
@@ -60,7 +60,7 @@ pub record Past (s c n : ℕ) (K : Course) (m : Memory) : Type 0 where
 
 -- n samples of a job that has one tile of one colour, and memory to start a run in
 abbrev pub oneColour : ℕ → ℕ → ℕ → Course
-oneColour s c n = course (job tileSize s c 1 one (0 ∷ 1 ∷ []) (half ∷ nought ∷ nought ∷ []) (1 ∷ [])) n (replicate (2 * n) 0)
+oneColour s c n = course (job smallTile s c 1 one (0 ∷ 1 ∷ []) (half ∷ nought ∷ nought ∷ []) (1 ∷ [])) n (replicate (2 * n) 0)
 
 abbrev pub blank : ℕ → ℕ → ℕ → Memory
 blank s c n = memory (replicate n 0) (0 ∷ []) (replicate (3 * (s * c)) nought) (replicate (3 * (s * c)) nought) (replicate recordWords 0)

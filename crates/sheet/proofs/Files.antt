@@ -18,7 +18,7 @@ use Rattle.bits.specs.Bits.{bitsOf, bits}
 use Rattle.bits.proofs.Numbers.{num-lt}
 use Rattle.bits.proofs.Bytes.{bits-set}
 use Rattle.bits.proofs.Fields.{sets-append}
-use Rattle.format.specs.Format.{bytesOf, bytesFor, encode}
+use Rattle.format.specs.Format.{Format, bytesOf, bytesFor, encode}
 use Rattle.format.proofs.Tests.{and-in}
 use Rattle.format.proofs.Files.{bits-bytesOf, bytesOf-bits}
 use Rattle.job.specs.Job.{Job}
@@ -36,10 +36,10 @@ use Rattle.sheet.specs.declared.Writing.the-variants.{Refused, Bytes}
 use Rattle.sheet.specs.Sheets.{fileOf, storedIn, writeDef}
 
 -- each element is a byte, as a slice of bytes has it
-abbrev Bytewise : List ℕ → Type 0
+abbrev pub Bytewise : List ℕ → Type 0
 Bytewise s = (i : ℕ) → getD s i 0 < 256
 
-are-bytes : (s : List ℕ) → Bytewise s → T (areBytes s)
+pub are-bytes : (s : List ℕ) → Bytewise s → T (areBytes s)
 are-bytes [] b = tt
 are-bytes (x ∷ s) b = and-in (ltb x 256) (areBytes s) (lt→ltb x 256 (b 0)) (are-bytes s (λ i. b (suc i)))
 
@@ -76,6 +76,15 @@ bytewise-of (suc n) l e (suc i) = bytewise-of n (drop 8 l) (length-drop 8 l ∙ 
 length-bytesOf : (n : ℕ) (l : List Bool) → length (bytesOf n l) ≡ n
 length-bytesOf zero l = refl
 length-bytesOf (suc n) l = ap suc (length-bytesOf n (drop 8 l))
+
+-- the file of a format is bytes
+pub encoded-bytes : {A : Type 0} (F : Format A) (a : A) → T (areBytes (encode F a))
+encoded-bytes F a =
+    let p : List Bool = F .print a in
+    let n : ℕ = bytesFor (length p) in
+    let k : ℕ = 8 * n - length p in
+    let whole : length (p ++ replicate k false) ≡ 8 * n = length-append p (replicate k false) ∙ omega (arith, length-replicate k false) in
+    are-bytes (encode F a) (bytewise-of n (p ++ replicate k false) whole)
 
 -- whole bytes of bits, stored at the front
 stored-front : (old new : List ℕ) (n : ℕ) (q : List Bool) → Bytewise old → Bytewise new → length new ≡ length old → length q ≡ 8 * n → n ≤ length old

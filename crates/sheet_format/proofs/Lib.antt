@@ -4,3 +4,4 @@ pub mod Headed
 pub mod Exact
 pub mod Light
 pub mod Faults
+pub mod Opened

@@ -1,12 +1,12 @@
 -- What a reading into room for any sheet says: the refusal, or a job that then stands in the first places. Assumes nothing.
 use mathlib.Core.Path.{_≡_, refl, sym, ap, ap₂, _∙_, subst, subst₂}
-use Prim.Native.Nat.{ℕ, suc, _*_, _≤_, _<_}
+use Prim.Native.Nat.{ℕ, _*_, _≤_}
 use native.Mathlib.Omega.{arith}
 use mathlib.Core.Bool.{Bool, true, cond, _&&_}
-use mathlib.Core.List.{List, [], _∷_}
-use lib.Dec.{T, ltb, lt→ltb}
+use mathlib.Core.List.{List}
+use lib.Dec.{T}
 use lib.Pow.{areBytes}
-use lib.ListN.{length, getD, take}
+use lib.ListN.{length, take}
 use lib.Seq.{length-sets}
 use lib.Ieee.{Float}
 use borrow.Author.Tests.{le-leb}
@@ -14,7 +14,6 @@ use Rattle.answer.specs.declared.Refusal.{Refusal}
 use Rattle.answer.specs.Rules.{refusal}
 use Rattle.answer.specs.Outcome.{Outcome, outcome}
 use Rattle.format.specs.Format.{Answer, refused, accepted}
-use Rattle.format.proofs.Tests.{and-in}
 use Rattle.job.specs.declared.Sizes.{Sizes}
 use Rattle.job.specs.Job.{Job, jobOf}
 use Rattle.job.specs.Checks.{tileSized}
@@ -32,10 +31,6 @@ use Rattle.sheet.proofs.Inverse.{accepted-few, accepted-job, file-again}
 use Rattle.sheet.proofs.Accepted.{within-limit}
 use Rattle.sheet_parts.specs.Front.{Writable, coloursTo, frontJob, frontPalette, Front}
 use Rattle.sheet_parts.proofs.Parts.{written-front, number}
-
-pub are-bytes : (s : List ℕ) → ((i : ℕ) → getD s i 0 < 256) → T (areBytes s)
-are-bytes [] b = tt
-are-bytes (x ∷ s) b = and-in (ltb x 256) (areBytes s) (lt→ltb x 256 (b 0)) (are-bytes s (λ i. b (suc i)))
 
 -- ---- room for any sheet
 pub record Lengths (h : Room) : Type 0 where
