@@ -4,7 +4,7 @@ use mathlib.Core.Path.{_≡_, refl}
 use mathlib.Core.List.{List}
 use lib.ListN.{length}
 use lib.Ieee.{Float}
-use Rattle.job.specs.Job.{Job, tileSize}
+use Rattle.job.specs.Job.{Job}
 use Rattle.answer.specs.declared.Refusal.{Refusal}
 use Rattle.answer.specs.Rules.{answer}
 use Rattle.answer.specs.Outcome.{Outcome, outcome}
@@ -59,10 +59,10 @@ first-kept =
           (λ κs a. answers (first-demand .assign (assign.job-given κs a) (assign.palette-given κs a) (assign.tiles-lent κs a) .call)) (contracts .assign);
       grouping =
           keeps grouping.compiled grouping.defined grouping.answers
-          (λ κs a. answers (first-demand .grouping tileSize (grouping.pixels-given κs a) (grouping.room-lent κs a))) (contracts .grouping);
+          (λ κs a. answers (first-demand .grouping (grouping.size-given κs a) (grouping.pixels-given κs a) (grouping.room-lent κs a))) (contracts .grouping);
       read =
           keeps read.compiled read.defined read.answers
-          (λ κs a. answers (first-demand .read-sheet (read.bytes-given κs a) (read.room-lent κs a))) (contracts .read);
+          (λ κs a. answers (first-demand .read-sheet (read.size-given κs a) (read.bytes-given κs a) (read.room-lent κs a))) (contracts .read);
       write =
           keeps write.compiled write.defined write.answers
           (λ κs a. answers (first-demand .write-sheet (write.job-given κs a) (write.palette-given κs a) (write.bytes-lent κs a) .call)) (contracts .write);

@@ -69,13 +69,13 @@ module _ (κs : Lfts (function.signature .lifetimes)) (a : Args function.signatu
       × (getD (x .after .out) t 0 ≡ winner job-given palette-given s c t)
       × (getD (x .after .hints) t 0 ≡ winner job-given palette-given s c t)
 
--- its export takes S, C, T and the weight by themselves, for tiles of 64 pixels
+-- its export takes the tile size, S, C, T and the weight by themselves
 module _ (κs : Lfts (export.signature .lifetimes)) (a : Args export.signature κs) where
   abbrev pub forwarded : Args function.signature κs
-  forwarded = (sizesOf (a .0) (a .1 .0) (a .1 .1 .0) 0 (a .1 .1 .1 .0), a .1 .1 .1 .1)
+  forwarded = (sizesOf (a .0) (a .1 .0) (a .1 .1 .0) (a .1 .1 .1 .0) 0 (a .1 .1 .1 .1 .0), a .1 .1 .1 .1 .1)
 
   abbrev pub export-seen : Res export.signature κs → AtExit export.ended κs → Outcome ℕ TileMemory
-  export-seen r e = outcome r (tiles-left κs forwarded (forwarded .0, e .1 .1 .1 .1))
+  export-seen r e = outcome r (tiles-left κs forwarded (forwarded .0, e .1 .1 .1 .1 .1))
 
   abbrev pub export-defined : Outcome ℕ TileMemory
   export-defined = told (defined κs forwarded)

@@ -8,28 +8,31 @@ use denote.Triple.Clauses.{AtExit}
 use Rattle.answer.specs.Outcome.{Outcome, outcome}
 use Rattle.sheet.specs.declared.Reading.{Reading}
 use Rattle.sheet.specs.declared.Reading.the-variants as reading
-use Rattle.sheet.specs.Sheets.{Room, room, refusalOfReading, readDef}
-use Rattle.demands.specs.First.{refusalIn, found}
+use Rattle.sheet.specs.Sheets.{Room, room, found, refusalOfReading, readDef}
+use Rattle.demands.specs.First.{refusalIn}
 use Rattle.sheet.proofs.read as function
 use Rattle.sheet.proofs.read.Symbol as symbol
 use Rattle.contracts.specs.Answers.{Answers}
 use Rattle.contracts.specs.Keeps.{Compiled}
 
 module _ (κs : Lfts (function.signature .lifetimes)) (a : Args function.signature κs) where
+  abbrev pub size-given : ℕ
+  size-given = a .0
+
   abbrev pub bytes-given : List ℕ
-  bytes-given = now (a .0)
+  bytes-given = now (a .1 .0)
 
   abbrev pub room-lent : Room
-  room-lent = room (now (a .1 .0)) (now (a .1 .1 .0)) (now (a .1 .1 .1 .0)) (now (a .1 .1 .1 .1 .0))
+  room-lent = room (now (a .1 .1 .0)) (now (a .1 .1 .1 .0)) (now (a .1 .1 .1 .1 .0)) (now (a .1 .1 .1 .1 .1 .0))
 
   abbrev pub seen : Res function.signature κs → AtExit function.ended κs → Outcome Reading Room
-  seen r e = outcome r (room (now (e .1 .0)) (now (e .1 .1 .0)) (now (e .1 .1 .1 .0)) (now (e .1 .1 .1 .1 .0)))
+  seen r e = outcome r (room (now (e .1 .1 .0)) (now (e .1 .1 .1 .0)) (now (e .1 .1 .1 .1 .0)) (now (e .1 .1 .1 .1 .1 .0)))
 
   abbrev pub defined : Outcome Reading Room
-  defined = readDef bytes-given room-lent
+  defined = readDef size-given bytes-given room-lent
 
   abbrev pub answers : Outcome Reading Room → Type 0
-  answers = Answers refusalOfReading (refusalIn (found bytes-given room-lent)) reading.Refused room-lent
+  answers = Answers refusalOfReading (refusalIn (found size-given bytes-given room-lent)) reading.Refused room-lent
 
 abbrev pub compiled : Compiled (Outcome Reading Room)
 compiled = record { ended = function.ended; seen = seen; code = symbol.routine }
