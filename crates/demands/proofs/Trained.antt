@@ -17,8 +17,7 @@ use Rattle.sheet_format.specs.Sheet.{Sheet, readSheet}
 use Rattle.sheet_format.specs.Opened.{sizeIn}
 use Rattle.sheet_format.specs.Lists.{floats}
 use Rattle.sheet_pack.specs.Packed.{sheetOf}
-use Rattle.sheet.specs.Sheets.{jobIn, fileOf}
-use Rattle.sheet.proofs.Floats.{Singles}
+use Rattle.sheet.specs.Sheets.{Singles, jobIn, fileOf}
 use Rattle.sheet.proofs.Inverse.{sets-front, accepted-job}
 use Rattle.sheet.proofs.Accepted.{within-limit}
 use Rattle.sheet_parts.specs.Texts.{sheetText}

@@ -21,8 +21,7 @@ use Rattle.sheet_format.specs.Lists.{floats}
 use Rattle.sheet_format.specs.Opened.{misopened}
 use Rattle.sheet.specs.declared.Reading.the-variants as reading
 use Rattle.sheet.specs.declared.Writing.the-variants as writing
-use Rattle.sheet.specs.Sheets.{jobIn, Room, room, enough, refusalOfReading, readDef, writeDef}
-use Rattle.sheet.proofs.Floats.{Singles}
+use Rattle.sheet.specs.Sheets.{Singles, jobIn, Room, room, enough, refusalOfReading, readDef, writeDef}
 use Rattle.fit_lines.specs.Lines.{refusedLine}
 use Rattle.sheet_parts.specs.Texts.{textAt, textFor}
 

@@ -16,10 +16,7 @@ use Rattle.format_pattern.specs.Pattern.{small, weighs}
 use Rattle.format_pattern.proofs.Patterns.{small-is, small-back, weighs-is}
 use Rattle.sheet_format.specs.Sheet.{component}
 use Rattle.sheet_format.specs.Lists.{floats, patterns}
-
--- each element is a float of 32 bits, as a slice of such floats has it
-abbrev pub Singles : List Float → Type 0
-Singles v = (i : ℕ) → T (fits binary32 (getD v i nan))
+use Rattle.sheet.specs.Sheets.{Singles}
 
 pub singles-drop : (n : ℕ) (v : List Float) → Singles v → Singles (drop n v)
 singles-drop zero v s = s

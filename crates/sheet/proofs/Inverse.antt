@@ -30,9 +30,8 @@ use Rattle.sheet.specs.declared.Reading.{Reading}
 use Rattle.sheet.specs.declared.Reading.the-variants as reading
 use Rattle.sheet.specs.declared.Writing.{Writing}
 use Rattle.sheet.specs.declared.Writing.the-variants.{Refused, Bytes}
-use Rattle.sheet.specs.Sheets.{jobIn, Room, room, enough, readInto, readDef, fileOf, storedIn, writeDef}
+use Rattle.sheet.specs.Sheets.{Singles, jobIn, Room, room, enough, readInto, readDef, fileOf, storedIn, writeDef}
 use Rattle.sheet.proofs.Editions.{edition-size, edition-sized, edition-again}
-use Rattle.sheet.proofs.Floats.{Singles}
 use Rattle.sheet.proofs.Kept.{job-back, palette-back, sheet-good}
 use Rattle.sheet.proofs.Again.{sheet-again}
 use Rattle.sheet.proofs.Files.{stored-in-place}

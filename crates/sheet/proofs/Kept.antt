@@ -28,8 +28,8 @@ use Rattle.sheet_format.specs.Sheet.{component, Colour, colours, tile, sheet}
 use Rattle.sheet_format.specs.Lists.{floats, patterns, tileCounts, tileFloats, allCounts, allFloats, tableOf}
 use Rattle.sheet_pack.specs.Packed.{coloursOf, tilesFrom, sheetOf, Counted}
 use Rattle.sheet_pack.proofs.Prints.{length-coloursOf}
-use Rattle.sheet.specs.Sheets.{jobIn}
-use Rattle.sheet.proofs.Floats.{Singles, singles-drop, singles-take, bounded-drop, bounded-take, round-trip, components-good, weight-good}
+use Rattle.sheet.specs.Sheets.{Singles, jobIn}
+use Rattle.sheet.proofs.Floats.{singles-drop, singles-take, bounded-drop, bounded-take, round-trip, components-good, weight-good}
 
 above-good : (k n : ℕ) → 1 ≤ n → n ≤ 2 ^ k → T (above k .good n)
 above-good k zero h l = absurd (omega arith)

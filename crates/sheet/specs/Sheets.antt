@@ -2,10 +2,10 @@
 use Prim.Native.Nat.{ℕ}
 use mathlib.Core.Bool.{Bool, true, cond}
 use mathlib.Core.List.{List}
-use lib.Dec.{leb}
-use lib.ListN.{length}
+use lib.Dec.{T, leb}
+use lib.ListN.{length, getD}
 use lib.Seq.{sets}
-use lib.Ieee.{Float, binary32, ofBits}
+use lib.Ieee.{Float, nan, binary32, ofBits, fits}
 use Rattle.answer.specs.declared.Refusal.{Refusal}
 use Rattle.answer.specs.Rules.{refusal, nothing}
 use Rattle.answer.specs.Outcome.{Outcome, outcome, decided}
@@ -22,6 +22,10 @@ use Rattle.sheet.specs.declared.Reading.{Reading}
 use Rattle.sheet.specs.declared.Reading.the-variants as reading
 use Rattle.sheet.specs.declared.Writing.{Writing}
 use Rattle.sheet.specs.declared.Writing.the-variants as writing
+
+-- each element is a float of 32 bits, as a slice of such floats has it
+abbrev pub Singles : List Float → Type 0
+Singles v = (i : ℕ) → T (fits binary32 (getD v i nan))
 
 -- the numbers of the job that a sheet of an edition holds, and the job
 abbrev pub sizesIn : Edition → Sheet → Sizes

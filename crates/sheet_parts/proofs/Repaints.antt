@@ -19,8 +19,8 @@ use Rattle.sheet_format.specs.Sheet.{Colour, Sheet, editionOf, sheet, readSheet
 use Rattle.sheet_format.proofs.Editions.{proper}
 use Rattle.sheet_format.specs.Lists.{floats, tileFloats, allFloats}
 use Rattle.sheet_pack.specs.Packed.{sheetOf}
-use Rattle.sheet.specs.Sheets.{jobIn, fileOf}
-use Rattle.sheet.proofs.Floats.{Singles, singles-append}
+use Rattle.sheet.specs.Sheets.{Singles, jobIn, fileOf}
+use Rattle.sheet.proofs.Floats.{singles-append}
 use Rattle.sheet.proofs.Kept.{job-back, palette-back, sheet-good}
 use Rattle.sheet.proofs.Again.{sheet-again}
 use Rattle.sheet.proofs.Inverse.{read-written, written-read, file-again}

@@ -22,7 +22,8 @@ use Rattle.quantizer.specs.Drawing.{moved}
 use Rattle.run_stages.specs.State.{State, at, painted}
 use Rattle.run_stages.specs.Stages.{noticed, openSeeding, openGrowing, openReplacing, errorOf, keep, judged, enterReplacing, enterGrowing, enterReducing}
 use Rattle.run_stages.specs.Stages.{closeSeeding, closeGrowing, closeReplacing, finishRound, due, settle, draw, drawWith, step, going, fresh, start, refinedOnce, handIn}
-use Rattle.sheet.proofs.Floats.{Singles, singles-take, singles-drop, singles-append}
+use Rattle.sheet.specs.Sheets.{Singles}
+use Rattle.sheet.proofs.Floats.{singles-take, singles-drop, singles-append}
 use Rattle.run_calls.proofs.Cases.{both, all-stages}
 use Rattle.run_calls.proofs.Whilsts.{whilst-keeps}
 use Rattle.train_run.specs.Training.{cutOne, cut, all, toStop, handCut, turn, trained}
