@@ -6,16 +6,17 @@ use lib.Dec.{leb, eqb}
 use lib.ListN.{length}
 use Rattle.answer.specs.declared.Refusal.{Refusal}
 use Rattle.answer.specs.Rules.{refusal}
+use Rattle.job.specs.Job.{smallTile, largeTile}
 use Rattle.format.specs.Format.{Format, indexed, field, checked, mapped, above, both, literal, none, cons, times, counted, Answer, refused, readOf}
 use Rattle.format_pattern.specs.Pattern.{small, weighs}
 use Rattle.sheet_format.specs.declared.Edition.{Edition}
 
 -- what differs between editions: its number, the pixels of a tile, the bits of a tile's number of colours and of a count less one
 abbrev pub edition1 : Edition
-edition1 = record { number = 1; size = 64; many = 7; each = 6 }
+edition1 = record { number = 1; size = smallTile; many = 7; each = 6 }
 
 abbrev pub edition2 : Edition
-edition2 = record { number = 2; size = 256; many = 9; each = 8 }
+edition2 = record { number = 2; size = largeTile; many = 9; each = 8 }
 
 -- the edition of a tile size that there is
 unfoldable pub editionOf : ℕ → Edition

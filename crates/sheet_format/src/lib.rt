@@ -13,15 +13,11 @@ pub struct Edition {
     pub each: usize,
 }
 
-const SMALL_TILE: usize = 64;
-
-const LARGE_TILE: usize = 256;
-
 // The edition of a tile size that there is.
 pub fn edition_of(size: usize) -> Edition
     ensures { λ r. ⌜ r ≡ editionOf size ⌝ }
 {
-    if size == LARGE_TILE {
+    if size == job::LARGE_TILE {
         return Edition {
             number: 2,
             size: 256,
@@ -42,12 +38,12 @@ pub fn size_in(s: &[u8]) -> usize
     ensures { λ r. ⌜ r ≡ sizeIn (now (s .entry)) ⌝ }
 {
     if s.len() < 5 {
-        return SMALL_TILE;
+        return job::SMALL_TILE;
     }
     if bits::get(s, EDITION_AT, 4) != 2 {
-        return SMALL_TILE;
+        return job::SMALL_TILE;
     }
-    LARGE_TILE
+    job::LARGE_TILE
 }
 
 // The first field, 54 46 49 54.
