@@ -7,7 +7,8 @@
  *
  * A job is S subpalettes of C colours, and T tiles, each with its colours and how often each occurs. Colours are Oklab: three
  * floats, l, a, b. Training draws n samples in an order of its own, and stops three times for the host to reduce the colours to
- * those that its console has.
+ * those that its console has. All tiles of a job have one size, which every call is told first: DUNKAFETO_SMALL_TILE, 64 pixels, for
+ * tiles of 8 by 8, or DUNKAFETO_LARGE_TILE, 256 pixels, for tiles of 16 by 16.
  *
  * Order of calls:
  *
@@ -18,7 +19,8 @@
  *
  * A whole run makes (S + C + 18) * (n / 10) draws, whatever the allotments. With n below 10 it makes none.
  * To save a run, keep order, hints, palette, least and words (and the job) between two calls; to go on, lend them again with that
- * job. The record knows its job's sizes, so that a job of other sizes is refused with 20.
+ * job. The record knows its job's S, C, T and n, so that a job of others is refused with 20. It does not hold the tile size: keep
+ * that with the job. A run that is taken up with the other size goes on wherever the job passes there.
  * WARNING: two jobs of equal sizes are still not told apart. Keep a checksum of the job beside the run, and compare it first.
  *
  * Example, a whole program:
@@ -26,7 +28,7 @@
  *     #include <stdio.h>
  *     #include "dunkafeto.h"
  *
- *     enum { S = 1, C = 2, T = 2, N = 10, CELLS = 3 * S * C };
+ *     enum { SIZE = DUNKAFETO_SMALL_TILE, S = 1, C = 2, T = 2, N = 10, CELLS = 3 * S * C };
  *     static const uint32_t tiles[2 * T] = {0, 2, 2, 1}; // tile 0 has colours 0 and 1, tile 1 has colour 2
  *     static const float colours[9] = {0.25f, 0, 0, 0.75f, 0, 0, 0.5f, 0.125f, 0};
  *     static const uint32_t counts[3] = {4, 4, 2};
@@ -35,7 +37,7 @@
  *     static float palette[CELLS], least[CELLS], reduced[CELLS];
  *     static uint64_t words[DUNKAFETO_WORDS];
  *
- *     #define JOB S, C, T, N, 1.0f
+ *     #define JOB SIZE, S, C, T, N, 1.0f
  *     #define TABLES tiles, 2 * T, colours, 9, counts, 3, samples, 2 * N
  *     #define MEMORY order, N, hints, T, palette, CELLS, least, CELLS, words, DUNKAFETO_WORDS
  *
@@ -69,13 +71,17 @@
 extern "C" {
 #endif
 
+/* ---- Tile sizes, in pixels: the first argument of every call; any other is 2. It bounds a tile's number of colours (5) and the sum of
+ * its counts (6). A sheet of edition 1 has small tiles, one of edition 2 large ones. */
+#define DUNKAFETO_SMALL_TILE 64  /* 8 by 8 */
+#define DUNKAFETO_LARGE_TILE 256 /* 16 by 16 */
+
 /* ---- Limits. Outside them a call refuses with the number that stands beside. */
 #define DUNKAFETO_MOST_SUBPALETTES 16     /* S is 1 up to this, else 2 */
 #define DUNKAFETO_MOST_COLOURS 16         /* C is 1 up to this, else 2 */
 #define DUNKAFETO_MOST_TILES 1024         /* T is 1 up to this, else 2 */
 #define DUNKAFETO_MOST_SAMPLES 16384      /* n is 1 up to this, else 1 where it is 0 and 2 where it is above */
 #define DUNKAFETO_MOST_TILE_COLOURS 16384 /* of all tiles together, else 5 */
-#define DUNKAFETO_TILE_SIZE 64            /* colours of a tile are 0 up to this, else 5; its counts sum to at most this, else 6 */
 #define DUNKAFETO_MOST_COMPONENT 2.0f     /* magnitude of a component given, else 7, or 17 if handed in; of one a run holds: 4, else 16 */
 #define DUNKAFETO_MOST_WEIGHT 16.0f       /* weight is above 0 and at most this, else 4 */
 #define DUNKAFETO_WORDS 7                 /* words of a run's record, else 3 */
@@ -86,17 +92,17 @@ extern "C" {
 enum dunkafeto_numbers {
     DUNKAFETO_DONE = 0,
     DUNKAFETO_NO_SAMPLES = 1,       /* n is 0 */
-    DUNKAFETO_SIZES = 2,            /* S, C or T is outside its range, or n is above 16,384 */
+    DUNKAFETO_SIZES = 2,            /* the tile size is neither 64 nor 256, S, C or T is outside its range, or n is above 16,384 */
     DUNKAFETO_LENGTHS = 3,          /* a slice is longer or shorter than the sizes ask */
     DUNKAFETO_WEIGHT = 4,           /* the weight is not above 0, is above 16, or is NaN */
-    DUNKAFETO_TILES = 5,            /* tiles leave a gap or overlap, one has above 64 colours, all above 16,384 or not as many as lent */
-    DUNKAFETO_COUNTS = 6,           /* a colour counted 0 times, or a tile more than 64 */
+    DUNKAFETO_TILES = 5,            /* tiles leave a gap or overlap, one has more colours than pixels, all above 16,384 or not those lent */
+    DUNKAFETO_COUNTS = 6,           /* a colour counted 0 times, or a tile's counts sum to more than its pixels */
     DUNKAFETO_COMPONENTS = 7,       /* a component of a job's colour is above 2 in magnitude or not finite */
     DUNKAFETO_SAMPLES = 8,          /* a sample's tile is not there, or has no such colour */
     DUNKAFETO_ORDER = 9,            /* an entry of the order is n or more */
     DUNKAFETO_RECORD = 10,          /* the record breaks one of its rules */
     DUNKAFETO_MOMENT = 11,          /* advance at a stop or finish, hand_in elsewhere than at a stop, result before the finish */
-    DUNKAFETO_SHEET_HEAD = 12,      /* the first four bytes or the edition are not a sheet's */
+    DUNKAFETO_SHEET_HEAD = 12,      /* the first four bytes are not a sheet's, or the edition is not the reader's */
     DUNKAFETO_SHEET_BYTES = 13,     /* a sheet ends too soon, goes on by a bit or a byte, or has more than 65,536 bytes */
     DUNKAFETO_SAME_COLOUR = 14,     /* grouping: pixels of the same bytes whose Oklab bits differ */
     DUNKAFETO_EMPTY_TILE = 15,      /* the single fit's tile has no colour */
@@ -162,17 +168,17 @@ static inline const char *dunkafeto_says(uint32_t number) {
     static const char *const words[] = {
         "done",
         "there are no samples",
-        "too few or too many subpalettes, colours, tiles or samples",
+        "too few or too many subpalettes, colours, tiles or samples, or a tile size other than 64 and 256",
         "a lent slice has the wrong length",
         "the weight is not above 0 and at most 16",
-        "the tile table is not consecutive, a tile has more than 64 colours, or the total is wrong",
-        "a count is 0, or a tile's counts sum to more than 64",
+        "the tile table is not consecutive, a tile has more colours than its size (64 or 256), or the total is wrong",
+        "a count is 0, or a tile's counts sum to more than its size (64 or 256)",
         "a colour's component is too large or not finite",
         "a sample names no tile or no colour of it",
         "an entry of the order is too large",
         "the run's record breaks its rules",
         "the call does not belong to this moment of the run",
-        "the sheet's opening or edition is wrong",
+        "the sheet's opening is wrong, or its edition is neither 1 nor 2",
         "the sheet is cut short, has a spare bit set or bytes after it, or is too large",
         "equal reduced colours have different Oklab bits",
         "the tile is empty",
@@ -188,12 +194,13 @@ static inline const char *dunkafeto_says(uint32_t number) {
 /* ---- The arguments that calls share. A slice is a pointer and, right after it, its length: the number of its elements, not bytes.
  *
  *     argument  elements          each is                                                  limits (number)
+ *     size                        pixels of a tile, the first argument of every call       64 or 256 (2)
  *     s, c, t                     subpalettes, colours of each, tiles                      see above (2)
  *     n                           samples                                                  1 to 16,384 (1, 2)
  *     weight                      of chroma against lightness in a squared distance        above 0, at most 16 (4)
- *     tiles     2 * t             per tile its first colour, its number of colours         consecutive from 0; 0 to 64 colours (5)
+ *     tiles     2 * t             per tile its first colour, its number of colours         consecutive from 0; 0 to `size` colours (5)
  *     colours   3 * counts_len    per colour l, a, b                                       finite, magnitude at most 2 (7)
- *     counts    tiles' colours    pixels of the tile that have the colour                  at least 1, a tile's sum at most 64 (6)
+ *     counts    tiles' colours    pixels of the tile that have the colour                  at least 1, a tile's sum at most `size` (6)
  *     samples   2 * n             per sample a tile, a colour by its place in that tile    both exist (8)
  *
  * The memory of a run, lent to every call of it:
@@ -215,7 +222,7 @@ static inline const char *dunkafeto_says(uint32_t number) {
 
 /* Starts a run. Asks of hints only their length, and of order, palette, least and words too.
  * Writes order, palette, least, words and hints. `seed` is any number: the same job and seed give the same run. */
-uint64_t dunkafeto_start(size_t s, size_t c, size_t t, size_t n, float weight, uint64_t seed,
+uint64_t dunkafeto_start(size_t size, size_t s, size_t c, size_t t, size_t n, float weight, uint64_t seed,
                          const uint32_t *tiles, size_t tiles_len, const float *colours, size_t colours_len,
                          const uint32_t *counts, size_t counts_len, const uint32_t *samples, size_t samples_len,
                          uint32_t *order, size_t order_len, uint32_t *hints, size_t hints_len,
@@ -224,7 +231,7 @@ uint64_t dunkafeto_start(size_t s, size_t c, size_t t, size_t n, float weight, u
 
 /* Makes up to `allotment` draws, any number, 0 too; fewer only where a stop or the finish comes first. Only at stages 0, 1, 2, 4 (11).
  * Writes order, hints, palette, least and words. How draws are divided into calls makes no difference to what they leave. */
-uint64_t dunkafeto_advance(size_t s, size_t c, size_t t, size_t n, float weight,
+uint64_t dunkafeto_advance(size_t size, size_t s, size_t c, size_t t, size_t n, float weight,
                            const uint32_t *tiles, size_t tiles_len, const float *colours, size_t colours_len,
                            const uint32_t *counts, size_t counts_len, const uint32_t *samples, size_t samples_len,
                            uint32_t *order, size_t order_len, uint32_t *hints, size_t hints_len,
@@ -233,7 +240,7 @@ uint64_t dunkafeto_advance(size_t s, size_t c, size_t t, size_t n, float weight,
 
 /* Hands in the palette's colours as the console shows them: `reduced` has 3 * s * c components (3), finite and of magnitude at most
  * 2 (17). Only at a stop, stages 3, 5, 6 (11). Writes hints, palette and words. */
-uint64_t dunkafeto_hand_in(size_t s, size_t c, size_t t, size_t n, float weight,
+uint64_t dunkafeto_hand_in(size_t size, size_t s, size_t c, size_t t, size_t n, float weight,
                            const uint32_t *tiles, size_t tiles_len, const float *colours, size_t colours_len,
                            const uint32_t *counts, size_t counts_len, const uint32_t *samples, size_t samples_len,
                            const uint32_t *order, size_t order_len, uint32_t *hints, size_t hints_len,
@@ -241,7 +248,7 @@ uint64_t dunkafeto_hand_in(size_t s, size_t c, size_t t, size_t n, float weight,
                            uint64_t *words, size_t words_len, const float *reduced, size_t reduced_len);
 
 /* Copies the colours of a finished run, stage 7 (11), to `out`: 3 * s * c components (3). Writes nothing else. */
-uint64_t dunkafeto_result(size_t s, size_t c, size_t t, size_t n, float weight,
+uint64_t dunkafeto_result(size_t size, size_t s, size_t c, size_t t, size_t n, float weight,
                           const uint32_t *tiles, size_t tiles_len, const float *colours, size_t colours_len,
                           const uint32_t *counts, size_t counts_len, const uint32_t *samples, size_t samples_len,
                           const uint32_t *order, size_t order_len, const uint32_t *hints, size_t hints_len,
@@ -251,7 +258,7 @@ uint64_t dunkafeto_result(size_t s, size_t c, size_t t, size_t n, float weight,
 /* For each tile the subpalette that fits it best, the lowest of equals, to `out`: t numbers (3); 0 for an empty tile. It belongs to no
  * run: `palette` is any palette of 3 * s * c components (3), finite and of magnitude at most 2 (7). Writes out, and the same into
  * hints (t numbers, 3; any) except for empty tiles. */
-uint64_t dunkafeto_assign(size_t s, size_t c, size_t t, float weight,
+uint64_t dunkafeto_assign(size_t size, size_t s, size_t c, size_t t, float weight,
                           const uint32_t *tiles, size_t tiles_len, const float *colours, size_t colours_len,
                           const uint32_t *counts, size_t counts_len, const float *palette, size_t palette_len,
                           uint32_t *hints, size_t hints_len, uint32_t *out, size_t out_len);

@@ -6,7 +6,7 @@
 #include "console.h"
 
 /* What every call of a run is lent. */
-#define SIZES(r) (r)->sheet->s, (r)->sheet->c, (r)->sheet->t, (r)->n, (r)->sheet->weight
+#define SIZES(r) (r)->sheet->size, (r)->sheet->s, (r)->sheet->c, (r)->sheet->t, (r)->n, (r)->sheet->weight
 #define TABLES(r)                                                                                                                  \
     (r)->sheet->tiles, 2 * (r)->sheet->t, (r)->sheet->colours, 3 * (r)->sheet->colours_of_tiles, (r)->sheet->counts,               \
         (r)->sheet->colours_of_tiles, (r)->samples, 2 * (r)->n

@@ -1,4 +1,5 @@
-/* The fit sheet: fields packed most significant bit first. A fault is found in the order of the fields. */
+/* The fit sheet: fields packed most significant bit first. A fault is found in the order of the fields. The editions differ in their
+ * number, in the pixels of a tile, and in the widths of the fields that count up to these. */
 #include "sheet.h"
 
 #include <string.h>
@@ -6,10 +7,25 @@
 #include "bytes.h"
 
 #define OPENING 0x54464954u
-#define EDITION 1u
+
+typedef struct {
+    uint32_t number;
+    size_t size;             /* pixels of a tile */
+    unsigned colours, count; /* bits of a tile's number of colours, and of a count less 1 */
+} Edition;
+
+static const Edition edition_1 = {1, DUNKAFETO_SMALL_TILE, 7, 6}, edition_2 = {2, DUNKAFETO_LARGE_TILE, 9, 8};
+
+static const Edition *edition_for(size_t size) { return size == edition_2.size ? &edition_2 : &edition_1; }
+
+/* By the four bits behind the opening. What has neither number there is read as edition 1, whose reading says what is wrong. */
+static const Edition *edition_in(const unsigned char *bytes, size_t len) {
+    return len > 4 && bytes[4] >> 4 == edition_2.number ? &edition_2 : &edition_1;
+}
 
 /* Where a reader or a writer of bits stands. A fault stays once there is one. */
 typedef struct {
+    const Edition *edition;
     const unsigned char *from;
     unsigned char *to;
     size_t bits, at;
@@ -59,8 +75,9 @@ static void take_colours(Bits *b, float *to, size_t colours, size_t first) {
 static void take_head(Bits *b, Sheet *sheet) {
     if (take(b, 32) != OPENING)
         refuse(b, DUNKAFETO_SHEET_HEAD);
-    if (take(b, 4) != EDITION)
+    if (take(b, 4) != b->edition->number)
         refuse(b, DUNKAFETO_SHEET_HEAD);
+    sheet->size = b->edition->size;
     sheet->s = take(b, 4) + 1;
     sheet->c = take(b, 4) + 1;
     sheet->t = take(b, 10) + 1;
@@ -70,15 +87,15 @@ static void take_head(Bits *b, Sheet *sheet) {
 }
 
 static void take_tile(Bits *b, Sheet *sheet, size_t tile) {
-    uint32_t colours = take(b, 7), sum = 0;
-    if (colours > DUNKAFETO_TILE_SIZE)
+    uint32_t colours = take(b, b->edition->colours), sum = 0;
+    if (colours > sheet->size)
         refuse(b, DUNKAFETO_TILES);
     sheet->tiles[2 * tile] = (uint32_t)sheet->colours_of_tiles;
     sheet->tiles[2 * tile + 1] = colours;
     for (uint32_t i = 0; i < colours && b->fault == DUNKAFETO_DONE; i++) {
-        uint32_t count = take(b, 6) + 1;
+        uint32_t count = take(b, b->edition->count) + 1;
         sum += count;
-        if (sum > DUNKAFETO_TILE_SIZE)
+        if (sum > sheet->size)
             refuse(b, DUNKAFETO_COUNTS);
         if (b->fault != DUNKAFETO_DONE)
             return; /* so a count was read, and a sheet with that many bits has a place for it in ours */
@@ -96,7 +113,7 @@ static void take_end(Bits *b) {
 }
 
 uint64_t sheet_read(Sheet *sheet, const unsigned char *bytes, size_t len) {
-    Bits b = {bytes, NULL, 8 * len, 0, DUNKAFETO_DONE};
+    Bits b = {edition_in(bytes, len), bytes, NULL, 8 * len, 0, DUNKAFETO_DONE};
     memset(sheet, 0, sizeof *sheet);
     if (len > SHEET_MOST_BYTES)
         return DUNKAFETO_SHEET_BYTES;
@@ -117,18 +134,18 @@ static void give_colours(Bits *b, const float *from, size_t components) {
 
 static void give_tile(Bits *b, const Sheet *sheet, size_t tile) {
     uint32_t first = sheet->tiles[2 * tile], colours = sheet->tiles[2 * tile + 1];
-    give(b, colours, 7);
+    give(b, colours, b->edition->colours);
     for (uint32_t i = first; i < first + colours; i++) {
-        give(b, sheet->counts[i] - 1, 6);
+        give(b, sheet->counts[i] - 1, b->edition->count);
         give_colours(b, sheet->colours + 3 * i, 3);
     }
 }
 
 size_t sheet_write(const Sheet *sheet, unsigned char *bytes) {
-    Bits b = {NULL, bytes, 0, 0, DUNKAFETO_DONE};
+    Bits b = {edition_for(sheet->size), NULL, bytes, 0, 0, DUNKAFETO_DONE};
     memset(bytes, 0, SHEET_MOST_BYTES);
     give(&b, OPENING, 32);
-    give(&b, EDITION, 4);
+    give(&b, b.edition->number, 4);
     give(&b, (uint32_t)sheet->s - 1, 4);
     give(&b, (uint32_t)sheet->c - 1, 4);
     give(&b, (uint32_t)sheet->t - 1, 10);

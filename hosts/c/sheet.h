@@ -1,4 +1,4 @@
-/* The fit sheet: tiles with their colours, and a palette. */
+/* The fit sheet: tiles with their colours, and a palette. Edition 1 is for tiles of 64 pixels, edition 2 for tiles of 256. */
 #ifndef SHEET_H
 #define SHEET_H
 
@@ -8,12 +8,12 @@
 #include "dunkafeto.h"
 
 #define SHEET_MOST_BYTES 65536
-/* A colour of a tile takes 102 bits. */
+/* A colour of a tile takes 102 bits in edition 1, 104 in edition 2. */
 #define SHEET_MOST_TILE_COLOURS (SHEET_MOST_BYTES * 8 / 102)
 #define MOST_CELLS (3 * DUNKAFETO_MOST_SUBPALETTES * DUNKAFETO_MOST_COLOURS)
 
 typedef struct {
-    size_t s, c, t; /* subpalettes, colours of each, tiles */
+    size_t size, s, c, t; /* pixels of a tile, which say the edition; subpalettes, colours of each, tiles */
     float weight;
     size_t colours_of_tiles;
     float palette[MOST_CELLS];                   /* 3 * s * c are in use */
@@ -22,11 +22,12 @@ typedef struct {
     uint32_t counts[SHEET_MOST_TILE_COLOURS];    /* pixels that have the colour */
 } Sheet;
 
-/* Reads a sheet: an answer as the library's, DUNKAFETO_DONE or the number of the first fault with its index, which for
+/* Reads a sheet of either edition: an answer as the library's, DUNKAFETO_DONE or the number of the first fault with its index, which for
  * DUNKAFETO_COMPONENTS counts the palette's colours and then the tiles'. Of a refused sheet there is what stands before the fault. */
 uint64_t sheet_read(Sheet *sheet, const unsigned char *bytes, size_t len);
 
-/* Writes a sheet that was read, with any palette, and gives its length; there is room for SHEET_MOST_BYTES. */
+/* Writes a sheet that was read, with any palette, in the edition of its size, and gives its length; there is room for
+ * SHEET_MOST_BYTES. */
 size_t sheet_write(const Sheet *sheet, unsigned char *bytes);
 
 #endif

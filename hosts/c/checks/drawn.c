@@ -27,20 +27,44 @@ static void add_colour(Sheet *sheet, uint64_t *state, uint32_t count, int steps)
     sheet->colours[3 * i + 2] = between(state, -steps / 4, steps / 4, steps);
 }
 
+/* Colours of a large tile: one, as many as it has pixels, or any number up to 80. */
+static uint32_t colours_of_large(size_t tile, uint64_t *state) {
+    switch (tile % 8) {
+    case 2: return DUNKAFETO_LARGE_TILE;
+    case 6: return 1;
+    default: return 1 + below(state, 80);
+    }
+}
+
+static uint32_t colours_of(const Sheet *sheet, size_t tile, uint64_t *state, uint64_t seed) {
+    if (seed == 0)
+        return 1;
+    if (tile % 5 == 4)
+        return 0;
+    return sheet->size == DUNKAFETO_LARGE_TILE ? colours_of_large(tile, state) : 1 + below(state, 4);
+}
+
+/* Pixels of a colour, so that those of all together are not too many. */
+static uint32_t count_of(const Sheet *sheet, size_t tile, uint32_t colours, uint64_t *state, uint64_t seed) {
+    uint32_t size = (uint32_t)sheet->size;
+    int full = seed == 0 || (size == DUNKAFETO_LARGE_TILE && tile % 8 == 6);
+    return full ? size : 1 + below(state, size / colours);
+}
+
 static void add_tile(Sheet *sheet, size_t tile, uint64_t *state, uint64_t seed) {
-    uint32_t colours = seed == 0 ? 1 : tile % 5 == 4 ? 0 : 1 + below(state, 4);
+    uint32_t colours = colours_of(sheet, tile, state, seed);
     int steps = seed % 2 == 1 ? 64 : 1 << 20;
     sheet->tiles[2 * tile] = (uint32_t)sheet->colours_of_tiles;
     sheet->tiles[2 * tile + 1] = colours;
     for (uint32_t i = 0; i < colours; i++)
-        add_colour(sheet, state, seed == 0 ? DUNKAFETO_TILE_SIZE : 1 + below(state, DUNKAFETO_TILE_SIZE / colours), steps);
+        add_colour(sheet, state, count_of(sheet, tile, colours, state, seed), steps);
 }
 
-void drawn_sheet(Sheet *sheet, size_t s, size_t c, size_t t, uint64_t seed) {
+void drawn_sheet(Sheet *sheet, size_t size, size_t s, size_t c, size_t t, uint64_t seed) {
     static const float weights[4] = {2.15f, 1.0f, 0.125f, 16.0f};
     uint64_t state = seed;
     memset(sheet, 0, sizeof *sheet);
-    sheet->s = s, sheet->c = c, sheet->t = t;
+    sheet->size = size, sheet->s = s, sheet->c = c, sheet->t = t;
     sheet->weight = weights[seed / 2 % 4];
     for (size_t tile = 0; tile < t; tile++)
         add_tile(sheet, tile, &state, seed);

@@ -10,10 +10,10 @@
 enum { S = 2, C = 3, CELLS = S * C, T = 4, COLOURS = 6, NONE = -1 };
 
 /* Tile 0 has two colours, tile 1 none, tile 2 one, tile 3 three. */
-static void fill(Sheet *sheet) {
+static void fill(Sheet *sheet, size_t size) {
     static const uint32_t tiles[2 * T] = {0, 2, 2, 0, 2, 1, 3, 3};
     memset(sheet, 0, sizeof *sheet);
-    sheet->s = S, sheet->c = C, sheet->t = T, sheet->weight = 1.0f, sheet->colours_of_tiles = COLOURS;
+    sheet->size = size, sheet->s = S, sheet->c = C, sheet->t = T, sheet->weight = 1.0f, sheet->colours_of_tiles = COLOURS;
     memcpy(sheet->tiles, tiles, sizeof tiles);
     for (int i = 0; i < COLOURS; i++)
         sheet->counts[i] = 1;
@@ -48,18 +48,18 @@ static const struct {
     {8, 7, "tile 0, colour 1"},
 };
 
-static void refused_sheets(void) {
+static void refused_sheets(const char *name, size_t size) {
     static Sheet sheet, read;
     static unsigned char bytes[SHEET_MOST_BYTES];
     for (size_t i = 0; i < sizeof sheets / sizeof sheets[0]; i++) {
         int bad = sheets[i].bad, too = sheets[i].too, first = too == NONE || bad < too ? bad : too;
         Entry other = {"another number or index"};
-        fill(&sheet);
+        fill(&sheet, size);
         spoil(&sheet, bad);
         spoil(&sheet, too);
         uint64_t answer = sheet_read(&read, bytes, sheet_write(&sheet, bytes));
         int good = dunkafeto_number(answer) == DUNKAFETO_COMPONENTS && dunkafeto_index(answer) == (size_t)first;
-        report("entry of a refused sheet", good ? entry_of(answer, &read, CELLS) : other, sheets[i].words);
+        report(name, good ? entry_of(answer, &read, CELLS) : other, sheets[i].words);
     }
 }
 
@@ -88,7 +88,7 @@ static const struct {
 static void answers_in_words(void) {
     static Sheet sheet;
     char name[80];
-    fill(&sheet);
+    fill(&sheet, DUNKAFETO_SMALL_TILE);
     for (size_t i = 0; i < sizeof answers / sizeof answers[0]; i++) {
         snprintf(name, sizeof name, "entry of %" PRIu32 " at %" PRIu64, answers[i].number, answers[i].value);
         report(name, entry_of(answers[i].value << 8 | answers[i].number, &sheet, answers[i].palette), answers[i].words);
@@ -102,7 +102,7 @@ static int names_an_entry(uint32_t number) {
 static void no_other_number(void) {
     static Sheet sheet;
     Entry found = {""};
-    fill(&sheet);
+    fill(&sheet, DUNKAFETO_SMALL_TILE);
     for (uint32_t number = 0; number < 256 && *found.words == '\0'; number++)
         if (!names_an_entry(number))
             found = entry_of(number, &sheet, 0);
@@ -110,7 +110,8 @@ static void no_other_number(void) {
 }
 
 int main(void) {
-    refused_sheets();
+    refused_sheets("entry of a refused sheet", DUNKAFETO_SMALL_TILE);
+    refused_sheets("entry of a refused sheet of edition 2", DUNKAFETO_LARGE_TILE);
     answers_in_words();
     no_other_number();
     return 0;

@@ -7,22 +7,22 @@
 
 #include "dunkafeto.h"
 
-enum { S = 2, C = 3, T = 3, N = 20, COLOURS = 3, CELLS = 3 * S * C };
+enum { S = 2, C = 3, T = 3, N = 20, COLOURS = 3, ROOM = DUNKAFETO_LARGE_TILE + 2, CELLS = 3 * S * C };
 
 /* What the record says of a job of these sizes. */
 static const uint64_t sizes = UINT64_C(0x0002000300030014);
 
-/* All that is lent, with the lengths that are told. There is room for a tile, a sample and a word more. */
+/* All that is lent, with the lengths that are told. There is room for a tile, a sample and a word more, and for a tile of too many colours. */
 typedef struct {
-    size_t s, c, t, n;
+    size_t size, s, c, t, n;
     float weight;
-    uint32_t tiles[2 * T + 2], counts[COLOURS], samples[2 * N + 2], order[N + 1], hints[T + 1], subpalettes[T];
-    float colours[3 * COLOURS], palette[CELLS], least[CELLS], other[CELLS]; /* other: handed in, or the result */
+    uint32_t tiles[2 * T + 2], counts[ROOM], samples[2 * N + 2], order[N + 1], hints[T + 1], subpalettes[T];
+    float colours[3 * ROOM], palette[CELLS], least[CELLS], other[CELLS]; /* other: handed in, or the result */
     uint64_t words[DUNKAFETO_WORDS + 1];
     size_t tiles_len, colours_len, counts_len, samples_len, order_len, hints_len, palette_len, least_len, words_len, other_len, out_len;
 } Lent;
 
-#define SIZES(m) (m)->s, (m)->c, (m)->t, (m)->n, (m)->weight
+#define SIZES(m) (m)->size, (m)->s, (m)->c, (m)->t, (m)->n, (m)->weight
 #define TABLES(m) (m)->tiles, (m)->tiles_len, (m)->colours, (m)->colours_len, (m)->counts, (m)->counts_len
 #define MEMORY(m)                                                                                                                  \
     (m)->samples, (m)->samples_len, (m)->order, (m)->order_len, (m)->hints, (m)->hints_len, (m)->palette, (m)->palette_len,        \
@@ -34,14 +34,15 @@ static uint64_t advance(Lent *m) { return dunkafeto_advance(SIZES(m), TABLES(m),
 static uint64_t hand_in(Lent *m) { return dunkafeto_hand_in(SIZES(m), TABLES(m), MEMORY(m), m->other, m->other_len); }
 static uint64_t result(Lent *m) { return dunkafeto_result(SIZES(m), TABLES(m), MEMORY(m), m->other, m->other_len); }
 static uint64_t assign(Lent *m) {
-    return dunkafeto_assign(m->s, m->c, m->t, m->weight, TABLES(m), m->palette, m->palette_len, m->hints, m->hints_len, m->subpalettes, m->out_len);
+    return dunkafeto_assign(m->size, m->s, m->c, m->t, m->weight, TABLES(m), m->palette, m->palette_len, m->hints, m->hints_len, m->subpalettes,
+                            m->out_len);
 }
 
 /* Tile 0 has two colours, tile 1 none, tile 2 one. */
 static void fill(Lent *m) {
     static const uint32_t tiles[2 * T] = {0, 2, 2, 0, 2, 1};
     memset(m, 0, sizeof *m);
-    m->s = S, m->c = C, m->t = T, m->n = N, m->weight = 1.0f;
+    m->size = DUNKAFETO_SMALL_TILE, m->s = S, m->c = C, m->t = T, m->n = N, m->weight = 1.0f;
     memcpy(m->tiles, tiles, sizeof tiles);
     for (uint32_t i = 0; i < COLOURS; i++) {
         m->counts[i] = i + 1;
@@ -84,7 +85,9 @@ static void no_weight(Lent *m) { m->weight = 0.0f; }
 static void nan_weight(Lent *m) { m->weight = NAN; }
 static void gap_in_tiles(Lent *m) { m->tiles[4] = 1; }
 static void no_count(Lent *m) { m->counts[1] = 0; }
-static void high_count(Lent *m) { m->counts[1] = 64; }
+static void counts_of_64(Lent *m) { m->counts[1] = 63; }
+static void counts_of_65(Lent *m) { m->counts[1] = 64; }
+static void endless_count(Lent *m) { m->counts[1] = UINT32_MAX; }
 static void large_colour(Lent *m) { m->colours[0] = 2.0000002f; }
 static void nan_colour(Lent *m) { m->colours[8] = NAN; }
 static void two_colours(Lent *m) { m->colours[5] = -3.0f, m->colours[6] = NAN; }
@@ -113,6 +116,40 @@ static void nan_palette(Lent *m) { m->palette[CELLS - 1] = NAN; }
 static void two_of_palette(Lent *m) { m->palette[9] = NAN, m->palette[5] = 2.0000002f; }
 static void palette_and_colour(Lent *m) { m->palette[9] = NAN, m->colours[0] = NAN; }
 static void short_out(Lent *m) { m->out_len--; }
+
+/* Another tile size: of the first ones there is no such. */
+static void size_0(Lent *m) { m->size = 0; }
+static void size_63(Lent *m) { m->size = 63; }
+static void size_65(Lent *m) { m->size = 65; }
+static void size_128(Lent *m) { m->size = 128; }
+static void size_255(Lent *m) { m->size = 255; }
+static void size_257(Lent *m) { m->size = 257; }
+static void size_512(Lent *m) { m->size = 512; }
+static void size_endless(Lent *m) { m->size = SIZE_MAX; }
+static void size_of_32_bits(Lent *m) { m->size = (size_t)1 << 32 | 64; }
+static void size_and_subpalettes(Lent *m) { size_128(m), many_subpalettes(m); }
+static void size_and_length(Lent *m) { size_128(m), short_hints(m); }
+static void size_and_samples(Lent *m) { size_128(m), no_samples(m); }
+static void size_and_weight(Lent *m) { size_128(m), nan_weight(m); }
+static void large(Lent *m) { m->size = DUNKAFETO_LARGE_TILE; }
+static void large_counts_of_65(Lent *m) { large(m), m->counts[1] = 64; }
+static void large_counts_of_256(Lent *m) { large(m), m->counts[1] = 255; }
+static void large_counts_of_257(Lent *m) { large(m), m->counts[1] = 256; }
+static void large_count_of_256(Lent *m) { large(m), m->counts[2] = 256; }
+
+/* Tile 0 with so many colours, each once; the others are as they were. */
+static void tile_of(Lent *m, uint32_t colours) {
+    m->tiles[1] = m->tiles[2] = m->tiles[4] = colours;
+    m->counts_len = colours + 1, m->colours_len = 3 * m->counts_len;
+    for (uint32_t i = 0; i <= colours; i++)
+        m->counts[i] = 1, m->colours[3 * i] = (float)i / 256.0f;
+}
+static void tile_of_64(Lent *m) { tile_of(m, 64); }
+static void tile_of_65(Lent *m) { tile_of(m, 65); }
+static void tile_of_65_and_counts(Lent *m) { tile_of(m, 65), m->counts[0] = 0; }
+static void large_tile_of_65(Lent *m) { large(m), tile_of(m, 65); }
+static void large_tile_of_256(Lent *m) { large(m), tile_of(m, 256); }
+static void large_tile_of_257(Lent *m) { large(m), tile_of(m, 257); }
 
 /* Lends the run to another job, whose lengths fit. Of the last three all else fits too. */
 static void cells_of(Lent *m, size_t s, size_t c) {
@@ -187,12 +224,42 @@ static const Case of_job[] = {
     {"weight NaN", nan_weight, 4, 0},
     {"a gap in the tiles", gap_in_tiles, 5, 0},
     {"a count of 0", no_count, 6, 0},
-    {"counts of 65", high_count, 6, 0},
     {"the first colour above 2", large_colour, 7, 0},
     {"the last colour NaN", nan_colour, 7, COLOURS - 1},
     {"two colours", two_colours, 7, 1},
     {"a sample of an empty tile", sample_of_empty_tile, 8, 0},
     {"a sample of no tile", sample_of_no_tile, 8, 0},
+};
+
+/* The tile size, and what it bounds. */
+static const Case of_tiles[] = {
+    {"tiles of 0", size_0, 2, 0},
+    {"tiles of 63", size_63, 2, 0},
+    {"tiles of 65", size_65, 2, 0},
+    {"tiles of 128", size_128, 2, 0},
+    {"tiles of 255", size_255, 2, 0},
+    {"tiles of 257", size_257, 2, 0},
+    {"tiles of 512", size_512, 2, 0},
+    {"tiles of 2^64 - 1", size_endless, 2, 0},
+    {"tiles of 2^32 + 64", size_of_32_bits, 2, 0},
+    {"tiles of 128 and 17 subpalettes", size_and_subpalettes, 2, 0},
+    {"tiles of 128 and a hint too few", size_and_length, 2, 0},
+    {"tiles of 128 and no samples", size_and_samples, 2, 0},
+    {"tiles of 128 and weight NaN", size_and_weight, 2, 0},
+    {"tiles of 256", large, 0, 0},
+    {"64 colours in a tile of 64", tile_of_64, 0, 0},
+    {"65 colours in a tile of 64", tile_of_65, 5, 0},
+    {"65 colours in a tile of 64 and a count of 0", tile_of_65_and_counts, 5, 0},
+    {"65 colours in a tile of 256", large_tile_of_65, 0, 0},
+    {"256 colours in a tile of 256", large_tile_of_256, 0, 0},
+    {"257 colours in a tile of 256", large_tile_of_257, 5, 0},
+    {"counts of 64 in a tile of 64", counts_of_64, 0, 0},
+    {"counts of 65 in a tile of 64", counts_of_65, 6, 0},
+    {"counts of 65 in a tile of 256", large_counts_of_65, 0, 0},
+    {"counts of 256 in a tile of 256", large_counts_of_256, 0, 0},
+    {"a count of 256 in a tile of 256", large_count_of_256, 0, 0},
+    {"counts of 257 in a tile of 256", large_counts_of_257, 6, 0},
+    {"a count of 2^32 - 1", endless_count, 6, 0},
 };
 
 /* At another stage than 2, where the second palette is not in use. */
@@ -268,10 +335,12 @@ static const Case of_assign[] = {
 static void run_to_stop(Lent *m) {
     uint64_t answer;
     EACH("start", start, m, of_job);
+    EACH("start", start, m, of_tiles);
     memset(m->words, 255, sizeof m->words);
     expect("start, whatever the record says: 0", start, m, DUNKAFETO_DONE);
     report("start writes S, C, T and n into the record", m->words[DUNKAFETO_JOB_SIZES] == sizes);
     EACH("advance", advance, m, of_job);
+    EACH("advance", advance, m, of_tiles);
     EACH("advance", advance, m, of_memory);
     EACH("advance", advance, m, of_sizes);
     EACH("hand_in while drawing", hand_in, m, of_sizes);
@@ -293,26 +362,48 @@ static void run_to_stop(Lent *m) {
         advance(m);
 }
 
+/* Three draws, or at a stop the hand-in of the palette as it is. */
+static void step(Lent *m) {
+    if (dunkafeto_number(advance(m)) != DUNKAFETO_MOMENT)
+        return;
+    memcpy(m->other, m->palette, sizeof m->other);
+    hand_in(m);
+}
+
 /* From the first stop to the finish. */
 static void run_to_finish(Lent *m) {
     memcpy(m->other, m->palette, sizeof m->other);
     expect("advance at a stop: 11", advance, m, DUNKAFETO_MOMENT);
     EACH("hand_in", hand_in, m, of_job);
+    EACH("hand_in", hand_in, m, of_tiles);
     EACH("hand_in", hand_in, m, of_memory);
     EACH("hand_in", hand_in, m, at_a_stop);
     EACH("hand_in", hand_in, m, of_sizes);
     while (m->words[DUNKAFETO_STAGE] != DUNKAFETO_FINISHED)
-        if (dunkafeto_number(advance(m)) == DUNKAFETO_MOMENT) {
-            memcpy(m->other, m->palette, sizeof m->other);
-            hand_in(m);
-        }
+        step(m);
     expect("advance when finished: 11", advance, m, DUNKAFETO_MOMENT);
     expect("hand_in when finished: 11", hand_in, m, DUNKAFETO_MOMENT);
     EACH("result", result, m, of_job);
+    EACH("result", result, m, of_tiles);
     EACH("result", result, m, of_memory);
     EACH("result", result, m, of_sizes);
     report("the record's sizes are as start wrote them", m->words[DUNKAFETO_JOB_SIZES] == sizes);
     report("a whole run makes (S + C + 18) * (n / 10) draws", m->words[DUNKAFETO_MADE] == dunkafeto_all_draws(S, C, N));
+}
+
+/* The record does not hold the tile size: a run that is taken up with the other one, call after call, is the same run. */
+static void either_size(void) {
+    static Lent one, both;
+    int same = 1;
+    fill(&one), fill(&both);
+    start(&one), large(&both), start(&both);
+    for (int turn = 0; turn < 1000 && one.words[DUNKAFETO_STAGE] != DUNKAFETO_FINISHED; turn++) {
+        both.size = turn % 2 == 0 ? DUNKAFETO_SMALL_TILE : DUNKAFETO_LARGE_TILE;
+        step(&one), step(&both);
+        both.size = one.size;
+        same = same && memcmp(&one, &both, sizeof one) == 0;
+    }
+    report("a run taken up with either tile size in turn is the same after every call", same && one.words[DUNKAFETO_STAGE] == DUNKAFETO_FINISHED);
 }
 
 /* A slice of no elements goes with NULL. */
@@ -321,9 +412,9 @@ static void no_elements(void) {
     float palette[3] = {0, 0, 0};
     uint32_t hints[1] = {9}, out[1] = {9};
     uint64_t words[DUNKAFETO_WORDS] = {0};
-    uint64_t a = dunkafeto_assign(1, 1, 1, 1.0f, tiles, 2, NULL, 0, NULL, 0, palette, 3, hints, 1, out, 1);
-    uint64_t b = dunkafeto_start(1, 1, 1, 0, 1.0f, 0, tiles, 2, NULL, 0, NULL, 0, NULL, 0, NULL, 0, hints, 1, palette, 3, palette, 3, words,
-                                 DUNKAFETO_WORDS);
+    uint64_t a = dunkafeto_assign(DUNKAFETO_SMALL_TILE, 1, 1, 1, 1.0f, tiles, 2, NULL, 0, NULL, 0, palette, 3, hints, 1, out, 1);
+    uint64_t b = dunkafeto_start(DUNKAFETO_SMALL_TILE, 1, 1, 1, 0, 1.0f, 0, tiles, 2, NULL, 0, NULL, 0, NULL, 0, NULL, 0, hints, 1, palette, 3,
+                                 palette, 3, words, DUNKAFETO_WORDS);
     report("assign with an empty tile and NULL for no colours: 0", a == DUNKAFETO_DONE && out[0] == 0 && hints[0] == 9);
     report("start with NULL for no samples: 1", b == DUNKAFETO_NO_SAMPLES);
 }
@@ -332,8 +423,10 @@ int main(void) {
     static Lent m;
     fill(&m);
     EACH("assign", assign, &m, of_assign);
+    EACH("assign", assign, &m, of_tiles);
     run_to_stop(&m);
     run_to_finish(&m);
     no_elements();
+    either_size();
     return 0;
 }

@@ -1,8 +1,10 @@
 /* The same bits on every machine: trains the sheets of a list, made from their seeds, and holds them to the checksums that stand there.
  *
- *     sheets replay <LIST     prints how many sheets there are and how many differ; status 0 where none does, 1 where one does,
- *                             2 where a line cannot be read or a sheet is refused
- *     sheets make COUNT       prints a list of so many sheets, of seeds 1 on, with the checksums that this machine comes to
+ *     sheets replay [SIZE] <LIST     prints how many sheets there are and how many differ; status 0 where none does, 1 where one does,
+ *                                    2 where a line cannot be read or a sheet is refused
+ *     sheets make COUNT [SIZE]       prints a list of so many sheets, of seeds 1 on, with the checksums that this machine comes to
+ *
+ * SIZE is the tiles' of all sheets of the list: 256, or 64 where it is not named.
  *
  * A line of a list that does not begin with # is SEED S C T SHEET MEMORY. SHEET is the checksum of the trained sheet, reduced to the
  * console's colours, as the host prints it. MEMORY is that of all that the library wrote: the run's memory after each call, in calls
@@ -21,6 +23,7 @@ enum { GOOD = 0, DIFFERS = 1, USELESS = 2, ALLOTMENT = 100, LINE = 200 };
 
 typedef struct {
     uint64_t seed, s, c, t, sheet, memory;
+    size_t size;
 } Line;
 
 static uint64_t with_u32s(uint64_t before, const uint32_t *values, size_t len) {
@@ -53,7 +56,7 @@ static uint64_t with_memory(uint64_t before, const Run *run) {
 /* The checksum goes on over the subpalettes of the tiles, by the trained palette. */
 static uint64_t with_subpalettes(uint64_t *memory, const Sheet *sheet) {
     static uint32_t hints[DUNKAFETO_MOST_TILES], subpalettes[DUNKAFETO_MOST_TILES];
-    uint64_t answer = dunkafeto_assign(sheet->s, sheet->c, sheet->t, sheet->weight, sheet->tiles, 2 * sheet->t, sheet->colours,
+    uint64_t answer = dunkafeto_assign(sheet->size, sheet->s, sheet->c, sheet->t, sheet->weight, sheet->tiles, 2 * sheet->t, sheet->colours,
                                        3 * sheet->colours_of_tiles, sheet->counts, sheet->colours_of_tiles, sheet->palette,
                                        3 * sheet->s * sheet->c, hints, sheet->t, subpalettes, sheet->t);
     *memory = with_u32s(*memory, subpalettes, sheet->t);
@@ -68,7 +71,7 @@ static uint64_t train(Line *line) {
     static Run run;
     static unsigned char bytes[SHEET_MOST_BYTES];
     uint64_t answer;
-    drawn_sheet(&sheet, line->s, line->c, line->t, line->seed);
+    drawn_sheet(&sheet, line->size, line->s, line->c, line->t, line->seed);
     answer = run_prepare(&run, &sheet);
     if (done(answer))
         answer = run_start(&run, line->seed);
@@ -88,7 +91,8 @@ static uint64_t train(Line *line) {
 
 /* Within the sizes that there is room for. */
 static int is_line(const Line *line, int fields) {
-    return fields == 6 && line->s <= DUNKAFETO_MOST_SUBPALETTES && line->c <= DUNKAFETO_MOST_COLOURS && line->t <= 256;
+    size_t most = line->size == DUNKAFETO_LARGE_TILE ? DRAWN_MOST_LARGE : 256;
+    return fields == 6 && line->s <= DUNKAFETO_MOST_SUBPALETTES && line->c <= DUNKAFETO_MOST_COLOURS && line->t <= most;
 }
 
 static int useless(const char *text, const char *why) {
@@ -96,13 +100,14 @@ static int useless(const char *text, const char *why) {
     return USELESS;
 }
 
-static int replay(void) {
+static int replay(size_t size) {
     char text[LINE];
     long sheets = 0, differ = 0;
     while (fgets(text, sizeof text, stdin) != NULL) {
         Line want, got;
         int end = 0, fields = sscanf(text, "%" SCNu64 " %" SCNu64 " %" SCNu64 " %" SCNu64 " %" SCNx64 " %" SCNx64 " %n", &want.seed, &want.s,
                                      &want.c, &want.t, &want.sheet, &want.memory, &end);
+        want.size = size;
         if (text[0] == '#')
             continue;
         if (!is_line(&want, fields) || text[end] != '\0')
@@ -118,10 +123,10 @@ static int replay(void) {
 }
 
 /* Mostly small; every sixteenth has all subpalettes and colours. */
-static int make(uint64_t count) {
+static int make(uint64_t count, size_t size) {
     for (uint64_t seed = 1; seed <= count; seed++) {
         uint64_t state = ~seed;
-        Line line = {seed, 16, 16, 1 + drawn_next(&state) % 32, 0, 0};
+        Line line = {seed, 16, 16, 1 + drawn_next(&state) % 32, 0, 0, size};
         if (seed % 16 != 0) {
             line.s = 1 + drawn_next(&state) % 8;
             line.c = 1 + drawn_next(&state) % 8;
@@ -134,10 +139,13 @@ static int make(uint64_t count) {
     return GOOD;
 }
 
+/* The word that names it is NULL where there is none. */
+static size_t size_in(const char *word) { return word == NULL ? DUNKAFETO_SMALL_TILE : strtoul(word, NULL, 10); }
+
 int main(int argc, char **argv) {
-    if (argc == 2 && strcmp(argv[1], "replay") == 0)
-        return replay();
-    if (argc == 3 && strcmp(argv[1], "make") == 0)
-        return make(strtoull(argv[2], NULL, 10));
-    return useless("sheets", "replay <LIST, or make COUNT");
+    if ((argc == 2 || argc == 3) && strcmp(argv[1], "replay") == 0)
+        return replay(size_in(argv[2]));
+    if ((argc == 3 || argc == 4) && strcmp(argv[1], "make") == 0)
+        return make(strtoull(argv[2], NULL, 10), size_in(argv[3]));
+    return useless("sheets", "replay [SIZE] <LIST, or make COUNT [SIZE]");
 }

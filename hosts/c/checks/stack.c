@@ -1,4 +1,5 @@
-/* How many bytes of stack the library's calls need for the largest job: S = C = 16, T = 1,024, 16,384 colours and samples.
+/* How many bytes of stack the library's calls need for the largest job of a tile size: stack SIZE. S = C = 16, T = 1,024, 16,384 colours
+ * and samples: of tiles of 64 pixels 16 colours in each, of tiles of 256 as many in the first 64 and none in the others.
  * Each call is made at a known depth of a thread whose stack is painted below it by the thread itself, so that whatever the thread's
  * own beginning and end touch counts for nothing and nothing has to be taken off: the figure is the distance from the frame that calls
  * to the lowest word that is no longer paint, the caller's arguments and return address included. Prints a line a call. */
@@ -12,7 +13,7 @@
 #include "../console.h"
 #include "dunkafeto.h"
 
-enum { S = 16, C = 16, T = 1024, N = 16384, EACH = N / T, CELLS = 3 * S * C };
+enum { S = 16, C = 16, T = 1024, N = 16384, CELLS = 3 * S * C };
 
 /* Words of the stack; words below the caller's own variable that may be its frame's still, and are not painted. */
 enum { STACK = 1 << 17, FRAME = 32, KNOWN = 512 };
@@ -23,8 +24,9 @@ static const uint64_t paint = UINT64_C(0xd1b54a32d192ed03);
 static uint32_t tiles[2 * T], counts[N], samples[2 * N], order[N], hints[T], subpalettes[T];
 static float colours[3 * N], palette[CELLS], least[CELLS], reduced[CELLS], out[CELLS];
 static uint64_t words[DUNKAFETO_WORDS], answer;
+static size_t size;
 
-#define SIZES S, C, T, N, 2.15f
+#define SIZES size, S, C, T, N, 2.15f
 #define TABLES tiles, 2 * T, colours, 3 * N, counts, N, samples, 2 * N
 #define MEMORY order, N, hints, T, palette, CELLS, least, CELLS, words, DUNKAFETO_WORDS
 
@@ -37,17 +39,18 @@ static float next_component(uint64_t *state) {
 }
 
 static void make_job(void) {
+    uint32_t each = size == DUNKAFETO_LARGE_TILE ? DUNKAFETO_LARGE_TILE : N / T;
     uint64_t state = 1;
     for (uint32_t i = 0; i < N; i++) {
         counts[i] = 1;
-        samples[2 * i] = i / EACH;
-        samples[2 * i + 1] = i % EACH;
+        samples[2 * i] = i / each;
+        samples[2 * i + 1] = i % each;
         for (uint32_t k = 0; k < 3; k++)
             colours[3 * i + k] = next_component(&state);
     }
     for (uint32_t i = 0; i < T; i++) {
-        tiles[2 * i] = i * EACH;
-        tiles[2 * i + 1] = EACH;
+        tiles[2 * i] = i < N / each ? i * each : N;
+        tiles[2 * i + 1] = i < N / each ? each : 0;
     }
 }
 
@@ -56,7 +59,7 @@ static void advance(void) { answer = dunkafeto_advance(SIZES, TABLES, MEMORY, UI
 static void hand_in(void) { answer = dunkafeto_hand_in(SIZES, TABLES, MEMORY, reduced, CELLS); }
 static void result(void) { answer = dunkafeto_result(SIZES, TABLES, MEMORY, out, CELLS); }
 static void assign(void) {
-    answer = dunkafeto_assign(S, C, T, 2.15f, tiles, 2 * T, colours, 3 * N, counts, N, out, CELLS, hints, T, subpalettes, T);
+    answer = dunkafeto_assign(size, S, C, T, 2.15f, tiles, 2 * T, colours, 3 * N, counts, N, out, CELLS, hints, T, subpalettes, T);
 }
 
 /* A call of which it is known that it writes so many words of stack, from the lowest on. */
@@ -120,8 +123,11 @@ static size_t measure(const char *name, void (*call)(void)) {
 
 static size_t larger(size_t a, size_t b) { return a > b ? a : b; }
 
-int main(void) {
+int main(int argc, char **argv) {
     size_t most;
+    if (argc != 2)
+        return 2;
+    size = strtoul(argv[1], NULL, 10);
     /* The one function that the library calls is called here first: what the linker needs to find it is not the library's. */
     memset((void *)stack, 0, sizeof stack);
     measure_known();

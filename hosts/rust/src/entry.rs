@@ -23,9 +23,9 @@ pub enum EntryKind {
 /// The first bad colour, by its places, which count from 0.
 ///
 /// ```
-/// use dunkafeto::{Entry, EntryKind, Refusal, Tiles, Trainer};
+/// use dunkafeto::{Entry, EntryKind, Refusal, Tiles, Trainer, SMALL_TILE};
 ///
-/// let mut tiles = Tiles::new();
+/// let mut tiles = Tiles::new(SMALL_TILE);
 /// tiles.push([([0.2, 0.0, 0.0], 32), ([0.9, 0.0, 0.0], 32)]);
 /// tiles.push([([0.6, 0.2, 0.1], 60), ([0.3, f32::NAN, 0.1], 4)]);
 /// let samples = tiles.samples();

@@ -2,6 +2,7 @@
 
 unsafe extern "C" {
     pub fn dunkafeto_start(
+        size: usize,
         s: usize,
         c: usize,
         t: usize,
@@ -28,6 +29,7 @@ unsafe extern "C" {
         words_len: usize,
     ) -> u64;
     pub fn dunkafeto_advance(
+        size: usize,
         s: usize,
         c: usize,
         t: usize,
@@ -54,6 +56,7 @@ unsafe extern "C" {
         allotment: u64,
     ) -> u64;
     pub fn dunkafeto_hand_in(
+        size: usize,
         s: usize,
         c: usize,
         t: usize,
@@ -81,6 +84,7 @@ unsafe extern "C" {
         reduced_len: usize,
     ) -> u64;
     pub fn dunkafeto_result(
+        size: usize,
         s: usize,
         c: usize,
         t: usize,
@@ -108,6 +112,7 @@ unsafe extern "C" {
         out_len: usize,
     ) -> u64;
     pub fn dunkafeto_assign(
+        size: usize,
         s: usize,
         c: usize,
         t: usize,

@@ -26,6 +26,7 @@ macro_rules! with_run {
     ($call:ident, $job:ident, $memory:ident, $pointer:ident / $sometimes:ident, [$($first:expr),*] $(, $own:expr)*) => {{
         let answer = unsafe {
             $call(
+                $job.tile_size,
                 $job.subpalettes,
                 $job.colours_each,
                 $job.tiles.len(),
@@ -80,6 +81,7 @@ pub fn result(job: &Job, memory: &Memory, out: &mut [Colour]) -> Result<u64, Ref
 pub fn assign(job: &Job, palette: &[Colour], hints: &mut [u32], out: &mut [u32]) -> Result<u64, Refusal> {
     let answer = unsafe {
         dunkafeto_assign(
+            job.tile_size,
             job.subpalettes,
             job.colours_each,
             job.tiles.len(),

@@ -1,5 +1,9 @@
 //! What is trained: sizes, weight, tiles with their colours and counts, samples.
 
+/// Pixels of a tile of 8 by 8, as sheets of edition 1 have them.
+pub const SMALL_TILE: usize = 64;
+/// Pixels of a tile of 16 by 16, as sheets of edition 2 have them.
+pub const LARGE_TILE: usize = 256;
 /// Subpalettes of a job, and colours of each, at most.
 pub const MOST_SUBPALETTES: usize = 16;
 /// Colours of a subpalette, at most.
@@ -18,7 +22,7 @@ pub type Colour = [f32; 3];
 pub struct Tile {
     /// The place of its first colour among all colours.
     pub first: u32,
-    /// How many colours it has, 0 to 64.
+    /// How many colours it has, from 0 up to the job's tile size.
     pub colours: u32,
 }
 
@@ -38,6 +42,9 @@ pub struct Sample {
 /// [`Tiles::job`] makes one whose tables go together.
 #[derive(Clone, Copy, Debug)]
 pub struct Job<'a> {
+    /// The pixels of a tile, [`SMALL_TILE`] or [`LARGE_TILE`]: it bounds a tile's colours, and the sum of its counts. A run's
+    /// record does not hold it, so that it is to be kept with the rest of the job.
+    pub tile_size: usize,
     /// S, 1 to 16.
     pub subpalettes: usize,
     /// C, the colours of each subpalette, 1 to 16.
@@ -50,7 +57,7 @@ pub struct Job<'a> {
     /// All tiles' colours, tile by tile, at most 16,384.
     pub colours: &'a [Colour],
     /// How many pixels of the tile have the colour, one number for each of `colours`, each at least 1; a tile's sum is at
-    /// most 64.
+    /// most `tile_size`.
     pub counts: &'a [u32],
     /// The samples, 1 to 16,384. Calls outside a run do not look at them.
     pub samples: &'a [Sample],
@@ -62,9 +69,9 @@ impl Job<'_> {
     /// The draws that a whole run makes: (S + C + 18) times a tenth of n, rounded down.
     ///
     /// ```
-    /// use dunkafeto::Tiles;
+    /// use dunkafeto::{Tiles, SMALL_TILE};
     ///
-    /// let mut tiles = Tiles::new();
+    /// let mut tiles = Tiles::new(SMALL_TILE);
     /// tiles.push([([0.5, 0.0, 0.0], 25)]);
     /// let samples = tiles.samples();
     /// assert_eq!(tiles.job(2, 2, 1.0, &samples, 0).draws(), 44);
@@ -86,29 +93,36 @@ impl Job<'_> {
     }
 }
 
-/// Tiles with their colours and counts, in the three tables that a job lends.
+/// Tiles of one size with their colours and counts, in the three tables that a job lends.
 ///
 /// ```
-/// use dunkafeto::Tiles;
+/// use dunkafeto::{Tiles, SMALL_TILE};
 ///
-/// let mut tiles = Tiles::new();
+/// let mut tiles = Tiles::new(SMALL_TILE);
 /// tiles.push([([0.25, 0.0, 0.0], 4), ([0.75, 0.1, 0.0], 60)]);
 /// tiles.push([]); // an empty tile
 /// tiles.push([([0.5, 0.0, -0.1], 64)]);
 /// assert_eq!(tiles.len(), 3);
 /// assert_eq!(tiles.samples().len(), 128);
 /// ```
-#[derive(Clone, Debug, Default, PartialEq)]
+#[derive(Clone, Debug, PartialEq)]
 pub struct Tiles {
+    size: usize,
     table: Vec<Tile>,
     colours: Vec<Colour>,
     counts: Vec<u32>,
 }
 
 impl Tiles {
-    /// No tiles yet.
-    pub fn new() -> Self {
-        Self::default()
+    /// No tiles yet; those that are added have so many pixels each: [`SMALL_TILE`] or [`LARGE_TILE`]. Any other size is
+    /// refused by each call, with 2.
+    pub fn new(size: usize) -> Self {
+        Tiles { size, table: Vec::new(), colours: Vec::new(), counts: Vec::new() }
+    }
+
+    /// The pixels of a tile.
+    pub fn size(&self) -> usize {
+        self.size
     }
 
     /// Adds a tile: its distinct colours, each with the number of pixels that have it.
@@ -157,7 +171,7 @@ impl Tiles {
         samples: &'a [Sample],
         seed: u64,
     ) -> Job<'a> {
-        let Tiles { table, colours, counts } = self;
-        Job { subpalettes, colours_each, weight, tiles: table, colours, counts, samples, seed }
+        let Tiles { size, table, colours, counts } = self;
+        Job { tile_size: *size, subpalettes, colours_each, weight, tiles: table, colours, counts, samples, seed }
     }
 }

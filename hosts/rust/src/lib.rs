@@ -1,18 +1,19 @@
 //! Safe calls of the palette trainer Dunkafeto.
 //!
-//! A [`Job`] is a picture kept as tiles: the colours of each tile and how often each occurs. A [`Trainer`] trains S
-//! subpalettes of C colours for it, in calls of any size, and stops three times for the host to reduce the colours to
-//! those that its console has. The same job and seed give the same colours on every machine, however the run is divided
-//! into calls, and whether or not it was saved and taken up again. [`assign`] then gives each tile its subpalette.
+//! A [`Job`] is a picture kept as tiles, of 8 by 8 or of 16 by 16 pixels: the colours of each tile and how often each
+//! occurs. A [`Trainer`] trains S subpalettes of C colours for it, in calls of any size, and stops three times for the host
+//! to reduce the colours to those that its console has. The same job and seed give the same colours on every machine,
+//! however the run is divided into calls, and whether or not it was saved and taken up again. [`assign`] then gives each
+//! tile its subpalette.
 //!
 //! Every call checks all that it is given. What it does not accept it refuses with a [`Refusal`], which names the first bad
 //! colour where it is a colour's fault: then it made no draw and wrote nothing. The library behind the calls allocates
 //! nothing and shares nothing between runs.
 //!
 //! ```
-//! use dunkafeto::{assign, console, Tiles, Trainer};
+//! use dunkafeto::{assign, console, Tiles, Trainer, SMALL_TILE};
 //!
-//! let mut tiles = Tiles::new();
+//! let mut tiles = Tiles::new(SMALL_TILE);
 //! tiles.push([([0.2, 0.0, 0.0], 32), ([0.9, 0.0, 0.0], 32)]);
 //! tiles.push([([0.6, 0.2, 0.1], 60), ([0.3, -0.1, 0.1], 4)]);
 //! let samples = tiles.samples();
@@ -48,7 +49,9 @@ mod trainer;
 struct HostsDocument;
 
 pub use entry::{Entry, EntryKind};
-pub use job::{Colour, Job, Sample, Tile, Tiles, MOST_COLOURS, MOST_SAMPLES, MOST_SUBPALETTES, MOST_TILES};
+pub use job::{
+    Colour, Job, Sample, Tile, Tiles, LARGE_TILE, MOST_COLOURS, MOST_SAMPLES, MOST_SUBPALETTES, MOST_TILES, SMALL_TILE,
+};
 pub use memory::Memory;
 pub use refusal::Refusal;
 pub use saved::{saved_by_earlier_release, RestoreError};

@@ -22,16 +22,16 @@ use crate::job::Job;
 pub enum Refusal {
     /// 1: there are no samples.
     NoSamples,
-    /// 2: S or C is not 1 to 16, T is not 1 to 1,024, or n is above 16,384.
+    /// 2: the tile size is neither 64 nor 256, S or C is not 1 to 16, T is not 1 to 1,024, or n is above 16,384.
     Sizes,
     /// 3: a slice is longer or shorter than the sizes ask.
     Lengths,
     /// 4: the weight is not above 0, is above 16, or is NaN.
     Weight,
-    /// 5: tiles leave a gap or overlap, one has more than 64 colours, or all have more than 16,384 or not as many as are
-    /// lent.
+    /// 5: tiles leave a gap or overlap, one has more colours than the tile size, or all have more than 16,384 or not as many
+    /// as are lent.
     Tiles,
-    /// 6: a colour is counted 0 times, or a tile more than 64.
+    /// 6: a colour is counted 0 times, or a tile's counts sum to more than the tile size.
     Counts,
     /// 7: a component of a job's colour is above 2 in magnitude or not finite.
     JobColour {
@@ -50,7 +50,7 @@ pub enum Refusal {
     /// 11: the call does not belong to this moment: advance at a stop or finish, hand-in elsewhere than at a stop, result
     /// before the finish.
     Moment,
-    /// 12: the first four bytes or the edition are not a sheet's.
+    /// 12: the first four bytes are not a sheet's, or the edition is neither 1 nor 2.
     SheetOpening,
     /// 13: a sheet ends too soon, goes on by a bit or a byte, or has more than 65,536 bytes.
     SheetBytes,
@@ -90,17 +90,25 @@ const ANY: Entry = Entry::of_palette(EntryKind::Palette, 0, 1);
 /// Each number with its refusal and message. 18 and 19 are not in use.
 const TABLE: [(u8, Refusal, &str); 18] = [
     (1, Refusal::NoSamples, "there are no samples"),
-    (2, Refusal::Sizes, "too few or too many subpalettes, colours, tiles or samples"),
+    (
+        2,
+        Refusal::Sizes,
+        "too few or too many subpalettes, colours, tiles or samples, or a tile size other than 64 and 256",
+    ),
     (3, Refusal::Lengths, "a lent slice has the wrong length"),
     (4, Refusal::Weight, "the weight is not above 0 and at most 16"),
-    (5, Refusal::Tiles, "the tile table is not consecutive, a tile has more than 64 colours, or the total is wrong"),
-    (6, Refusal::Counts, "a count is 0, or a tile's counts sum to more than 64"),
+    (
+        5,
+        Refusal::Tiles,
+        "the tile table is not consecutive, a tile has more colours than its size (64 or 256), or the total is wrong",
+    ),
+    (6, Refusal::Counts, "a count is 0, or a tile's counts sum to more than its size (64 or 256)"),
     (7, Refusal::JobColour { index: 0, entry: ANY }, "a colour's component is too large or not finite"),
     (8, Refusal::Samples, "a sample names no tile or no colour of it"),
     (9, Refusal::Order, "an entry of the order is too large"),
     (10, Refusal::Record, "the run's record breaks its rules"),
     (11, Refusal::Moment, "the call does not belong to this moment of the run"),
-    (12, Refusal::SheetOpening, "the sheet's opening or edition is wrong"),
+    (12, Refusal::SheetOpening, "the sheet's opening is wrong, or its edition is neither 1 nor 2"),
     (13, Refusal::SheetBytes, "the sheet is cut short, has a spare bit set or bytes after it, or is too large"),
     (14, Refusal::SameColour, "equal reduced colours have different Oklab bits"),
     (15, Refusal::EmptyTile, "the tile is empty"),
@@ -183,11 +191,11 @@ impl std::error::Error for Refusal {}
 #[cfg(test)]
 mod tests {
     use super::*;
-    use crate::job::Tiles;
+    use crate::job::{Tiles, SMALL_TILE};
 
     /// By a call on a job of two subpalettes of three colours, and tiles of two colours, none, and three.
     fn told(number: u8, index: usize, palette: usize) -> Option<Refusal> {
-        let mut tiles = Tiles::new();
+        let mut tiles = Tiles::new(SMALL_TILE);
         [2, 0, 3].iter().for_each(|&colours| tiles.push(vec![([0.0; 3], 1); colours]));
         Refusal::told(number, index, &tiles.job(2, 3, 1.0, &[], 0), palette)
     }

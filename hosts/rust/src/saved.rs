@@ -60,8 +60,8 @@ impl<'a> Trainer<'a> {
     /// The run as bytes, from which [`Trainer::restore`] takes it up with the same job.
     ///
     /// The key is the host's: a number that tells this job and all else that the result depends on from others, such as a
-    /// [`checksum`] of its sheet and seed. The library knows two jobs apart by their sizes only: **two jobs of equal sizes are
-    /// still not told apart** by the record.
+    /// [`checksum`] of its sheet and seed. The library knows two jobs apart by S, C, T and n only: **two jobs of equal sizes
+    /// are still not told apart** by the record, nor are two that differ in their tile size alone.
     pub fn save(&self, key: u64) -> Vec<u8> {
         let Memory { order, hints, palette, least, record } = self.memory();
         let mut bytes = OPENING.to_vec();
@@ -77,9 +77,9 @@ impl<'a> Trainer<'a> {
     /// [`Trainer::resume`].
     ///
     /// ```
-    /// use dunkafeto::{console, Tiles, Trainer};
+    /// use dunkafeto::{console, Tiles, Trainer, SMALL_TILE};
     ///
-    /// let mut tiles = Tiles::new();
+    /// let mut tiles = Tiles::new(SMALL_TILE);
     /// tiles.push([([0.25, 0.0, 0.0], 40), ([0.75, 0.1, 0.0], 24)]);
     /// let samples = tiles.samples();
     /// let job = tiles.job(2, 1, 2.15, &samples, 0);

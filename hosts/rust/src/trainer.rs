@@ -74,9 +74,9 @@ pub struct Advanced {
 /// the memory is allocated once, when the run starts.
 ///
 /// ```
-/// use dunkafeto::{console, Moment, Tiles, Trainer};
+/// use dunkafeto::{console, Moment, Tiles, Trainer, SMALL_TILE};
 ///
-/// let mut tiles = Tiles::new();
+/// let mut tiles = Tiles::new(SMALL_TILE);
 /// tiles.push([([0.25, 0.0, 0.0], 40), ([0.75, 0.1, 0.0], 24)]);
 /// tiles.push([([0.5, 0.0, -0.1], 64)]);
 /// let samples = tiles.samples();
@@ -124,7 +124,8 @@ impl<'a> Trainer<'a> {
     /// job of other sizes, 10 for the record, 16 for working colours, 9 for the order.
     ///
     /// **Two jobs of equal sizes are still not told apart**: S, C, T and n are all that the record knows of its job. Compare
-    /// what else there is to know, such as a [`checksum`](crate::checksum) of the sheet, before.
+    /// what else there is to know, such as a [`checksum`](crate::checksum) of the sheet, before. Not even the tile size is in
+    /// it: with the other one the run goes on wherever the job passes there.
     pub fn resume(job: Job<'a>, memory: Memory) -> Result<Self, Refusal> {
         let trainer = Trainer { job, memory };
         // the moment is the last thing that `result` checks, and it writes nothing here
@@ -159,9 +160,9 @@ impl<'a> Trainer<'a> {
     /// Goes on to the finish, reducing each working colour by itself at each stop, and gives the trained colours.
     ///
     /// ```
-    /// use dunkafeto::{console, Tiles, Trainer};
+    /// use dunkafeto::{console, Tiles, Trainer, SMALL_TILE};
     ///
-    /// let mut tiles = Tiles::new();
+    /// let mut tiles = Tiles::new(SMALL_TILE);
     /// tiles.push([([0.25, 0.0, 0.0], 40), ([0.75, 0.1, 0.0], 24)]);
     /// let samples = tiles.samples();
     /// let colours = Trainer::start(tiles.job(1, 2, 2.15, &samples, 0))?.finish(console::reduced)?;

@@ -8,7 +8,7 @@ use std::process::{Command, Output, Stdio};
 use std::time::Duration;
 
 use common::{saved_earlier, spoiled, Rng};
-use dunkafeto::{checksum, console, RestoreError, Sheet, Stage, Tiles, Trainer};
+use dunkafeto::{checksum, console, RestoreError, Sheet, Stage, Tiles, Trainer, LARGE_TILE, SMALL_TILE};
 
 /// A folder of the test's own, removed at its end.
 struct Room(PathBuf);
@@ -55,12 +55,31 @@ impl Drop for Room {
 
 fn sheet(t: usize, subpalettes: usize, colours_each: usize) -> Sheet {
     let mut rng = Rng(41);
-    let mut tiles = Tiles::new();
+    let mut tiles = Tiles::new(SMALL_TILE);
     for _ in 0..t {
         tiles.push((0..16).map(|_| (rng.colour(), 4)).collect::<Vec<_>>());
     }
     let palette = vec![[0.0; 3]; subpalettes * colours_each];
     Sheet { subpalettes, colours_each, weight: 2.15, palette, tiles }
+}
+
+/// Every second tile has 256 colours, the others one for all pixels.
+fn large_sheet(t: usize, subpalettes: usize, colours_each: usize) -> Sheet {
+    let mut rng = Rng(43);
+    let mut tiles = Tiles::new(LARGE_TILE);
+    for tile in 0..t {
+        let (colours, count) = if tile % 2 == 0 { (256, 1) } else { (1, 256) };
+        tiles.push((0..colours).map(|_| (rng.colour(), count)).collect::<Vec<_>>());
+    }
+    let palette = vec![[0.0; 3]; subpalettes * colours_each];
+    Sheet { subpalettes, colours_each, weight: 2.15, palette, tiles }
+}
+
+/// The same sheet in edition 2.
+fn in_edition_2(sheet: &Sheet) -> Sheet {
+    let mut tiles = Tiles::new(LARGE_TILE);
+    sheet.tiles.iter().for_each(|(colours, counts)| tiles.push(colours.iter().copied().zip(counts.iter().copied())));
+    Sheet { tiles, ..sheet.clone() }
 }
 
 fn trained(mut sheet: Sheet, seed: u64) -> Vec<u8> {
@@ -72,8 +91,16 @@ fn trained(mut sheet: Sheet, seed: u64) -> Vec<u8> {
 
 #[test]
 fn killed_at_any_moment_it_ends_the_same() {
-    let room = Room::new("killed");
-    let sheet = sheet(128, 16, 16);
+    killed("killed", sheet(128, 16, 16));
+}
+
+#[test]
+fn killed_at_any_moment_it_ends_the_same_in_edition_2() {
+    killed("large", large_sheet(20, 16, 16));
+}
+
+fn killed(name: &str, sheet: Sheet) {
+    let room = Room::new(name);
     fs::write(room.file("in"), sheet.write().unwrap()).unwrap();
     let expected = trained(sheet, 5);
     let words = ["in", "-o", "out", "--state", "state", "--every", "300", "--seed", "5"];
@@ -131,7 +158,7 @@ fn statuses() {
     let sheet = sheet(64, 4, 4);
     fs::write(room.file("in"), sheet.write().unwrap()).unwrap();
     fs::write(room.file("cut"), &sheet.write().unwrap()[..99]).unwrap();
-    let mut empty = Tiles::new();
+    let mut empty = Tiles::new(SMALL_TILE);
     empty.push([]);
     fs::write(room.file("empty"), Sheet { tiles: empty, ..sheet }.write().unwrap()).unwrap();
 
@@ -240,6 +267,25 @@ fn the_state_of_another_sheet_is_refused_whatever_its_sizes() {
     for other in [equal, sheet(9, 4, 4), sheet(8, 4, 5)] {
         fs::write(room.file("in"), other.write().unwrap()).unwrap();
         room.refuses_state(&state_of(&ours, |_| {}), "it belongs to another job or another seed; it is left as it is");
+    }
+}
+
+/// One sheet in both editions has the same S, C, T, n, tiles, colours and counts, and is trained to the same colours.
+#[test]
+fn the_state_of_the_other_edition_is_refused() {
+    let room = Room::new("editions");
+    let first = sheet(8, 4, 4);
+    let second = in_edition_2(&first);
+    let (of_first, of_second) = (trained(first.clone(), 0), trained(second.clone(), 0));
+    assert_eq!(Sheet::read(&of_second).unwrap(), in_edition_2(&Sheet::read(&of_first).unwrap()));
+    for (ours, other, expected) in [(&first, &second, of_second), (&second, &first, of_first)] {
+        fs::write(room.file("in"), other.write().unwrap()).unwrap();
+        room.refuses_state(&state_of(ours, |_| {}), "it belongs to another job or another seed; it is left as it is");
+        fs::write(room.file("run"), state_of(other, |_| {})).unwrap();
+        let said = room.run(&["in", "-o", "out", "--state", "run"]);
+        assert!(String::from_utf8_lossy(&said.stderr).starts_with("resumed at draw "));
+        assert!(fs::read(room.file("out")).unwrap() == expected);
+        fs::remove_file(room.file("out")).unwrap();
     }
 }
 

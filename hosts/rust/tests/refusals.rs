@@ -5,13 +5,17 @@ mod common;
 
 use std::fmt::Debug;
 
-use common::{above, reduced, spoiled, to_stop, Case, Rng};
-use dunkafeto::{assign, Colour, Job, Memory, Moment, Refusal, Sample, Sheet, Tile, Tiles, Trainer};
+use common::{above, reduced, spoiled, to_stop, Case, Rng, SIZES};
+use dunkafeto::{
+    assign, Colour, Job, Memory, Moment, Refusal, Sample, Sheet, Tile, Tiles, Trainer, LARGE_TILE, SMALL_TILE,
+};
 
 const GREY: [f32; 3] = [0.5, 0.0, 0.0];
+/// No tile has so many pixels.
+const WRONG_SIZES: [usize; 9] = [0, 63, 65, 128, 255, 257, 512, 1 << 32 | 64, usize::MAX];
 
-fn tiles(each: &[&[u32]]) -> Tiles {
-    let mut tiles = Tiles::new();
+fn tiles(size: usize, each: &[&[u32]]) -> Tiles {
+    let mut tiles = Tiles::new(size);
     each.iter().for_each(|counts| tiles.push(counts.iter().map(|&count| (GREY, count))));
     tiles
 }
@@ -31,6 +35,7 @@ fn started(job: Job) -> Result<(), Refusal> {
 /// A job that is accepted, changed by `change`.
 fn start_of<'a>(change: impl FnOnce(&mut Job<'a>)) -> Result<(), Refusal> {
     let mut job = Job {
+        tile_size: SMALL_TILE,
         subpalettes: 2,
         colours_each: 2,
         weight: 1.0,
@@ -62,11 +67,11 @@ fn number_2_sizes() {
     }
     assert_eq!(start_of(|job| job.tiles = &[]), Err(Refusal::Sizes));
     let full: Vec<&[u32]> = vec![&[16]; 1_024];
-    let most = tiles(&full);
+    let most = tiles(SMALL_TILE, &full);
     let samples = most.samples();
     assert_eq!(samples.len(), 16_384);
     assert_eq!(started(most.job(1, 1, 1.0, &samples, 0)), Ok(()));
-    let more = tiles(&[&full[..], &[&[]]].concat());
+    let more = tiles(SMALL_TILE, &[&full[..], &[&[]]].concat());
     assert_eq!(started(more.job(1, 1, 1.0, &samples, 0)), Err(Refusal::Sizes));
     assert_eq!(assign(&more.job(1, 1, 1.0, &[], 0), &[GREY], &mut [0; 1_025]), Err(Refusal::Sizes));
     let samples = [&samples[..], &samples[..1]].concat();
@@ -74,10 +79,25 @@ fn number_2_sizes() {
 }
 
 #[test]
+fn number_2_tile_sizes() {
+    for wrong in WRONG_SIZES {
+        assert_eq!(start_of(|job| job.tile_size = wrong), Err(Refusal::Sizes), "{wrong}");
+        let others = |job: &mut Job| (job.tile_size, job.weight, job.samples, job.counts) = (wrong, 0.0, &[], &[]);
+        assert_eq!(start_of(others), Err(Refusal::Sizes), "{wrong}, and 1, 3 and 4");
+        let (tiles, mut hints) = (tiles(wrong, &[&[1]]), [9]);
+        assert_eq!(assign(&tiles.job(1, 1, 1.0, &[], 0), &[GREY], &mut hints), Err(Refusal::Sizes), "{wrong}");
+        assert_eq!(hints, [9]);
+        let changed = |case: &mut Case, _: &mut Memory| case.tiles = spoiled_tiles(wrong, &[]);
+        assert_eq!(resumed_on(changed), Err(Refusal::Sizes), "{wrong}");
+    }
+    assert_eq!(start_of(|job| job.tile_size = LARGE_TILE), Ok(()));
+}
+
+#[test]
 fn number_3_lengths() {
     assert_eq!(start_of(|job| job.counts = &[64]), Err(Refusal::Lengths));
     assert_eq!(start_of(|job| job.colours = &job.colours[1..]), Err(Refusal::Lengths));
-    let case = Case::any(&mut Rng(3));
+    let case = Case::of(&mut Rng(3), SMALL_TILE);
     assert_eq!(Trainer::start_from(case.job(), vec![0; case.tiles.len() + 1]).err(), Some(Refusal::Lengths));
     let palette = vec![GREY; case.job().palette_len()];
     let mut hints = vec![0; case.tiles.len()];
@@ -105,9 +125,26 @@ fn number_5_tiles() {
         let table = [tile];
         assert_eq!(start_of(|job| job.tiles = &table), Err(Refusal::Tiles), "{tile:?}");
     }
-    let samples = [Sample::default()];
-    assert_eq!(started(tiles(&[&[1; 64]]).job(1, 1, 1.0, &samples, 0)), Ok(()));
-    assert_eq!(started(tiles(&[&[1; 65]]).job(1, 1, 1.0, &samples, 0)), Err(Refusal::Tiles));
+    assert_eq!(all_calls(&tiles(SMALL_TILE, &[&[1; 64]])), Ok(()));
+    assert_eq!(all_calls(&tiles(SMALL_TILE, &[&[1; 65]])), Err(Refusal::Tiles));
+    assert_eq!(all_calls(&tiles(LARGE_TILE, &[&[1; 65]])), Ok(()));
+    assert_eq!(all_calls(&tiles(LARGE_TILE, &[&[1; 256]])), Ok(()));
+    assert_eq!(all_calls(&tiles(LARGE_TILE, &[&[1; 257]])), Err(Refusal::Tiles));
+}
+
+/// What all calls on a job of these tiles say, which is the same: start, the resuming of what another job left, and assign.
+fn all_calls(tiles: &Tiles) -> Result<(), Refusal> {
+    let samples = [Sample::default(); 20];
+    let job = tiles.job(1, 1, 1.0, &samples, 0);
+    let other = self::tiles(SMALL_TILE, &[&[1]]);
+    let mut hints = [9];
+    let mut left = Trainer::start(other.job(1, 1, 1.0, &samples, 0)).unwrap();
+    left.advance(3).unwrap();
+    let said = started(job);
+    assert_eq!(Trainer::resume(job, left.into_memory()).map(drop), said);
+    assert_eq!(assign(&job, &[GREY], &mut hints).map(drop), said);
+    assert_eq!(hints, [if said.is_ok() { 0 } else { 9 }]);
+    said
 }
 
 #[test]
@@ -115,6 +152,12 @@ fn number_6_counts() {
     assert_eq!(start_of(|job| job.counts = &[0, 64]), Err(Refusal::Counts));
     assert_eq!(start_of(|job| job.counts = &[11, 54]), Err(Refusal::Counts));
     assert_eq!(start_of(|job| job.counts = &[u32::MAX, 2]), Err(Refusal::Counts));
+    assert_eq!(all_calls(&tiles(SMALL_TILE, &[&[64]])), Ok(()));
+    assert_eq!(all_calls(&tiles(SMALL_TILE, &[&[1, 64]])), Err(Refusal::Counts));
+    assert_eq!(all_calls(&tiles(LARGE_TILE, &[&[1, 64]])), Ok(()));
+    assert_eq!(all_calls(&tiles(LARGE_TILE, &[&[256]])), Ok(()));
+    assert_eq!(all_calls(&tiles(LARGE_TILE, &[&[257]])), Err(Refusal::Counts));
+    assert_eq!(all_calls(&tiles(LARGE_TILE, &[&[100, 157]])), Err(Refusal::Counts));
 }
 
 #[test]
@@ -122,21 +165,27 @@ fn number_7_at_its_edge() {
     for wrong in [above(2.0), -3.0, f32::INFINITY, f32::NAN] {
         let colours = [GREY, [0.5, wrong, 0.0]];
         names(start_of(|job| job.colours = &colours), 7, 1, "tile 0, colour 1");
-        let (tiles, palette) = (tiles(&[&[1]]), &colours[1..]);
+        let (tiles, palette) = (tiles(SMALL_TILE, &[&[1]]), &colours[1..]);
         let assigned = assign(&tiles.job(1, 1, 1.0, &[], 0), palette, &mut [0]);
         names(assigned, 7, 0, "palette colour 0 (subpalette 0, colour 0)");
     }
     assert_eq!(start_of(|job| job.colours = &[[2.0, -2.0, 2.0], GREY]), Ok(()));
 }
 
-/// Two subpalettes of three colours; tiles of two colours, none, one and three, of which some are spoiled.
-fn spoiled_case(bad: &[usize]) -> Case {
+/// Tiles of two colours, none, one and three, of which some are spoiled.
+fn spoiled_tiles(size: usize, bad: &[usize]) -> Tiles {
     let mut colours = vec![GREY; 6];
     spoil(&mut colours, bad);
-    let mut tiles = Tiles::new();
+    let mut tiles = Tiles::new(size);
     for places in [0..2, 2..2, 2..3, 3..6] {
         tiles.push(colours[places].iter().map(|&colour| (colour, 20)));
     }
+    tiles
+}
+
+/// Such tiles, for two subpalettes of three colours.
+fn spoiled_case(bad: &[usize]) -> Case {
+    let tiles = spoiled_tiles(SMALL_TILE, bad);
     let samples = tiles.samples();
     Case { subpalettes: 2, colours_each: 3, weight: 1.0, tiles, samples, seed: 3 }
 }
@@ -183,13 +232,13 @@ fn number_7_names_the_first_colour_of_palette_and_tiles() {
         assert_eq!(hints, [9; 4]);
         names(Sheet { subpalettes, colours_each, weight, palette, tiles }.write(), 7, index, words);
         let all: Vec<usize> = bad.iter().copied().chain(bad_tiles.iter().map(|at| 6 + at)).collect();
-        names(Sheet::read(&spoiled(&good_sheet(), &all)), 7, index, words);
+        SIZES.map(|size| names(Sheet::read(&spoiled(&good_sheet(size), &all)), 7, index, words));
     }
 }
 
-fn good_sheet() -> Sheet {
-    let Case { subpalettes, colours_each, weight, tiles, .. } = spoiled_case(&[]);
-    Sheet { subpalettes, colours_each, weight, palette: vec![GREY; 6], tiles }
+fn good_sheet(size: usize) -> Sheet {
+    let palette = vec![GREY; 6];
+    Sheet { subpalettes: 2, colours_each: 3, weight: 1.0, palette, tiles: spoiled_tiles(size, &[]) }
 }
 
 #[test]
@@ -228,7 +277,7 @@ fn number_8_samples() {
 
 /// What resuming says of the memory of a run in the middle of stage 2, changed by `change`.
 fn resumed(change: impl FnOnce(&mut Memory)) -> Result<(), Refusal> {
-    let mut case = Case::any(&mut Rng(9));
+    let mut case = Case::of(&mut Rng(9), SMALL_TILE);
     case.samples = vec![case.samples[0]; 40];
     let job = case.job();
     let mut trainer = Trainer::start(job).unwrap();
@@ -356,12 +405,14 @@ fn number_20_a_job_of_other_sizes() {
 #[test]
 fn a_job_of_equal_sizes_is_taken_for_the_same() {
     let equal = |case: &mut Case, _: &mut Memory| {
-        let mut tiles = Tiles::new();
+        let mut tiles = Tiles::new(SMALL_TILE);
         [3, 2, 0, 1].iter().for_each(|&colours| tiles.push(vec![([0.25, 0.5, -0.5], 7); colours]));
         let samples = [&tiles.samples()[..], &tiles.samples(), &tiles.samples()].concat()[..120].to_vec();
         *case = Case { tiles, samples, weight: 2.0, seed: 4, ..spoiled_case(&[]) };
     };
     assert_eq!(resumed_on(equal), Ok(()));
+    let other_size = |case: &mut Case, _: &mut Memory| case.tiles = spoiled_tiles(LARGE_TILE, &[]);
+    assert_eq!(resumed_on(other_size), Ok(()), "nor does it know the tile size");
 }
 
 #[test]
@@ -399,7 +450,7 @@ fn number_10_every_rule_of_the_record() {
 
 #[test]
 fn number_11_the_moment() {
-    let mut case = Case::any(&mut Rng(11));
+    let mut case = Case::of(&mut Rng(11), SMALL_TILE);
     case.samples = vec![case.samples[0]; 30];
     let mut trainer = Trainer::start(case.job()).unwrap();
     let colours = reduced(&trainer);
@@ -421,7 +472,11 @@ fn number_11_the_moment() {
 
 #[test]
 fn numbers_12_and_13_sheets() {
-    let tiles = tiles(&[&[4]]);
+    SIZES.map(sheet_ends);
+}
+
+fn sheet_ends(size: usize) {
+    let tiles = tiles(size, &[&[4]]);
     let sheet = Sheet { subpalettes: 1, colours_each: 1, weight: 1.0, palette: vec![GREY], tiles };
     let bytes = sheet.write().unwrap();
     let read = |change: &dyn Fn(&mut Vec<u8>)| {
@@ -430,10 +485,34 @@ fn numbers_12_and_13_sheets() {
         Sheet::read(&bytes).map(drop)
     };
     assert_eq!(read(&|bytes| bytes[0] ^= 1), Err(Refusal::SheetOpening));
-    assert_eq!(read(&|bytes| bytes[4] ^= 0x10), Err(Refusal::SheetOpening));
+    for edition in (0..16).filter(|edition| !matches!(edition, 1 | 2)) {
+        assert_eq!(read(&|bytes| bytes[4] = edition << 4 | bytes[4] & 15), Err(Refusal::SheetOpening), "{edition}");
+    }
     assert_eq!(read(&|bytes| bytes.truncate(bytes.len() - 1)), Err(Refusal::SheetBytes));
     assert_eq!(read(&|bytes| bytes.push(0)), Err(Refusal::SheetBytes));
     assert_eq!(read(&|bytes| *bytes.last_mut().unwrap() |= 1), Err(Refusal::SheetBytes));
     assert_eq!(read(&|bytes| bytes.resize(65_537, 0)), Err(Refusal::SheetBytes));
-    assert_eq!(read(&|bytes| bytes.truncate(3)), Err(Refusal::SheetBytes));
+    (0..10).for_each(|len| assert_eq!(read(&|bytes| bytes.truncate(len)), Err(Refusal::SheetBytes), "cut to {len}"));
+}
+
+/// The first tile's number of colours stands behind 86 + 96 bits, and its first count behind that.
+#[test]
+fn numbers_5_and_6_sheets() {
+    let read = |size: usize, colours: usize, ones: std::ops::Range<usize>| {
+        let tiles = tiles(size, &[&vec![1; colours]]);
+        let sheet = Sheet { subpalettes: 1, colours_each: 1, weight: 1.0, palette: vec![GREY], tiles };
+        let mut bytes = sheet.write().unwrap();
+        ones.for_each(|bit| bytes[bit / 8] |= 0x80 >> (bit % 8));
+        Sheet::read(&bytes).map(drop)
+    };
+    assert_eq!((read(SMALL_TILE, 64, 0..0), read(LARGE_TILE, 256, 0..0)), (Ok(()), Ok(())));
+    assert_eq!(
+        (read(SMALL_TILE, 64, 188..189), read(LARGE_TILE, 256, 190..191)),
+        (Err(Refusal::Tiles), Err(Refusal::Tiles))
+    );
+    assert_eq!(
+        (read(SMALL_TILE, 2, 189..195), read(LARGE_TILE, 2, 191..199)),
+        (Err(Refusal::Counts), Err(Refusal::Counts))
+    );
+    assert_eq!((read(SMALL_TILE, 1, 189..195), read(LARGE_TILE, 1, 191..199)), (Ok(()), Ok(())));
 }

@@ -2,9 +2,10 @@
 
 mod common;
 
-use common::{largest, reduced, saved_earlier, Case, Rng};
+use common::{largest, reduced, saved_earlier, Case, Rng, SIZES};
 use dunkafeto::{
     assign, console, saved_by_earlier_release, Colour, Job, Moment, Refusal, RestoreError, Stage, Tiles, Trainer,
+    LARGE_TILE, SMALL_TILE,
 };
 
 /// Every state that a run shows at its stops and its finish, when each step is followed by `between`.
@@ -66,7 +67,7 @@ fn saved_and_restored_after_every_call() {
 
 #[test]
 fn a_saved_run_that_was_touched_is_not_restored() {
-    let case = Case::any(&mut Rng(5));
+    let case = Case::of(&mut Rng(5), SMALL_TILE);
     let mut trainer = Trainer::start(case.job()).unwrap();
     trainer.advance(3).unwrap();
     let bytes = trainer.save(1);
@@ -88,14 +89,14 @@ fn a_saved_run_that_was_touched_is_not_restored() {
         };
         assert_eq!(restored(&touched, 1), Some(expected), "bit {bit}");
     }
-    let mut other = Case::any(&mut Rng(6));
+    let mut other = Case::of(&mut Rng(6), SMALL_TILE);
     other.samples.pop();
     assert!(Trainer::restore(other.job(), 1, &bytes).is_err());
 }
 
 #[test]
 fn a_run_is_not_restored_on_a_job_of_other_sizes() {
-    let mut case = Case::any(&mut Rng(5));
+    let mut case = Case::of(&mut Rng(5), SMALL_TILE);
     (case.subpalettes, case.colours_each) = (2, 3);
     let mut trainer = Trainer::start(case.job()).unwrap();
     trainer.advance(3).unwrap();
@@ -117,7 +118,7 @@ fn a_run_is_not_restored_on_a_job_of_other_sizes() {
 
 #[test]
 fn what_an_earlier_release_saved_is_refused_as_such() {
-    let case = Case::any(&mut Rng(5));
+    let case = Case::of(&mut Rng(5), SMALL_TILE);
     let saved = Trainer::start(case.job()).unwrap().save(1);
     let earlier = saved_earlier(&saved);
     assert_eq!(earlier.len() + 8, saved.len());
@@ -134,7 +135,7 @@ fn what_an_earlier_release_saved_is_refused_as_such() {
 #[test]
 fn the_examples_numbers_of_draws() {
     for (s, c, n, draws) in [(1, 1, 10, 20), (2, 2, 25, 44), (16, 16, 9, 0), (3, 4, 19, 25)] {
-        let mut tiles = Tiles::new();
+        let mut tiles = Tiles::new(SMALL_TILE);
         tiles.push([([0.25, 0.0, 0.0], 2), ([0.75, 0.5, 0.0], n - 2)]);
         let samples = tiles.samples();
         let mut trainer = Trainer::start(tiles.job(s, c, 2.15, &samples, 0)).unwrap();
@@ -146,7 +147,7 @@ fn the_examples_numbers_of_draws() {
 
 #[test]
 fn below_ten_samples_a_run_begins_at_its_first_stop() {
-    let mut tiles = Tiles::new();
+    let mut tiles = Tiles::new(SMALL_TILE);
     tiles.push([([0.25, 0.0, 0.0], 9)]);
     let samples = tiles.samples();
     let trainer = Trainer::start(tiles.job(2, 3, 1.0, &samples, 0)).unwrap();
@@ -210,7 +211,7 @@ fn assign_gives_the_first_of_least_distance() {
 #[test]
 fn runs_on_threads_share_nothing() {
     fn sent<T: Send + Sync>(_: &T) {}
-    let case = Case::any(&mut Rng(8));
+    let case = Case::of(&mut Rng(8), LARGE_TILE);
     let alone = Trainer::start(case.job()).unwrap().finish(console::reduced).unwrap();
     std::thread::scope(|scope| {
         for _ in 0..4 {
@@ -226,11 +227,31 @@ fn runs_on_threads_share_nothing() {
     });
 }
 
-/// The whole of the largest job, on a thread whose stack is small.
+/// The record does not hold the tile size: with the other one a run goes on, and is the same run.
 #[test]
-fn the_largest_job() {
+fn either_tile_size_in_turn_is_one_run() {
+    let mut rng = Rng(7);
+    for _ in 0..10 {
+        let case = Case::of(&mut rng, SMALL_TILE);
+        let whole = states(Trainer::start(case.job()).unwrap(), || u64::MAX, |same| same);
+        let other = |trainer: Trainer<'_>| {
+            let tile_size = SMALL_TILE + LARGE_TILE - trainer.job().tile_size;
+            Trainer::resume(Job { tile_size, ..case.job() }, trainer.into_memory()).unwrap()
+        };
+        let parts = states(Trainer::start(case.job()).unwrap(), || 7, other);
+        assert!(whole == parts);
+    }
+}
+
+#[test]
+fn the_largest_jobs() {
+    SIZES.map(whole_largest);
+}
+
+/// On a thread whose stack is small.
+fn whole_largest(size: usize) {
     const STACK: usize = 64 * 1024;
-    let case = largest();
+    let case = largest(size);
     let run = || {
         let mut trainer = Trainer::start(case.job()).unwrap();
         let mut calls = 0;

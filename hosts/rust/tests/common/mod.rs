@@ -1,7 +1,13 @@
 //! Jobs from a seed, for the tests.
 #![allow(dead_code)] // each test program uses some of it
 
-use dunkafeto::{checksum, console, Colour, Job, Moment, Sample, Sheet, Tiles, Trainer};
+use dunkafeto::{
+    checksum, console, Colour, Job, Moment, Sample, Sheet, Tiles, Trainer, LARGE_TILE, MOST_SAMPLES, MOST_TILES,
+    SMALL_TILE,
+};
+
+/// The tile sizes that there are.
+pub const SIZES: [usize; 2] = [SMALL_TILE, LARGE_TILE];
 
 /// SplitMix64.
 pub struct Rng(pub u64);
@@ -45,13 +51,25 @@ pub struct Case {
 }
 
 impl Case {
+    /// Of tiles of either size.
     pub fn any(rng: &mut Rng) -> Self {
-        let mut tiles = Tiles::new();
+        let size = SIZES[rng.below(2)];
+        Case::of(rng, size)
+    }
+
+    pub fn of(rng: &mut Rng, size: usize) -> Self {
+        let mut tiles = Tiles::new(size);
         let t = rng.among(1, 12);
+        // so many colours, each so often: 8 times 8 are 64, 16 times 16 are 256
+        let most = if size == LARGE_TILE { 16 } else { 8 };
         for i in 0..t {
             // the last is never empty, so that there is a sample
-            let colours = if i + 1 < t { rng.below(9) } else { rng.among(1, 8) };
-            tiles.push((0..colours).map(|_| (rng.colour(), rng.among(1, 8) as u32)).collect::<Vec<_>>());
+            let colours = if i + 1 < t { rng.below(most + 1) } else { rng.among(1, most) };
+            tiles.push((0..colours).map(|_| (rng.colour(), rng.among(1, most) as u32)).collect::<Vec<_>>());
+        }
+        if size == LARGE_TILE {
+            tiles.push((0..size).map(|_| (rng.colour(), 1)).collect::<Vec<_>>());
+            tiles.push([(rng.colour(), size as u32)]);
         }
         let samples = tiles.samples();
         let (subpalettes, colours_each) = (rng.among(1, 5), rng.among(1, 5));
@@ -64,12 +82,15 @@ impl Case {
     }
 }
 
-/// S = C = 16, 1,024 tiles of 16 colours each with a count of 1, 16,384 samples.
-pub fn largest() -> Case {
+/// S = C = 16, 1,024 tiles, 16,384 colours, each with a count of 1, and samples: 16 in each tile, or of large tiles 256 in the
+/// first ones and none in the others.
+pub fn largest(size: usize) -> Case {
     let mut rng = Rng(16);
-    let mut tiles = Tiles::new();
-    for _ in 0..1_024 {
-        tiles.push((0..16).map(|_| (rng.colour(), 1)).collect::<Vec<_>>());
+    let mut tiles = Tiles::new(size);
+    let each = if size == LARGE_TILE { LARGE_TILE } else { 16 };
+    for tile in 0..MOST_TILES {
+        let colours = if tile < MOST_SAMPLES / each { each } else { 0 };
+        tiles.push((0..colours).map(|_| (rng.colour(), 1)).collect::<Vec<_>>());
     }
     let samples = tiles.samples();
     Case { subpalettes: 16, colours_each: 16, weight: 2.15, tiles, samples, seed: 1 }
@@ -81,10 +102,11 @@ pub fn spoiled(sheet: &Sheet, bad: &[usize]) -> Vec<u8> {
     let colours = sheet.palette.len();
     let mut ends: Vec<usize> = (1..=colours).map(|colour| 86 + 96 * colour).collect();
     let mut at = 86 + 96 * colours;
+    let (number, colour) = if sheet.tiles.size() == LARGE_TILE { (9, 104) } else { (7, 102) };
     for (tile, _) in sheet.tiles.iter() {
-        at += 7;
-        ends.extend((1..=tile.len()).map(|colour| at + 102 * colour));
-        at += 102 * tile.len();
+        at += number;
+        ends.extend((1..=tile.len()).map(|place| at + colour * place));
+        at += colour * tile.len();
     }
     for bit in bad.iter().flat_map(|&index| ends[index] - 32..ends[index]) {
         bytes[bit / 8] |= 0x80 >> (bit % 8);
