@@ -1,6 +1,6 @@
 /* The state file: 8 bytes of opening, the key, the memory lent (order, hints, palette, least, words), the checksum of all before it.
  * Numbers stand least significant byte first. The key fixes the sheet, and the sheet every length.
- * The opening has the version: the release before this one wrote the same with a record of six words. */
+ * The opening has the version: an earlier release wrote the same with a record of six words. */
 #include "state.h"
 
 #include <errno.h>

@@ -9,7 +9,7 @@ typedef enum {
     STATE_ABSENT,     /* there is no such file */
     STATE_UNREADABLE, /* errno says why */
     STATE_STRANGE,    /* it is no state file */
-    STATE_EARLIER,    /* it is of the release before this one, whose record has six words */
+    STATE_EARLIER,    /* it is of an earlier release, whose record has six words */
     STATE_FOREIGN,    /* it belongs to another sheet or another seed */
     STATE_LENGTH,     /* it is cut short or goes on past its end */
     STATE_DAMAGED     /* its checksum is wrong */

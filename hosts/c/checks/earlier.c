@@ -1,5 +1,5 @@
-/* Turns a state file into what the release before this one saved of the same run: earlier FILE. It had another digit in its opening and
- * a record without the word of the sizes, which is the last thing before the checksum. */
+/* Turns a state file into what an earlier release saved of the same run: earlier FILE. It had another digit in its opening and a record of
+ * six words, without that of the sizes, which is the last thing before the checksum. */
 #include "../bytes.h"
 #include "../file.h"
 

@@ -12,7 +12,7 @@ use crate::refusal::Refusal;
 use crate::trainer::Trainer;
 
 const OPENING: &[u8; 8] = b"DNKRUN2\n";
-/// Of the release before this one, which saved the same with a record of six words.
+/// Of earlier releases, which saved the same with a record of six words.
 const EARLIER_OPENING: &[u8; 8] = b"DNKRUN1\n";
 
 /// Why a run could not be taken up from bytes.

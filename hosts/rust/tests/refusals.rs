@@ -232,7 +232,7 @@ fn number_7_names_the_first_colour_of_palette_and_tiles() {
         assert_eq!(hints, [9; 4]);
         names(Sheet { subpalettes, colours_each, weight, palette, tiles }.write(), 7, index, words);
         let all: Vec<usize> = bad.iter().copied().chain(bad_tiles.iter().map(|at| 6 + at)).collect();
-        SIZES.map(|size| names(Sheet::read(&spoiled(&good_sheet(size), &all)), 7, index, words));
+        SIZES.into_iter().for_each(|size| names(Sheet::read(&spoiled(&good_sheet(size), &all)), 7, index, words));
     }
 }
 
@@ -472,7 +472,7 @@ fn number_11_the_moment() {
 
 #[test]
 fn numbers_12_and_13_sheets() {
-    SIZES.map(sheet_ends);
+    SIZES.into_iter().for_each(sheet_ends);
 }
 
 fn sheet_ends(size: usize) {

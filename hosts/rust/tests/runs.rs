@@ -245,7 +245,7 @@ fn either_tile_size_in_turn_is_one_run() {
 
 #[test]
 fn the_largest_jobs() {
-    SIZES.map(whole_largest);
+    SIZES.into_iter().for_each(whole_largest);
 }
 
 /// On a thread whose stack is small.

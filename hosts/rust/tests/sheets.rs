@@ -50,7 +50,7 @@ fn the_fields_of_edition_2() {
 
 #[test]
 fn what_is_read_is_written_back() {
-    SIZES.map(|size| read_and_written(&example(size).write().unwrap()));
+    SIZES.into_iter().for_each(|size| read_and_written(&example(size).write().unwrap()));
 }
 
 fn read_and_written(bytes: &[u8]) {
@@ -82,7 +82,7 @@ fn what_is_written_is_read_back() {
 
 #[test]
 fn a_wrong_sheet_is_not_written() {
-    SIZES.map(wrong_sheets);
+    SIZES.into_iter().for_each(wrong_sheets);
 }
 
 fn wrong_sheets(size: usize) {

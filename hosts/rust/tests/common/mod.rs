@@ -114,7 +114,7 @@ pub fn spoiled(sheet: &Sheet, bad: &[usize]) -> Vec<u8> {
     bytes
 }
 
-/// A saved run as the release before this one saved it: another digit in the opening, a record without its last word.
+/// A saved run as an earlier release saved it, with six words: another digit in the opening, a record without its last word.
 pub fn saved_earlier(saved: &[u8]) -> Vec<u8> {
     let mut bytes = saved[..saved.len() - 16].to_vec();
     bytes[..8].copy_from_slice(b"DNKRUN1\n");
