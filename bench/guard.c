@@ -6,7 +6,7 @@
 
 #include "dunkafeto.h"
 
-enum { S = 4, C = 4, T = 64, N = 1024, CENTRES = 12, PIXELS = 64, MOST = 28 * T, CELLS = 3 * S * C };
+enum { S = 4, C = 4, T = 64, N = 1024, CENTRES = 12, PIXELS = DUNKAFETO_SMALL_TILE, MOST = 28 * T, CELLS = 3 * S * C };
 
 static uint32_t tiles[2 * T], counts[MOST], samples[2 * N], order[N], hints[T];
 static float colours[3 * MOST], palette[CELLS], least[CELLS], reduced[CELLS];
@@ -15,7 +15,7 @@ static int centres[CENTRES][3];
 static size_t size; /* colours of all tiles so far */
 static int sampled; /* samples so far */
 
-#define JOB S, C, T, N, 2.15f
+#define JOB DUNKAFETO_SMALL_TILE, S, C, T, N, 2.15f
 #define GIVEN tiles, 2 * T, colours, 3 * size, counts, size, samples, 2 * N
 #define MEMORY order, N, hints, T, palette, CELLS, least, CELLS, words, DUNKAFETO_WORDS
 

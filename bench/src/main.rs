@@ -1,10 +1,12 @@
 //! Measures our functions and the Rust's on the same inputs.
 //!
-//! bench stand FILE S C T N                       writes a run's states, where a round of replacing and where the final draws begin
-//! bench count SIDE WORK TIMES FILE S C T N       does a work so many times, to be counted from outside; prints what it answers
-//! bench time WORK FILE S C T N                   prints the calls, the least time of each side for all of them in nanoseconds,
+//! bench stand FILE SIZE S C T N                  writes a run's states, where a round of replacing and where the final draws begin
+//! bench count SIDE WORK TIMES FILE SIZE S C T N  does a work so many times, to be counted from outside; prints what it answers
+//! bench time WORK FILE SIZE S C T N              prints the calls, the least time of each side for all of them in nanoseconds,
 //!                                                both sides in turn; the answers have to be equal
 //! bench programs INPUT OURS RUSTS                prints the least time of each program on the input, in turn
+//!
+//! SIZE is the tiles', 64 or 256.
 
 mod job;
 mod ours;
@@ -31,13 +33,13 @@ fn main() {
     }
 }
 
-fn sizes(words: &[&str]) -> [usize; 4] {
+fn sizes(words: &[&str]) -> [usize; 5] {
     let sizes: Vec<usize> = words.iter().map(|word| word.parse().unwrap()).collect();
     sizes.try_into().unwrap()
 }
 
 /// The state before the draws of stage 2, and that before those of stage 4.
-fn stand(file: &str, sizes: [usize; 4]) {
+fn stand(file: &str, sizes: [usize; 5]) {
     let job = job::job(sizes);
     let lent = ours::Lent::new(&job);
     let mut memory = lent.memory();
@@ -85,7 +87,7 @@ fn next<const N: usize>(rest: &mut &[u8]) -> [u8; N] {
     *first
 }
 
-fn count(side: &str, work: Work, times: usize, file: &str, sizes: [usize; 4]) {
+fn count(side: &str, work: Work, times: usize, file: &str, sizes: [usize; 5]) {
     let job = job::job(sizes);
     let from = read(file, work, &ours::Lent::new(&job));
     let mut side: Box<dyn Side> = match side {
@@ -97,7 +99,7 @@ fn count(side: &str, work: Work, times: usize, file: &str, sizes: [usize; 4]) {
     }
 }
 
-fn time(work: Work, file: &str, sizes: [usize; 4]) {
+fn time(work: Work, file: &str, sizes: [usize; 5]) {
     let job = job::job(sizes);
     let from = read(file, work, &ours::Lent::new(&job));
     let mut sides: [Box<dyn Side>; 2] = [Box::new(sides::ours(&job, &from)), Box::new(sides::rusts(&job, &from))];

@@ -25,6 +25,7 @@ impl Lent {
             [at as u32, tile.counts.len() as u32]
         };
         Lent(shipped::Job {
+            size: job.size,
             s: job.s,
             c: job.c,
             t: job.tiles.len(),
@@ -79,7 +80,7 @@ impl Lent {
         let Lent(job) = self;
         memory.record[0] = unsafe {
             lend!(probe_draw(
-                job.s, job.c, job.t, job.n, job.weight,
+                job.size, job.s, job.c, job.t, job.n, job.weight,
                 ref job.tiles, ref job.colours, ref job.counts, ref job.samples,
                 memory.record[0], memory.record[4], mut memory.order,
                 mut memory.palette, job.s, job.c, mut memory.hints, alpha
