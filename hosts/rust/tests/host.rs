@@ -121,6 +121,7 @@ fn killed(name: &str, sheet: Sheet) {
         if said.status.success() {
             break;
         }
+        assert!(kills < 8, "{}", String::from_utf8_lossy(&said.stderr));
     }
     assert!(resumed > 0);
     assert!(fs::read(room.file("out")).unwrap() == expected);
