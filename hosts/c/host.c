@@ -17,7 +17,7 @@ enum { GOOD = 0, REFUSED = 1, USAGE = 2, BAD_STATE = 3, NO_FILE = 4 };
 
 static const char usage[] =
     "usage: host [-o FILE] [--state FILE] [--every N] [--seed N] [SHEET]\n"
-    "Trains the palette of a fit sheet for a console of 15-bit colours and writes the trained sheet.\n"
+    "Trains the palette of a fit sheet of edition 1 or 2 for a console of 15-bit colours and writes the trained sheet.\n"
     "  SHEET         the sheet to read; without it, or with -, standard input\n"
     "  -o FILE       where the trained sheet goes; without it, standard output\n"
     "  --state FILE  save the run there and, if it is there already, go on from it;\n"

@@ -11,7 +11,7 @@ use std::process::ExitCode;
 use dunkafeto::{checksum, console, saved_by_earlier_release, Job, Moment, RestoreError, Sheet, Trainer, MOST_BYTES};
 
 const USE: &str = "usage: host [-o FILE] [--state FILE] [--every N] [--seed N] [SHEET]
-Trains the palette of a fit sheet for a console of 15-bit colours and writes the trained sheet.
+Trains the palette of a fit sheet of edition 1 or 2 for a console of 15-bit colours and writes the trained sheet.
   SHEET         the sheet to read; without it, or with -, standard input
   -o FILE       where the trained sheet goes; without it, standard output
   --state FILE  save the run there and, if it is there already, go on from it;
