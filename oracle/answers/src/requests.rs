@@ -4,7 +4,7 @@ use std::collections::HashMap;
 
 use terms::jobs::{self, Colours};
 use terms::rng::Rng;
-use terms::{Colour, Held, Job, Palette, Tile, sizes_word};
+use terms::{Colour, Held, Job, Palette, TILE_SIZES, Tile, sizes_word};
 
 use crate::line::{Line, Read, Words};
 use crate::{probed, rust};
@@ -81,12 +81,12 @@ struct Case {
 
 impl Case {
     fn any(rng: &mut Rng) -> Self {
-        let colours = Colours::any(rng, 2.0);
+        let (size, colours) = (jobs::tile_size(rng), Colours::any(rng, 2.0));
         let (s, c, t) = (jobs::sixteen(rng), jobs::sixteen(rng), rng.among(1, 6));
         Case {
             weight: jobs::weight(rng),
             palette: jobs::palette(rng, s, c, &colours, 2.0),
-            tiles: jobs::tiles(rng, t, &colours),
+            tiles: jobs::tiles(rng, size, t, &colours),
             hints: jobs::hints(rng, t, s),
         }
     }
@@ -177,11 +177,11 @@ fn best_two(words: &mut Words) -> Read<Line> {
 }
 
 fn fit_request(line: Line, rng: &mut Rng) -> Line {
-    let colours = Colours::any(rng, 2.0);
+    let (size, colours) = (jobs::tile_size(rng), Colours::any(rng, 2.0));
     let (s, c) = (jobs::sixteen(rng), jobs::sixteen(rng));
     let (weight, hint) = (jobs::weight(rng), jobs::hints(rng, 1, s)[0]);
     let palette = jobs::palette(rng, s, c, &colours, 2.0);
-    line.float(weight).number(hint).sized_palette(&palette).tile(&jobs::full_tile(rng, &colours))
+    line.float(weight).number(hint).sized_palette(&palette).tile(&jobs::full_tile(rng, size, &colours))
 }
 
 fn nudge(words: &mut Words) -> Read<Line> {
@@ -242,7 +242,8 @@ fn group_request(line: Line, rng: &mut Rng) -> Line {
     let colour = |rng: &mut Rng| [0; 4].map(|_| (rng.below(byte + 1)) as u8);
     let line = if rng.once_in(2) { line.number(0) } else { line.number(1).number(u32::from_be_bytes(colour(rng))) };
     let mut named: HashMap<[u8; 4], Colour> = HashMap::new();
-    let n = rng.among(0, 64);
+    let size = jobs::tile_size(rng);
+    let n = rng.among(0, size);
     (0..n).fold(line.number(n), |line, _| {
         let bytes = colour(rng);
         let oklab = *named.entry(bytes).or_insert_with(|| Colours::Random.one(rng, 2.0));
@@ -256,7 +257,8 @@ fn run_words(words: &mut Words) -> Read<(Job, Vec<usize>, u64, Vec<Vec<Colour>>)
     let (seed, (tiles, hints)) = (words.number()?, words.tiles()?);
     let samples = words.samples(&tiles)?;
     let reduced = words.many(3, |words| words.many(s * c, Words::colour))?;
-    let job = Job { s, c, weight, tiles, samples };
+    // no request names a tile size, and the Rust asks for none: the largest has room for whatever there is
+    let job = Job { size: TILE_SIZES[1], s, c, weight, tiles, samples };
     Ok((job, hints, seed, reduced))
 }
 

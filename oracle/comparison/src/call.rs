@@ -50,7 +50,7 @@ impl Call {
     pub fn of(job: &Job) -> Self {
         let (n, places) = (job.samples.len(), 3 * job.s * job.c);
         Call {
-            given: Given::new(&vec![vec![[0.0; 3]; job.c]; job.s], &job.tiles, job.weight),
+            given: Given::new(job.size, &vec![vec![[0.0; 3]; job.c]; job.s], &job.tiles, job.weight),
             n,
             samples: job.samples.iter().flat_map(|s| [s.tile as u32, s.place as u32]).collect(),
             memory: Memory {

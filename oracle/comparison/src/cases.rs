@@ -50,7 +50,18 @@ pub fn compare(kind: &Kind, asked: &Asked) -> Tally {
         others.into_iter().for_each(|other| tally.merge(other.join().unwrap()));
     });
     clear();
+    if end - first >= kind.cases {
+        brought(kind, &mut tally);
+    }
     tally
+}
+
+/// Enough cases bring whatever the kind has to.
+fn brought(kind: &Kind, tally: &mut Tally) {
+    for name in kind.brings {
+        let counted = tally.counts.get(name).is_some_and(|&number| number > 0);
+        tally.same(counted, true, || format!("some of what is counted as '{name}'"));
+    }
 }
 
 /// One case; one that panics differs.

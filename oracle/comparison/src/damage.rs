@@ -43,11 +43,21 @@ fn size(rng: &mut Rng, given: &mut Given) {
             1 << 32,
         ])
     };
-    match rng.below(3) {
+    match rng.below(4) {
         0 => given.s = wrong(rng, given.s, 16),
         1 => given.c = wrong(rng, given.c, 16),
-        _ => given.t = wrong(rng, given.t, 1024),
+        2 => given.t = wrong(rng, given.t, 1024),
+        _ => given.size = tile_size(rng),
     }
+}
+
+/// Tile sizes that there are not.
+pub const NO_TILE_SIZES: [usize; 10] = [0, 1, 63, 65, 128, 255, 257, 512, 1 << 32, usize::MAX];
+
+/// One that there is not, or one that there is, which may be the other.
+pub fn tile_size(rng: &mut Rng) -> usize {
+    let none = rng.pick(&NO_TILE_SIZES);
+    rng.pick(&[none, none, 64, 256])
 }
 
 /// One item more or less, three less, or none.
@@ -86,7 +96,7 @@ fn entry(rng: &mut Rng, given: &mut Given) {
     given.tiles[place] = match rng.below(6) {
         0 => right.wrapping_add(1),
         1 => right.wrapping_sub(1),
-        2 => 65,
+        2 => rng.pick(&[65, 257]),
         3 => u32::MAX,
         4 => 1 << 31,
         _ => 0,
@@ -107,16 +117,16 @@ fn count(rng: &mut Rng, given: &mut Given) {
     given.counts[place] = match rng.below(6) {
         0 => 0,
         1 => u32::MAX,
-        2 => u32::MAX - 63,
+        2 => u32::MAX - rng.pick(&[63, 255]),
         3 => 1 << 31,
         _ => {
-            // the tile's sum becomes 64 or 65
+            // the tile's sum becomes a tile size or one more
             let (end, place) = (given.counts.len(), place as u32);
             let tile =
                 given.tiles.as_chunks().0.iter().find(|[first, n]| (*first..first.saturating_add(*n)).contains(&place));
             let part = tile.map_or(0..0, |&[first, n]| first as usize..end.min(first as usize + n as usize));
             let others = part.filter(|&k| k != place as usize).map(|k| u64::from(given.counts[k])).sum();
-            (64 + rng.below(2) as u64).saturating_sub(others) as u32
+            rng.pick(&[64u64, 65, 256, 257]).saturating_sub(others) as u32
         }
     };
 }

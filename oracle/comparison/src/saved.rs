@@ -84,7 +84,7 @@ impl Saved {
 
     fn put_call(&mut self, call: &Call) {
         let given = &call.given;
-        [given.s, given.c, given.t, call.n].iter().for_each(|&size| self.put(size as u64));
+        [given.size, given.s, given.c, given.t, call.n].iter().for_each(|&size| self.put(size as u64));
         self.put(given.weight.to_bits().into());
         self.put_words(&given.tiles);
         self.put_floats(&given.colours);
@@ -94,8 +94,9 @@ impl Saved {
     }
 
     fn take_call(&mut self) -> Call {
-        let [s, c, t, n] = [(); 4].map(|_| self.take() as usize);
+        let [size, s, c, t, n] = [(); 5].map(|_| self.take() as usize);
         let given = Given {
+            size,
             s,
             c,
             t,

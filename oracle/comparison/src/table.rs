@@ -20,6 +20,8 @@ impl From<u32> for Refusal {
 /// What every call with a job is given, as a stranger may give it.
 #[derive(Clone, Debug)]
 pub struct Given {
+    /// The tile size.
+    pub size: usize,
     pub s: usize,
     pub c: usize,
     pub t: usize,
@@ -30,8 +32,9 @@ pub struct Given {
 }
 
 impl Given {
-    pub fn new(palette: &Palette, tiles: &[Tile], weight: f32) -> Self {
+    pub fn new(size: usize, palette: &Palette, tiles: &[Tile], weight: f32) -> Self {
         let mut given = Given {
+            size,
             s: palette.len(),
             c: palette[0].len(),
             t: tiles.len(),
@@ -79,8 +82,12 @@ pub fn unless(passes: bool) -> Fault {
     if passes { None } else { Some(0) }
 }
 
+pub fn tile_size(size: usize) -> bool {
+    size == 64 || size == 256
+}
+
 pub fn sizes(given: &Given) -> bool {
-    (1..=16).contains(&given.s) && (1..=16).contains(&given.c) && (1..=1024).contains(&given.t)
+    tile_size(given.size) && (1..=16).contains(&given.s) && (1..=16).contains(&given.c) && (1..=1024).contains(&given.t)
 }
 
 /// Of the slices that every call has: two numbers a tile, three a count.
@@ -92,11 +99,11 @@ pub fn weight(weight: f32) -> bool {
     weight > 0.0 && weight <= 16.0
 }
 
-/// Consecutive from 0, each length at most 64, in all what is lent, which is at most 16,384.
+/// Consecutive from 0, each length at most the tile size, in all what is lent, which is at most 16,384.
 pub fn table(given: &Given) -> bool {
     let mut total = 0u64;
     for entry in given.tiles.chunks(2) {
-        if u64::from(entry[0]) != total || entry[1] > 64 {
+        if u64::from(entry[0]) != total || entry[1] as usize > given.size {
             return false;
         }
         total += u64::from(entry[1]);
@@ -108,7 +115,7 @@ pub fn table(given: &Given) -> bool {
 pub fn counts(given: &Given) -> bool {
     given.tiles.chunks(2).all(|entry| {
         let part = &given.counts[entry[0] as usize..][..entry[1] as usize];
-        part.iter().all(|&count| count >= 1) && part.iter().map(|&count| u64::from(count)).sum::<u64>() <= 64
+        part.iter().all(|&count| count >= 1) && part.iter().map(|&count| count as usize).sum::<usize>() <= given.size
     })
 }
 

@@ -2,7 +2,7 @@
 
 use std::collections::BTreeMap;
 
-use terms::Colour;
+use terms::{Colour, Tile};
 
 use crate::table::Refusal;
 
@@ -37,16 +37,30 @@ impl Tally {
         *self.counts.entry(name).or_default() += number;
     }
 
-    /// A public call, and the number and index that are its right answer.
-    pub fn answered(&mut self, call: &'static str, right: impl Into<Refusal>) {
+    /// A public call, the tile size that it was told, and the number and index that are its right answer.
+    pub fn answered(&mut self, call: &'static str, size: usize, right: impl Into<Refusal>) {
         let Refusal { number, index } = right.into();
         self.add(call, 1);
+        let sized = match size {
+            64 => "at size 64",
+            256 => "at size 256",
+            _ => "at no tile size",
+        };
+        self.add(sized, 1);
         if number != 0 {
             *self.refusals.entry(number).or_default() += 1;
         }
         if index != 0 {
             self.add("indexes above 0", 1);
         }
+    }
+
+    /// Tiles that were accepted: how many are as large as can be, and how many colours are counted as often as can be.
+    pub fn tiles(&mut self, tiles: &[Tile]) {
+        let large = tiles.iter().filter(|tile| tile.counts.len() == 256).count();
+        let counts = tiles.iter().flat_map(|tile| &tile.counts).filter(|&&count| count == 256).count();
+        self.add("tiles of 256 colours", large as u64);
+        self.add("counts of 256", counts as u64);
     }
 
     /// Of the floats that a call has to leave: how many are NaNs, which stay bit for bit.

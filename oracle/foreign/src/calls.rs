@@ -2,6 +2,7 @@
 
 unsafe extern "C" {
     pub fn probe_single_fit(
+        size: usize,
         s: usize,
         c: usize,
         t: usize,
@@ -21,6 +22,7 @@ unsafe extern "C" {
         fault: &mut usize,
     ) -> u32;
     pub fn probe_public_best_two(
+        size: usize,
         s: usize,
         c: usize,
         t: usize,
@@ -42,6 +44,7 @@ unsafe extern "C" {
         fault: &mut usize,
     ) -> u32;
     pub fn probe_group(
+        size: usize,
         p: usize,
         pixels: *const u8,
         pixels_len: usize,

@@ -1,7 +1,8 @@
 //! How memory is lent to a function as C has it: the only lists of pointers and lengths.
 
-/// Calls a function. `ref x` lends x to be read and `mut x` to be written, a pointer and a length each; `..job` stands for a job's sizes,
-/// weight and tables; anything else is handed over as it is. The caller says `unsafe`, and answers for what the function requires.
+/// Calls a function. `ref x` lends x to be read and `mut x` to be written, a pointer and a length each; `..job` stands for a job's tile
+/// size, sizes, weight and tables; anything else is handed over as it is. The caller says `unsafe`, and answers for what the function
+/// requires.
 #[macro_export]
 macro_rules! lend {
     ($call:ident($($args:tt)*)) => {
@@ -18,7 +19,7 @@ macro_rules! lend {
     };
     (@ $call:ident [$($given:expr,)*] ..$job:ident, $($rest:tt)*) => {
         $crate::lend!(
-            @ $call [$($given,)* $job.s, $job.c, $job.t, $job.weight,]
+            @ $call [$($given,)* $job.size, $job.s, $job.c, $job.t, $job.weight,]
             ref $job.tiles, ref $job.colours, ref $job.counts, $($rest)*
         )
     };
@@ -33,7 +34,7 @@ macro_rules! lend {
 macro_rules! lend_run {
     ($call:ident, $job:ident, $drawn:ident, $memory:ident, $kind:tt / $sometimes:tt, [$($first:expr)?] $($own:tt)*) => {
         $crate::lend!($call(
-            $job.s, $job.c, $job.t, $drawn.n, $job.weight, $($first,)?
+            $job.size, $job.s, $job.c, $job.t, $drawn.n, $job.weight, $($first,)?
             ref $job.tiles, ref $job.colours, ref $job.counts, ref $drawn.samples,
             $sometimes $memory.order, $kind $memory.hints, $kind $memory.palette, $sometimes $memory.least, $kind $memory.record
             $($own)*

@@ -2,6 +2,7 @@
 
 unsafe extern "C" {
     pub fn probe_sheet_read(
+        size: usize,
         bytes: *const u8,
         bytes_len: usize,
         tiles: *mut u32,
@@ -19,6 +20,7 @@ unsafe extern "C" {
         fault: &mut usize,
     ) -> u32;
     pub fn probe_sheet_write(
+        size: usize,
         s: usize,
         c: usize,
         t: usize,
@@ -33,7 +35,7 @@ unsafe extern "C" {
         palette_len: usize,
         dst: *mut u8,
         dst_len: usize,
-        size: &mut usize,
+        written: &mut usize,
         fault: &mut usize,
     ) -> u32;
 }

@@ -8,6 +8,7 @@ use crate::{
 /// What a call only reads; without samples where it has none.
 #[derive(Default)]
 pub struct Job {
+    pub size: usize,
     pub s: usize,
     pub c: usize,
     pub t: usize,

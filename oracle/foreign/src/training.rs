@@ -2,6 +2,7 @@
 
 unsafe extern "C" {
     pub fn probe_mse(
+        size: usize,
         s: usize,
         c: usize,
         t: usize,
@@ -20,6 +21,7 @@ unsafe extern "C" {
         hints_len: usize,
     ) -> f32;
     pub fn probe_grow(
+        size: usize,
         s: usize,
         c: usize,
         t: usize,
@@ -37,6 +39,7 @@ unsafe extern "C" {
         hints_len: usize,
     );
     pub fn probe_replace_weakest(
+        size: usize,
         s: usize,
         c: usize,
         t: usize,
@@ -53,6 +56,7 @@ unsafe extern "C" {
         hints_len: usize,
     );
     pub fn probe_refine(
+        size: usize,
         s: usize,
         c: usize,
         t: usize,
@@ -69,6 +73,7 @@ unsafe extern "C" {
         hints_len: usize,
     );
     pub fn probe_draw(
+        size: usize,
         s: usize,
         c: usize,
         t: usize,
@@ -106,6 +111,7 @@ unsafe extern "C" {
         b: &mut f32,
     );
     pub fn probe_seed(
+        size: usize,
         s: usize,
         c: usize,
         t: usize,
@@ -123,6 +129,7 @@ unsafe extern "C" {
         pal_len: usize,
     );
     pub fn probe_worst(
+        size: usize,
         s: usize,
         c: usize,
         t: usize,

@@ -2,9 +2,10 @@
 //! the sizes. Everything made here is a job that docs/SCOPE.md accepts.
 
 use super::rng::Rng;
-use super::{Colour, Job, Palette, Sample, Tile};
+use super::{Colour, Job, Palette, Sample, TILE_SIZES, Tile};
 
-pub const TILE_SIZE: usize = 64;
+/// The colours of all tiles of a job.
+const MOST_TILE_COLOURS: usize = 16_384;
 
 /// How the colours of one case are made. Most give ties between distances.
 #[derive(Clone, Debug)]
@@ -111,41 +112,60 @@ pub fn palette(rng: &mut Rng, s: usize, c: usize, colours: &Colours, limit: f32)
     palette
 }
 
-/// A tile of at most 64 pixels, not empty.
-pub fn full_tile(rng: &mut Rng, colours: &Colours) -> Tile {
+/// Each of the tile sizes as often as the other.
+pub fn tile_size(rng: &mut Rng) -> usize {
+    rng.pick(&TILE_SIZES)
+}
+
+/// A tile of at most so many pixels, not empty; one in three has them all.
+pub fn full_tile(rng: &mut Rng, size: usize, colours: &Colours) -> Tile {
+    let many = rng.among(17, size);
     let n = match rng.below(6) {
         0 | 1 => 1,
-        2 => TILE_SIZE,
+        2 => rng.pick(&[size, 64, 64, many]),
         _ => rng.among(1, 16),
     };
-    let mut spare = match rng.below(3) {
-        0 => 0,
-        1 => TILE_SIZE - n,
-        _ => rng.below(TILE_SIZE - n + 1),
-    };
+    // beside one of each colour
+    let some = rng.below(size - n + 1);
+    let (mut spare, whole) = rng.pick(&[(0, false), (some, false), (size - n, true)]);
     let count = |_| {
         let more = if rng.once_in(2) { rng.below(spare + 1) } else { 0 };
         spare -= more;
         1 + more as u32
     };
-    let counts: Vec<u32> = (0..n).map(count).collect();
+    let mut counts: Vec<u32> = (0..n).map(count).collect();
+    if whole {
+        counts[rng.below(n)] += spare as u32;
+    }
     Tile { colours: colours.many(rng, n, 2.0), counts }
 }
 
 /// A tile, an empty one now and then.
-pub fn tile(rng: &mut Rng, colours: &Colours) -> Tile {
-    if rng.once_in(5) { Tile::default() } else { full_tile(rng, colours) }
+pub fn tile(rng: &mut Rng, size: usize, colours: &Colours) -> Tile {
+    if rng.once_in(5) { Tile::default() } else { full_tile(rng, size, colours) }
 }
 
-pub fn tiles(rng: &mut Rng, t: usize, colours: &Colours) -> Vec<Tile> {
-    let mut tiles: Vec<Tile> = (0..t).map(|_| tile(rng, colours)).collect();
+pub fn tiles(rng: &mut Rng, size: usize, t: usize, colours: &Colours) -> Vec<Tile> {
+    let mut tiles: Vec<Tile> = (0..t).map(|_| tile(rng, size, colours)).collect();
     if rng.once_in(2) {
         for _ in 0..t / 2 {
             let copy = tiles[rng.below(t)].clone();
             tiles[rng.below(t)] = copy;
         }
     }
+    empty_the_rest(&mut tiles);
     tiles
+}
+
+/// Tiles are empty from where on their colours would be too many for a job.
+pub fn empty_the_rest(tiles: &mut [Tile]) {
+    let mut left = MOST_TILE_COLOURS;
+    for tile in tiles {
+        if tile.counts.len() > left {
+            *tile = Tile::default();
+        }
+        left -= tile.counts.len();
+    }
 }
 
 /// Hints of any size, most of them within 0..s.
@@ -158,8 +178,13 @@ pub fn hints(rng: &mut Rng, t: usize, s: usize) -> Vec<usize> {
     (0..t).map(hint).collect()
 }
 
-/// A job with at least one sample; `most` bounds the samples, and so the time that a run takes.
+/// A job of either tile size with at least one sample; `most` bounds the samples, and so the time that a run takes.
 pub fn job(rng: &mut Rng, most: usize) -> Job {
+    let size = tile_size(rng);
+    of_tile_size(rng, size, most)
+}
+
+pub fn of_tile_size(rng: &mut Rng, size: usize, most: usize) -> Job {
     let colours = Colours::any(rng, 2.0);
     let (s, c) = (sixteen(rng), sixteen(rng));
     let t = match rng.below(8) {
@@ -168,25 +193,25 @@ pub fn job(rng: &mut Rng, most: usize) -> Job {
         2 => rng.among(50, 120),
         _ => rng.among(1, 30),
     };
-    let tiles = sampled_tiles(rng, t, &colours);
+    let tiles = sampled_tiles(rng, size, t, &colours);
     let samples = samples(rng, &tiles, most);
-    Job { s, c, weight: weight(rng), tiles, samples }
+    Job { size, s, c, weight: weight(rng), tiles, samples }
 }
 
 /// A job of just these S, C, T and n: all else is any.
 pub fn of_sizes(rng: &mut Rng, [s, c, t, n]: [usize; 4]) -> Job {
-    let colours = Colours::any(rng, 2.0);
-    let tiles = sampled_tiles(rng, t, &colours);
+    let (size, colours) = (tile_size(rng), Colours::any(rng, 2.0));
+    let tiles = sampled_tiles(rng, size, t, &colours);
     let all = units(&tiles);
     let samples = (0..n).map(|_| rng.pick(&all)).collect();
-    Job { s, c, weight: weight(rng), tiles, samples }
+    Job { size, s, c, weight: weight(rng), tiles, samples }
 }
 
 /// Tiles of which one at least is not empty.
-fn sampled_tiles(rng: &mut Rng, t: usize, colours: &Colours) -> Vec<Tile> {
-    let mut tiles = tiles(rng, t, colours);
+fn sampled_tiles(rng: &mut Rng, size: usize, t: usize, colours: &Colours) -> Vec<Tile> {
+    let mut tiles = tiles(rng, size, t, colours);
     if tiles.iter().all(|tile| tile.counts.is_empty()) {
-        tiles[t - 1] = full_tile(rng, colours);
+        tiles[t - 1] = full_tile(rng, size, colours);
     }
     tiles
 }
@@ -202,16 +227,17 @@ fn units(tiles: &[Tile]) -> Vec<Sample> {
     all
 }
 
-/// One for each unit of count, or any number of any samples.
+/// One for each unit of count in tile order, or as many of them as there may be, or any number of any samples.
 fn samples(rng: &mut Rng, tiles: &[Tile], most: usize) -> Vec<Sample> {
-    let mut all = units(tiles);
+    let all = units(tiles);
     let n = match rng.below(6) {
         0 => rng.among(1, 12),
         1 => rng.pick(&[9, 10, 19, 20, 99, 100]),
         2 => rng.among(1, most),
         _ => {
-            all.truncate(most);
-            return all;
+            // of all tiles alike
+            let n = most.min(all.len());
+            return (0..n).map(|k| all[k * all.len() / n]).collect();
         }
     };
     (0..n).map(|_| rng.pick(&all)).collect()

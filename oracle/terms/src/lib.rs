@@ -3,6 +3,7 @@
 pub mod host;
 pub mod jobs;
 pub mod rng;
+pub mod sheet;
 
 /// An Oklab colour: l, a, b.
 pub type Colour = [f32; 3];
@@ -21,9 +22,14 @@ pub struct Sample {
     pub place: usize,
 }
 
+/// The sizes that a job's tiles may have.
+pub const TILE_SIZES: [usize; 2] = [64, 256];
+
 /// What a run is made of, apart from its seed.
 #[derive(Clone, Debug)]
 pub struct Job {
+    /// The tile size, of which the Rust knows nothing.
+    pub size: usize,
     pub s: usize,
     pub c: usize,
     pub weight: f32,
@@ -32,7 +38,7 @@ pub struct Job {
 }
 
 impl Job {
-    /// S, C, T and n.
+    /// S, C, T and n: those that a record holds.
     pub fn sizes(&self) -> [usize; 4] {
         [self.s, self.c, self.tiles.len(), self.samples.len()]
     }

@@ -153,6 +153,6 @@ fn entry(rng: &mut Rng, entries: &mut [u32], limit: usize) {
         let right = entries[place];
         let edge = limit as u32;
         entries[place] =
-            rng.pick(&[edge, edge.wrapping_sub(1), u32::MAX, right.wrapping_add(1), right.wrapping_add(64) % 128]);
+            rng.pick(&[edge, edge.wrapping_sub(1), u32::MAX, right.wrapping_add(1), right.wrapping_add(64) % 256]);
     }
 }

@@ -6,7 +6,7 @@ use terms::jobs::{self, Colours};
 use terms::rng::Rng;
 use terms::{Palette, Tile};
 
-use super::{Kind, kind};
+use super::{JOBS, Kind, in_turn, kind};
 use crate::damage;
 use crate::lent;
 use crate::ours;
@@ -15,11 +15,11 @@ use crate::table::{self, Given, Refusal};
 use crate::tally::Tally;
 
 pub const KINDS: &[Kind] = &[
-    kind("single fit", 20_000, 200_000, single_fit),
-    kind("public best_two", 20_000, 200_000, best_two),
-    kind("assign", 20_000, 200_000, assign),
-    kind("fits", 500, 64_000, fits),
-    kind("largest jobs", 12, 120, largest),
+    kind("single fit", 20_000, 200_000, single_fit).bringing(JOBS),
+    kind("public best_two", 20_000, 200_000, best_two).bringing(JOBS),
+    kind("assign", 20_000, 200_000, assign).bringing(JOBS),
+    kind("fits", 500, 64_000, fits).bringing(JOBS),
+    kind("largest jobs", 24, 240, largest).bringing(JOBS),
 ];
 
 /// A call as a stranger may make it. `out` is assign's.
@@ -32,10 +32,10 @@ pub struct Call {
 }
 
 impl Call {
-    pub fn new(rng: &mut Rng, palette: &Palette, tiles: &[Tile], weight: f32) -> Self {
+    pub fn new(rng: &mut Rng, size: usize, palette: &Palette, tiles: &[Tile], weight: f32) -> Self {
         let (s, t) = (palette.len(), tiles.len());
         Call {
-            given: Given::new(palette, tiles, weight),
+            given: Given::new(size, palette, tiles, weight),
             palette: palette.iter().flatten().flatten().copied().collect(),
             hints: jobs::hints(rng, t, s).into_iter().map(|hint| hint as u32).collect(),
             out: (0..t).map(|_| rng.word()).collect(),
@@ -43,12 +43,12 @@ impl Call {
     }
 
     pub fn good(rng: &mut Rng, t: usize) -> Self {
-        let colours = Colours::any(rng, 2.0);
+        let (size, colours) = (jobs::tile_size(rng), Colours::any(rng, 2.0));
         let (s, c) = (jobs::sixteen(rng), jobs::sixteen(rng));
         let palette = jobs::palette(rng, s, c, &colours, 2.0);
-        let tiles = jobs::tiles(rng, t, &colours);
+        let tiles = jobs::tiles(rng, size, t, &colours);
         let weight = jobs::weight(rng);
-        Call::new(rng, &palette, &tiles, weight)
+        Call::new(rng, size, &palette, &tiles, weight)
     }
 
     fn damaged(mut self, rng: &mut Rng) -> Self {
@@ -87,6 +87,7 @@ impl Call {
         let (subs, have) = (self.given.s, self.given.c);
         let present = Present { palette: &colours, room: have, subs, have, weight: self.given.weight };
         let full: Vec<Tile> = self.given.tiles().into_iter().filter(|tile| !tile.counts.is_empty()).collect();
+        tally.tiles(&full);
         tally.add("fits", full.len() as u64);
         tally.add("tied fits", full.iter().filter(|tile| present.tied(tile)).count() as u64);
     }
@@ -116,7 +117,7 @@ pub fn fitted(call: &Call, tally: &mut Tally) -> Refusal {
     let (job, palette, mut hints) = (call.lent(), lent::floats(&call.palette), lent::words(&call.hints));
     let (answer, index, dist) = ours::single_fit(&job, &palette, &mut hints);
     let kept = job.untouched() && palette.untouched() && hints.guarded();
-    tally.answered("single fit", refusal);
+    tally.answered("single fit", call.given.size, refusal);
     tally.left(call.floats());
     tally.same((answer, (index, dist), hints.values().to_vec(), kept), right, || format!("{call:?}"));
     refusal
@@ -140,7 +141,7 @@ pub fn paired(call: &Call, tally: &mut Tally) -> Refusal {
     let (job, palette, mut hints) = (call.lent(), lent::floats(&call.palette), lent::words(&call.hints));
     let (answer, two) = ours::public_best_two(&job, &palette, &mut hints);
     let kept = job.untouched() && palette.untouched() && hints.guarded();
-    tally.answered("best_two", refusal);
+    tally.answered("best_two", call.given.size, refusal);
     tally.left(call.floats());
     tally.same((answer, (two.known(), two.next), hints.values().to_vec(), kept), right, || format!("{call:?}"));
     refusal
@@ -149,11 +150,11 @@ pub fn paired(call: &Call, tally: &mut Tally) -> Refusal {
 /// Every tile of a job by each of the three calls, each time from another hint.
 fn fits(rng: &mut Rng, _: u64, tally: &mut Tally) {
     let job = Call::good(rng, 8);
-    let (palette, weight) = (job.subs(), job.given.weight);
+    let (size, palette, weight) = (job.given.size, job.subs(), job.given.weight);
     for tile in job.given.tiles().iter().filter(|tile| !tile.counts.is_empty()) {
         let alone = std::slice::from_ref(tile);
-        fitted(&Call::new(rng, &palette, alone, weight), tally);
-        paired(&Call::new(rng, &palette, alone, weight), tally);
+        fitted(&Call::new(rng, size, &palette, alone, weight), tally);
+        paired(&Call::new(rng, size, &palette, alone, weight), tally);
     }
     assigned(&job, tally);
 }
@@ -163,22 +164,26 @@ fn assign(rng: &mut Rng, _: u64, tally: &mut Tally) {
     assigned(&Call::good(rng, t).damaged(rng), tally);
 }
 
-/// At the limits of the sizes: 1,024 and 1,025 tiles, 16,384 and 16,385 tile colours.
+/// At the limits of the sizes: 1,024 and 1,025 tiles; 16,384 and 16,385 tile colours, in tiles of as many as can be; counts of as many
+/// as can be.
 fn largest(rng: &mut Rng, case: u64, tally: &mut Tally) {
-    let (t, colours) = [(1024, 16), (1025, 0), (256, 64), (257, 64), (1024, 1), (1024, 0)][case as usize % 6];
-    let kind = Colours::any(rng, 2.0);
+    let (size, colours) = (in_turn(case), Colours::any(rng, 2.0));
+    let full = 16_384 / size;
+    let (t, each) =
+        [(1024, 16), (1025, 0), (full, size), (full + 1, size), (1024, 1), (1024, 0)][case as usize / 2 % 6];
     let mut tiles: Vec<Tile> = (0..t)
         .map(|i| {
-            // the last tile of the second largest job has one colour: 16,385 in all
-            let n = if t == 257 && i == 256 { 1 } else { colours };
-            Tile { colours: kind.many(rng, n, 2.0), counts: vec![1; n] }
+            // one tile more than are full has one colour: 16,385 in all
+            let n = if i == full && each == size { 1 } else { each };
+            let count = if each == 1 { size } else { 1 };
+            Tile { colours: colours.many(rng, n, 2.0), counts: vec![count as u32; n] }
         })
         .collect();
     if rng.once_in(2) {
         tiles.reverse();
     }
-    let palette = jobs::palette(rng, 16, 2, &kind, 2.0);
-    assigned(&Call::new(rng, &palette, &tiles, 2.15), tally);
+    let palette = jobs::palette(rng, 16, 2, &colours, 2.0);
+    assigned(&Call::new(rng, size, &palette, &tiles, 2.15), tally);
 }
 
 /// Gives what the scope says of it.
@@ -196,7 +201,7 @@ pub fn assigned(call: &Call, tally: &mut Tally) -> Refusal {
     let (mut hints, mut out) = (lent::words(&call.hints), lent::words(&call.out));
     let answer = ours::assign(&job, &palette, &mut hints, &mut out);
     let kept = job.untouched() && palette.untouched() && hints.guarded() && out.guarded();
-    tally.answered("assign", refusal);
+    tally.answered("assign", call.given.size, refusal);
     tally.left(call.floats());
     tally.same((answer, hints.values().to_vec(), out.values().to_vec(), kept), right, || format!("{call:?}"));
     refusal

@@ -7,21 +7,24 @@ mod plain;
 mod records;
 mod runs;
 mod sheets;
+mod tile_sizes;
 
 use terms::{Job, Sample, Tile};
 
-use super::{Kind, whole};
+use super::{JOBS, Kind, SIZES, in_turn, whole};
 use crate::lent::nans;
 use crate::table::Refusal;
 use crate::tally::Tally;
 
+/// One case for each tile size.
 pub const KINDS: &[Kind] = &[
-    whole("edges of jobs", 1, |rng, _, tally| plain::compare(rng, tally)),
-    whole("edges of runs", 1, |_, _, tally| runs::compare(tally)),
-    whole("edges of records", 1, |_, _, tally| records::compare(tally)),
-    whole("edges of sheets", 1, |_, _, tally| sheets::compare(tally)),
-    whole("edges of entries", 1, |rng, _, tally| entries::compare(rng, tally)),
-    whole("edges of order", 1, |rng, _, tally| order::compare(rng, tally)),
+    whole("edges of jobs", 2, |rng, case, tally| plain::compare(rng, in_turn(case), tally)).bringing(JOBS),
+    whole("edges of runs", 2, |_, case, tally| runs::compare(in_turn(case), tally)).bringing(JOBS),
+    whole("edges of records", 2, |_, case, tally| records::compare(in_turn(case), tally)).bringing(SIZES),
+    whole("edges of sheets", 2, |_, case, tally| sheets::compare(in_turn(case), tally)).bringing(JOBS),
+    whole("edges of entries", 2, |rng, case, tally| entries::compare(rng, in_turn(case), tally)).bringing(SIZES),
+    whole("edges of order", 2, |rng, case, tally| order::compare(rng, in_turn(case), tally)).bringing(SIZES),
+    whole("edges of tile sizes", 2, |rng, case, tally| tile_sizes::compare(rng, in_turn(case), tally)).bringing(SIZES),
 ];
 
 const DONE: Refusal = Refusal { number: 0, index: 0 };
@@ -38,21 +41,29 @@ fn listed(tally: &mut Tally, what: &str, call: &str, compared: impl Into<Refusal
 
 /// A tile of so many colours, each counted once.
 fn tile(colours: usize) -> Tile {
-    Tile { colours: (0..colours).map(|k| [k as f32 / 64.0, 0.25, -0.25]).collect(), counts: vec![1; colours] }
+    Tile { colours: (0..colours).map(|k| [k as f32 / 256.0, 0.25, -0.25]).collect(), counts: vec![1; colours] }
 }
 
 fn tiles(t: usize, colours: usize) -> Vec<Tile> {
     vec![tile(colours); t]
 }
 
-/// Tile colours in all: tiles of 64, and a last one of the rest.
-fn colours_in_all(n: usize) -> Vec<Tile> {
-    (0..n.div_ceil(64)).map(|i| tile(64.min(n - 64 * i))).collect()
+/// Tile colours in all: tiles of as many as can be, and a last one of the rest.
+fn colours_in_all(size: usize, n: usize) -> Vec<Tile> {
+    (0..n.div_ceil(size)).map(|i| tile(size.min(n - size * i))).collect()
 }
 
-/// One tile of two colours with these counts.
-fn counted(counts: [u32; 2]) -> Vec<Tile> {
-    vec![Tile { counts: counts.to_vec(), ..tile(2) }]
+/// One tile of as many colours as counts.
+fn counted(counts: &[u32]) -> Vec<Tile> {
+    vec![Tile { counts: counts.to_vec(), ..tile(counts.len()) }]
+}
+
+/// Counts of one tile that add up to its size and to one more, with the number that they get.
+fn sums(size: usize) -> Vec<(Vec<u32>, u32)> {
+    let size = size as u32;
+    let over = [vec![size + 1], vec![size, 1], vec![1, size], vec![size, size]];
+    let fits = [vec![size], vec![size - 1, 1], vec![1, size - 1], vec![size / 4; 4]];
+    fits.into_iter().map(|counts| (counts, 0)).chain(over.into_iter().map(|counts| (counts, 6))).collect()
 }
 
 /// One tile of one colour with this component.
@@ -61,8 +72,8 @@ fn component(x: f32) -> Vec<Tile> {
 }
 
 /// A job whose samples are the first colour of its first tile, or name what is not there.
-fn job(s: usize, c: usize, tiles: Vec<Tile>, n: usize) -> Job {
-    Job { s, c, weight: 2.15, tiles, samples: vec![Sample { tile: 0, place: 0 }; n] }
+fn job(size: usize, [s, c]: [usize; 2], tiles: Vec<Tile>, n: usize) -> Job {
+    Job { size, s, c, weight: 2.15, tiles, samples: vec![Sample { tile: 0, place: 0 }; n] }
 }
 
 /// A magnitude's limit, the next float above it, and both below zero, with the number of each; what is no magnitude.

@@ -3,14 +3,14 @@
 
 use terms::rng::Rng;
 
-use super::{Kind, calls, kind, runs, sheets};
+use super::{Kind, SIZES, calls, kind, runs, sheets};
 use crate::call::{Ask, Call};
 use crate::damage::entries::{self, Part};
 use crate::damage::runs as damage;
 use crate::table::Refusal;
 use crate::tally::Tally;
 
-pub const KINDS: &[Kind] = &[kind("damaged entries", 9_000, 108_000, damaged)];
+pub const KINDS: &[Kind] = &[kind("damaged entries", 9_000, 108_000, damaged).bringing(SIZES)];
 
 /// A call that has a palette among its job's colours.
 pub struct Plain {

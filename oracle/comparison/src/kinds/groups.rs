@@ -3,22 +3,29 @@
 use std::collections::{BTreeSet, HashMap};
 
 use answers::rust;
-use terms::jobs::Colours;
+use terms::jobs::{self, Colours};
 use terms::rng::Rng;
 
-use super::{Kind, kind};
+use super::{Kind, SIZES, kind};
 use crate::damage;
 use crate::lent::{self, Lent, nans};
 use crate::ours;
 use crate::table::{self, Refusal};
 use crate::tally::Tally;
 
-pub const KINDS: &[Kind] =
-    &[kind("grouping", 20_000, 200_000, grouping), kind("damaged pixels", 5_000, 50_000, damaged)];
+pub const KINDS: &[Kind] = &[
+    kind("grouping", 20_000, 200_000, grouping).bringing(&["at size 64", "at size 256", ENTRIES, COUNTS]),
+    kind("damaged pixels", 5_000, 50_000, damaged).bringing(SIZES),
+];
+
+/// What is counted of pixels that were grouped: as many entries as can be, and as many pixels of one.
+const ENTRIES: &str = "256 entries";
+const COUNTS: &str = "entries of 256 pixels";
 
 /// A call of grouping as a stranger may make it.
 #[derive(Clone, Debug)]
 pub struct Call {
+    pub size: usize,
     pub p: usize,
     pub pixels: Vec<u8>,
     pub oklab: Vec<f32>,
@@ -31,16 +38,19 @@ pub struct Call {
 
 impl Call {
     fn good(rng: &mut Rng) -> Self {
-        let p = rng.pick(&[0, 1, 2, 16, 63, 64, 64]);
-        Call::of(rng, p)
+        let size = jobs::tile_size(rng);
+        let p = rng.pick(&[0, 1, 2, 16, 63, 64, size - 1, size, size]);
+        Call::of(rng, size, p)
     }
 
-    pub fn of(rng: &mut Rng, p: usize) -> Self {
-        let most = rng.pick(&[1, 2, 255]);
-        let bytes = |rng: &mut Rng| [0; 4].map(|_| rng.below(most + 1) as u8);
+    pub fn of(rng: &mut Rng, size: usize, p: usize) -> Self {
+        // of one colour, of few, of more, each of its own
+        let most = rng.pick(&[0, 1, 2, 255]);
+        let bytes = |rng: &mut Rng| if most == 0 { [9; 4] } else { [0; 4].map(|_| rng.below(most + 1) as u8) };
         let colours = Colours::any(rng, 2.0);
         let mut named: HashMap<[u8; 4], terms::Colour> = HashMap::new();
         let mut call = Call {
+            size,
             p,
             pixels: Vec::new(),
             oklab: Vec::new(),
@@ -66,9 +76,10 @@ impl Call {
 
     fn damage(&mut self, rng: &mut Rng) {
         match rng.below(8) {
+            0 if rng.once_in(2) => self.size = damage::tile_size(rng),
             0 => {
-                self.p =
-                    rng.pick(&[0, self.p.wrapping_add(1), self.p.wrapping_sub(1), 65, usize::MAX, 1 << 62, 1 << 63])
+                let (more, less) = (self.p.wrapping_add(1), self.p.wrapping_sub(1));
+                self.p = rng.pick(&[0, more, less, 65, 257, usize::MAX, 1 << 62, 1 << 63]);
             }
             1 => match rng.below(6) {
                 0 => damage::length(rng, &mut self.pixels),
@@ -105,7 +116,7 @@ impl Call {
     /// What the scope says of it.
     fn refusal(&self) -> Refusal {
         let p = self.p;
-        if p > 64 {
+        if !table::tile_size(self.size) || p > self.size {
             return 2.into();
         }
         let lengths = [
@@ -119,14 +130,14 @@ impl Call {
         if lengths.iter().any(|(lent, implied)| lent != implied) {
             return 3.into();
         }
-        let oklab = |k: usize| &self.oklab[3 * k..3 * k + 3];
+        let mut seen: HashMap<[u8; 4], Vec<u32>> = HashMap::new();
         for k in (0..p).filter(|&k| self.kept(k)) {
-            if !table::within(oklab(k), 2.0) {
+            let oklab = &self.oklab[3 * k..3 * k + 3];
+            if !table::within(oklab, 2.0) {
                 return Refusal { number: 7, index: k };
             }
-            let bits = |k: usize| oklab(k).iter().map(|x| x.to_bits()).collect::<Vec<_>>();
-            let before = (0..k).filter(|&j| self.kept(j) && self.pixel(j) == self.pixel(k));
-            if before.into_iter().any(|j| bits(j) != bits(k)) {
+            let bits = lent::bits(oklab);
+            if *seen.entry(self.pixel(k)).or_insert(bits.clone()) != bits {
                 return 14.into();
             }
         }
@@ -162,8 +173,9 @@ fn grouping(rng: &mut Rng, _: u64, tally: &mut Tally) {
 
 /// Right but for one or two pixels, at known places: the first of them that is kept is named.
 fn damaged(rng: &mut Rng, _: u64, tally: &mut Tally) {
-    let p = rng.pick(&[1, 2, 3, 16, 64]);
-    let mut call = Call::of(rng, p);
+    let size = jobs::tile_size(rng);
+    let p = rng.pick(&[1, 2, 3, 16, size]);
+    let mut call = Call::of(rng, size, p);
     let places: BTreeSet<usize> = (0..rng.among(1, 2)).map(|_| rng.below(p)).collect();
     for &k in &places {
         let oklab = &mut call.oklab[3 * k..3 * k + 3];
@@ -186,6 +198,8 @@ fn damaged(rng: &mut Rng, _: u64, tally: &mut Tally) {
 pub fn grouped(call: &Call, tally: &mut Tally) -> Refusal {
     let refusal = call.refusal();
     let (entries, after) = if refusal.number == 0 { call.grouped() } else { (0, call.clone()) };
+    tally.add(ENTRIES, u64::from(entries == 256));
+    tally.add(COUNTS, u64::from(entries > 0 && after.entry_counts[0] == 256));
 
     let (pixels, oklab) = (lent::bytes(&call.pixels), lent::floats(&call.oklab));
     let mut room = ours::Entries {
@@ -194,13 +208,13 @@ pub fn grouped(call: &Call, tally: &mut Tally) -> Refusal {
         counts: lent::words(&call.entry_counts),
         index: lent::words(&call.index),
     };
-    let answer = ours::group(call.p, &pixels, &oklab, call.zero, &mut room);
+    let answer = ours::group(call.size, call.p, &pixels, &oklab, call.zero, &mut room);
     let left = (
         (room.bytes.values().to_vec(), room.oklab.bits()),
         (room.counts.values().to_vec(), room.index.values().to_vec()),
         guarded(&pixels, &oklab, &room),
     );
-    tally.answered("grouping", refusal);
+    tally.answered("grouping", call.size, refusal);
     tally.left(call.oklab.iter().chain(&after.entry_oklab));
     let oklab = lent::bits(&after.entry_oklab);
     let right = ((after.entry_bytes, oklab), (after.entry_counts, after.index), true);

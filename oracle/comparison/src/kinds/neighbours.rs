@@ -1,21 +1,31 @@
 //! A run taken up on the neighbour's job, at any moment. Where one of its sizes is another, every call but start answers 20 and writes
 //! nothing, whatever the words ahead say; where all are equal, the run is not told apart from the neighbour's own and goes on there, as
-//! docs/SCOPE.md and the Rust do from that state.
+//! docs/SCOPE.md and the Rust do from that state. The tile size is none of them: with the other one, a run goes on where its job passes.
 
 use terms::jobs;
 use terms::rng::Rng;
-use terms::{Job, sizes_word};
+use terms::{Job, Tile, sizes_word};
 
 use super::runs::{Whole, asked};
-use super::{Kind, kind};
+use super::{JOBS, Kind, kind};
 use crate::call::{Ask, Call, Memory};
 use crate::damage::runs as damage;
 use crate::tally::Tally;
 
 pub const KINDS: &[Kind] = &[
-    kind("neighbour of other sizes", 300, 6_000, other_sizes),
-    kind("neighbour of equal sizes", 300, 6_000, equal_sizes),
+    kind("neighbour of other sizes", 300, 6_000, other_sizes).bringing(JOBS),
+    kind("neighbour of equal sizes", 300, 6_000, equal_sizes).bringing(JOBS),
+    kind("neighbour of the other tile size", 300, 6_000, other_tile_size).bringing(&[
+        FROM_64,
+        FROM_256,
+        "refused with 5",
+        "refused with 6",
+    ]),
 ];
+
+/// What is counted of a run that goes on with the other tile size.
+const FROM_64: &str = "runs that went on from 64 to 256";
+const FROM_256: &str = "runs that went on from 256 to 64";
 
 /// What is counted of a run by the stage that it is left in.
 const LEFT_IN: [&str; 8] = [
@@ -30,8 +40,7 @@ const LEFT_IN: [&str; 8] = [
 ];
 
 /// A run of ours that is left at some moment: in a stage, and some calls later.
-fn left(rng: &mut Rng, tally: &mut Tally) -> Whole {
-    let job = jobs::job(rng, 60);
+fn left(rng: &mut Rng, job: Job, tally: &mut Tally) -> Whole {
     let mut run = Whole::of(rng, job);
     let stage = rng.below(8) as u64;
     run.go_on(rng, 1, tally);
@@ -43,16 +52,42 @@ fn left(rng: &mut Rng, tally: &mut Tally) -> Whole {
     run
 }
 
+/// The neighbour's tiles are of either size.
 fn equal_sizes(rng: &mut Rng, _: u64, tally: &mut Tally) {
-    let mut run = left(rng, tally);
+    let job = jobs::job(rng, 60);
+    let mut run = left(rng, job, tally);
     let neighbour = jobs::of_sizes(rng, run.job.sizes());
     run.resume_on(neighbour);
     run.finish(rng, tally);
     tally.add("runs that changed jobs", 1);
 }
 
+/// The same job with the other tile size: it passes there, or some tile is too large.
+fn other_tile_size(rng: &mut Rng, _: u64, tally: &mut Tally) {
+    let made = jobs::tile_size(rng);
+    let job = Job { size: jobs::tile_size(rng).max(made), ..jobs::of_tile_size(rng, made, 60) };
+    let mut run = left(rng, job, tally);
+    let size = 64 + 256 - run.job.size;
+    let too_large = |tile: &Tile| tile.counts.len() > size;
+    let too_full = |tile: &Tile| tile.counts.iter().sum::<u32>() as usize > size;
+    let number = match &run.job.tiles {
+        tiles if tiles.iter().any(too_large) => 5,
+        tiles if tiles.iter().any(too_full) => 6,
+        _ => 0,
+    };
+    run.resume_on(Job { size, ..run.job.clone() });
+    if number == 0 {
+        run.finish(rng, tally);
+        tally.add(if size == 64 { FROM_256 } else { FROM_64 }, 1);
+        return;
+    }
+    tally.add(if number == 5 { "refused with 5" } else { "refused with 6" }, 1);
+    each_answered(&run.call, &damage::asks(rng, &run.call), number, tally);
+}
+
 fn other_sizes(rng: &mut Rng, _: u64, tally: &mut Tally) {
-    let run = left(rng, tally);
+    let job = jobs::job(rng, 60);
+    let run = left(rng, job, tally);
     for (name, sizes) in neighbours(rng, run.job.sizes()) {
         let call = lent(&run.call.memory, &jobs::of_sizes(rng, sizes));
         tally.add(name, 1);

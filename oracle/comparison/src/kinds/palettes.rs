@@ -5,7 +5,7 @@ use terms::jobs::{self, Colours};
 use terms::rng::Rng;
 use terms::{Colour, Edit, Fit, Palette, Tile};
 
-use super::{Kind, kind};
+use super::{Kind, TILES, kind};
 use crate::ours::{self, Flat};
 use crate::reading::fits;
 use crate::tally::Tally;
@@ -13,12 +13,12 @@ use crate::tally::Tally;
 pub const KINDS: &[Kind] = &[
     kind("nearest", 50_000, 500_000, nearest),
     kind("nearest_two", 50_000, 500_000, nearest_two),
-    kind("tile distance", 20_000, 200_000, distance),
-    kind("best_fit", 10_000, 100_000, best_fit),
-    kind("best_two", 10_000, 100_000, best_two),
-    kind("tied runners-up", 20_000, 200_000, tied_two),
+    kind("tile distance", 20_000, 200_000, distance).bringing(TILES),
+    kind("best_fit", 10_000, 100_000, best_fit).bringing(TILES),
+    kind("best_two", 10_000, 100_000, best_two).bringing(TILES),
+    kind("tied runners-up", 20_000, 200_000, tied_two).bringing(TILES),
     kind("nudge", 50_000, 500_000, nudge),
-    kind("one draw", 20_000, 200_000, draw),
+    kind("one draw", 20_000, 200_000, draw).bringing(TILES),
     kind("edits", 20_000, 200_000, edits),
 ];
 
@@ -31,15 +31,17 @@ struct Case {
 }
 
 impl Case {
-    /// The tile is not empty.
-    fn any(rng: &mut Rng) -> Self {
-        let colours = Colours::any(rng, 2.0);
+    /// The tile is not empty, and of either size.
+    fn any(rng: &mut Rng, tally: &mut Tally) -> Self {
+        let (size, colours) = (jobs::tile_size(rng), Colours::any(rng, 2.0));
         let limit = rng.pick(&[2.0, 4.0]);
         let (s, room) = (jobs::sixteen(rng), jobs::sixteen(rng));
         let have = if rng.once_in(2) { room } else { rng.among(1, room) };
         let palette = jobs::palette(rng, s, have, &colours, limit);
         let flat = Flat::new(&palette, room);
-        Case { palette, tile: jobs::full_tile(rng, &colours), weight: jobs::weight(rng), flat }
+        let tile = jobs::full_tile(rng, size, &colours);
+        tally.tiles(std::slice::from_ref(&tile));
+        Case { palette, tile, weight: jobs::weight(rng), flat }
     }
 
     /// Every hint that names a subpalette, and some that name none.
@@ -98,7 +100,7 @@ fn nearest_two(rng: &mut Rng, _: u64, tally: &mut Tally) {
 }
 
 fn distance(rng: &mut Rng, _: u64, tally: &mut Tally) {
-    let case = Case::any(rng);
+    let case = Case::any(rng, tally);
     let empty = Tile::default();
     let tile = if rng.once_in(10) { &empty } else { &case.tile };
     let ours = ours::tile_distance(&case.palette[0], tile, case.weight);
@@ -107,7 +109,7 @@ fn distance(rng: &mut Rng, _: u64, tally: &mut Tally) {
 
 /// From each hint; the hints of other tiles stay.
 fn best_fit(rng: &mut Rng, _: u64, tally: &mut Tally) {
-    let case = Case::any(rng);
+    let case = Case::any(rng, tally);
     let hints = case.hints();
     let fits = rust(case.weight).best_fit(&case.palette, &case.tile, &hints);
     for (&hint, fit) in hints.iter().zip(fits) {
@@ -120,7 +122,7 @@ fn best_fit(rng: &mut Rng, _: u64, tally: &mut Tally) {
 
 /// As `best_fit`; the tile is empty now and then.
 fn best_two(rng: &mut Rng, _: u64, tally: &mut Tally) {
-    let mut case = Case::any(rng);
+    let mut case = Case::any(rng, tally);
     if rng.once_in(10) {
         case.tile = Tile::default();
     }
@@ -130,7 +132,7 @@ fn best_two(rng: &mut Rng, _: u64, tally: &mut Tally) {
 /// The same over copies of a few subpalettes, so that several are next best, and mostly with one of the tile's own colours among them, so
 /// that the winner stands between them.
 fn tied_two(rng: &mut Rng, _: u64, tally: &mut Tally) {
-    let mut case = Case::any(rng);
+    let mut case = Case::any(rng, tally);
     let few = rng.among(1, case.palette.len().min(4));
     let s = rng.among(3, 16);
     case.palette = (0..s).map(|_| case.palette[rng.below(few)].clone()).collect();
@@ -157,7 +159,7 @@ fn nudge(rng: &mut Rng, _: u64, tally: &mut Tally) {
 
 /// A fit, the nearest colour of the winner, its nudge: one draw of the Rust's.
 fn draw(rng: &mut Rng, _: u64, tally: &mut Tally) {
-    let mut case = Case::any(rng);
+    let mut case = Case::any(rng, tally);
     let target = rng.pick(&case.tile.colours);
     let hint = jobs::hints(rng, 1, case.palette.len())[0];
     let (alpha, room) = (rng.pick(&[0.3, 0.5]), case.flat.room);
@@ -175,7 +177,7 @@ fn draw(rng: &mut Rng, _: u64, tally: &mut Tally) {
 }
 
 fn edits(rng: &mut Rng, _: u64, tally: &mut Tally) {
-    let case = Case::any(rng);
+    let case = Case::any(rng, tally);
     let (s, c, room) = (case.palette.len(), case.palette[0].len(), case.flat.room + 1);
     let edit = match rng.below(4) {
         0 => Edit::DuplicatePalette(rng.below(s)),

@@ -7,7 +7,7 @@ use terms::jobs::{self, Colours};
 use terms::rng::Rng;
 use terms::{Colour, Job, Ran, Sample, Steps, Tile};
 
-use super::{Kind, kind};
+use super::{JOBS, Kind, in_turn, kind};
 use crate::call::{Ask, Call, Memory, Outcome};
 use crate::damage::runs as damage;
 use crate::lent::nans;
@@ -17,9 +17,9 @@ use crate::tally::Tally;
 use crate::{ours, saved};
 
 pub const KINDS: &[Kind] = &[
-    kind("run calls", 3_000, 40_000, calls),
-    kind("whole runs", 300, 17_000, whole),
-    kind("largest run", 1, 20, largest),
+    kind("run calls", 3_000, 40_000, calls).bringing(JOBS),
+    kind("whole runs", 300, 17_000, whole).bringing(JOBS),
+    kind("largest run", 2, 20, largest).bringing(JOBS),
 ];
 
 /// Every call on one memory, and now and then once more with no number in its palettes.
@@ -43,7 +43,10 @@ fn each_asked(call: &Call, asks: &[Ask], tally: &mut Tally) {
 pub fn asked(call: &Call, ask: &Ask, tally: &mut Tally) -> Refusal {
     let right = outcome(call, ask);
     let refusal = right.refusal;
-    tally.answered(ask.name(), refusal);
+    tally.answered(ask.name(), call.given.size, refusal);
+    if refusal.number == 0 {
+        tally.tiles(&call.given.tiles());
+    }
     tally.add("draws", right.draws);
     tally.left(right.floats());
     tally.same(ours::answer(call, ask), right, || format!("{ask:?} {call:?}"));
@@ -109,13 +112,18 @@ fn whole(rng: &mut Rng, _: u64, tally: &mut Tally) {
     Whole::of(rng, job).compare(rng, tally);
 }
 
-/// At the limits of all sizes: 16 subpalettes of 16 colours, 1,024 tiles, 16,384 tile colours and samples.
-fn largest(rng: &mut Rng, _: u64, tally: &mut Tally) {
-    let colours = Colours::any(rng, 2.0);
-    let tile = |rng: &mut Rng| Tile { colours: colours.many(rng, 16, 2.0), counts: vec![1; 16] };
-    let tiles: Vec<Tile> = (0..1024).map(|_| tile(rng)).collect();
-    let samples = (0..16_384).map(|i| Sample { tile: i / 16, place: i % 16 }).collect();
-    let job = Job { s: 16, c: 16, weight: 2.15, tiles, samples };
+/// At the limits of all sizes: 16 subpalettes of 16 colours, 1,024 tiles, 16,384 tile colours and samples; of the larger tiles 62 have as
+/// many colours as can be, 512 one that is counted as often.
+fn largest(rng: &mut Rng, case: u64, tally: &mut Tally) {
+    let (size, colours) = (in_turn(case), Colours::any(rng, 2.0));
+    let lengths = if size == 64 { vec![16; 1024] } else { [vec![256; 62], vec![1; 512], vec![0; 450]].concat() };
+    let tile =
+        |&n: &usize| Tile { colours: colours.many(rng, n, 2.0), counts: vec![if n == 1 { size as u32 } else { 1 }; n] };
+    let tiles: Vec<Tile> = lengths.iter().map(tile).collect();
+    let full = lengths.iter().filter(|&&n| n > 0).count();
+    let sample = |i: usize| Sample { tile: i % full, place: i / full % lengths[i % full] };
+    let samples = (0..16_384).map(sample).collect();
+    let job = Job { size, s: 16, c: 16, weight: 2.15, tiles, samples };
     Whole::of(rng, job).compare(rng, tally);
 }
 
@@ -221,7 +229,7 @@ impl Whole {
 
     fn same(&self, ours: Outcome, planned: Planned, tally: &mut Tally) {
         let Planned { ask, right, rusts } = planned;
-        tally.answered(ask.name(), right.refusal);
+        tally.answered(ask.name(), self.job.size, right.refusal);
         tally.add("draws", right.draws);
         tally.left(right.floats());
         let shown = || format!("{ask:?} of seed {:x}, {:?}", self.seed, self.job);
@@ -245,6 +253,8 @@ impl Whole {
         let last = &self.call.memory;
         tally.same((last.palette.clone(), last.hints.clone()), (flat(result), narrow(&hints)), shown);
         tally.add("runs", 1);
+        tally.add(if self.job.size == 64 { "runs at size 64" } else { "runs at size 256" }, 1);
+        tally.tiles(&self.job.tiles);
         tally.add("runs at the Rust's own weight", u64::from(self.job.weight == 2.15));
     }
 }

@@ -5,15 +5,15 @@ use terms::jobs::{self, Colours};
 use terms::rng::Rng;
 use terms::{Colour, Edit, Palette, Tile};
 
-use super::{Kind, kind};
+use super::{Kind, TILES, kind};
 use crate::ours::{self, Cycle, Flat, Job};
 use crate::table::Given;
 use crate::tally::Tally;
 
 pub const KINDS: &[Kind] = &[
-    kind("seed mean", 5_000, 50_000, mean),
-    kind("seed choice", 10_000, 100_000, choice),
-    kind("seeding", 500, 5_000, seeding),
+    kind("seed mean", 5_000, 50_000, mean).bringing(TILES),
+    kind("seed choice", 10_000, 100_000, choice).bringing(TILES),
+    kind("seeding", 500, 5_000, seeding).bringing(TILES),
 ];
 
 /// The palette in a job's room; other numbers stand where none is present, to be left as they are.
@@ -26,8 +26,8 @@ pub fn placed(rng: &mut Rng, palette: &Palette, c: usize, s: usize) -> Flat {
     flat
 }
 
-fn lent(tiles: &[Tile], weight: f32, s: usize, c: usize) -> Job {
-    Job::lent(&Given { s, c, ..Given::new(&vec![vec![[0.0; 3]]], tiles, weight) })
+fn lent(job: &terms::Job) -> Job {
+    Job::lent(&Given { s: job.s, c: job.c, ..Given::new(job.size, &vec![vec![[0.0; 3]]], &job.tiles, job.weight) })
 }
 
 fn narrow(hints: &[usize]) -> Vec<u32> {
@@ -44,7 +44,8 @@ fn mean(rng: &mut Rng, _: u64, tally: &mut Tally) {
     let first = Colours::any(rng, 4.0).one(rng, 4.0);
     let mut flat = placed(rng, &vec![vec![first]], job.c, job.s);
     let mut after = flat.numbers.clone();
-    let lent = lent(&job.tiles, job.weight, job.s, job.c);
+    let lent = lent(&job);
+    tally.tiles(&job.tiles);
     ours::seed(&lent, &pairs(&job), &mut flat);
 
     let hints = jobs::hints(rng, job.tiles.len(), job.s);
@@ -67,30 +68,33 @@ fn mirror(rng: &mut Rng, palette: &mut Palette, tiles: &mut Vec<Tile>) {
     for tile in images {
         tiles.insert(rng.below(tiles.len() + 1), tile);
     }
+    jobs::empty_the_rest(tiles);
 }
 
 /// Among some or all of a job's subpalettes.
 fn choice(rng: &mut Rng, _: u64, tally: &mut Tally) {
-    let colours = Colours::any(rng, 2.0);
+    let (size, colours) = (jobs::tile_size(rng), Colours::any(rng, 2.0));
     let (s, c, t) = (jobs::sixteen(rng), jobs::sixteen(rng), rng.pick(&[1, 2, 5, 20, 60]));
     let subs = if rng.once_in(2) { s } else { rng.among(1, s) };
     let limit = rng.pick(&[2.0, 4.0]);
     let mut palette = jobs::palette(rng, subs, 1, &colours, limit);
-    let mut tiles = jobs::tiles(rng, t, &colours);
+    let mut tiles = jobs::tiles(rng, size, t, &colours);
     if rng.once_in(30) {
         tiles.fill(Tile::default());
     }
     if rng.once_in(3) {
         mirror(rng, &mut palette, &mut tiles);
     }
-    let (weight, mut hints) = (jobs::weight(rng), jobs::hints(rng, tiles.len(), s));
-    let shown = format!("hints {hints:?}, weight {weight:?}, s {s}, c {c}, {tiles:?}, {palette:?}");
+    let job = terms::Job { size, s, c, weight: jobs::weight(rng), tiles, samples: Vec::new() };
+    let mut hints = jobs::hints(rng, job.tiles.len(), s);
+    let shown = format!("hints {hints:?}, {job:?}, {palette:?}");
 
     let flat = placed(rng, &palette, c, s);
     let (before, mut left) = (flat.numbers.clone(), narrow(&hints));
-    let lent = lent(&tiles, weight, s, c);
+    let lent = lent(&job);
+    tally.tiles(&job.tiles);
     let ours = ours::worst(&lent, &flat, &mut left);
-    let rusts = probed(weight).worst(&palette, &tiles, &mut hints);
+    let rusts = probed(job.weight).worst(&palette, &job.tiles, &mut hints);
     tally.same((ours, left, flat.numbers, lent.untouched()), (rusts, narrow(&hints), before, true), || shown);
 }
 
@@ -99,7 +103,8 @@ fn seeding(rng: &mut Rng, _: u64, tally: &mut Tally) {
     let mut job = jobs::job(rng, 300);
     let (s, c, n, seed) = (job.s, job.c, job.samples.len(), rng.bits());
     let hints = jobs::hints(rng, job.tiles.len(), s);
-    let (lent, samples) = (lent(&job.tiles, job.weight, s, c), pairs(&job));
+    let (lent, samples) = (lent(&job), pairs(&job));
+    tally.tiles(&job.tiles);
     let (mut cycle, mut left, mut split) = (Cycle::new(n, seed), narrow(&hints), 0);
     let mut flat = placed(rng, &vec![vec![[0.0; 3]]], c, s);
     let mut after = flat.clone();

@@ -3,100 +3,113 @@
 
 use terms::jobs::{self, Colours};
 use terms::rng::Rng;
+use terms::sheet::{EDITIONS, Edition, MOST_BYTES, Sheet, written};
 
 use super::calls::Call;
-use super::{Kind, kind, whole};
+use super::{JOBS, Kind, SIZES, kind, whole};
 use crate::damage::sheets::{added, damages};
 use crate::lent::{bits as bits_of, nans};
 use crate::ours::{self, Job};
-use crate::sheet::{self, Sheet};
-use crate::table::{Given, Refusal};
+use crate::sheet;
+use crate::table::{Given, Refusal, unless};
 use crate::tally::Tally;
 use crate::{damage, lent, table};
 
 pub const KINDS: &[Kind] = &[
-    kind("sheet reading", 10_000, 100_000, reading),
-    whole("sheet example", 1, example),
-    kind("sheet bits", 5, 50, bits),
-    kind("sheets", 20, 1_000, sheets),
-    kind("largest sheets", 30, 300, largest),
-    kind("sheet writing", 10_000, 100_000, writing),
+    kind("sheet reading", 10_000, 100_000, reading).bringing(JOBS),
+    whole("sheet example", 2, example).bringing(SIZES),
+    kind("sheet bits", 6, 50, bits).bringing(SIZES),
+    kind("sheets", 20, 1_000, sheets).bringing(JOBS),
+    kind("largest sheets", 36, 300, largest).bringing(SIZES),
+    kind("sheet writing", 10_000, 100_000, writing).bringing(JOBS),
 ];
 
 /// The room that a reading needs: tile entries of two numbers, colours of three, counts, palette numbers.
 pub const ROOM: [usize; 4] = [2048, 15_420, 5140, 768];
 
-/// A sheet of a few tiles.
+/// A sheet of a few tiles, of either edition.
 pub fn small(rng: &mut Rng) -> Sheet {
-    let colours = Colours::any(rng, 2.0);
+    let (edition, colours) = (rng.pick(&EDITIONS), Colours::any(rng, 2.0));
     let (s, c) = (rng.pick(&[1, 2, 3, 16]), rng.pick(&[1, 2, 16]));
     let t = rng.among(1, 5);
     Sheet {
+        edition,
         weight: jobs::weight(rng),
         palette: jobs::palette(rng, s, c, &colours, 2.0),
-        tiles: jobs::tiles(rng, t, &colours),
+        tiles: jobs::tiles(rng, edition.size, t, &colours),
     }
 }
 
-/// A sheet with up to three damages, into room that may be too little or more than enough.
+/// A sheet with up to three damages, into room that may be too little or more than enough; now and then another tile size is told.
 fn reading(rng: &mut Rng, _: u64, tally: &mut Tally) {
-    let mut bytes = sheet::written(&small(rng));
+    let sheet = small(rng);
+    let mut bytes = written(&sheet);
     for _ in 0..rng.pick(&[0, 1, 1, 2, 3]) {
         damage::sheets::damage(rng, &mut bytes);
     }
+    let size = if rng.once_in(8) { damage::tile_size(rng) } else { sheet.edition.size };
     let mut room = ROOM;
     if rng.once_in(4) {
         let place = rng.below(4);
         room[place] = rng.pick(&[room[place] - 1, room[place] + 1, 0, room[place] + 77]);
     }
-    read_into(&bytes, room, tally);
+    read_into(size, &bytes, room, tally);
 }
 
-/// A sheet of at most two subpalettes of two colours and three tiles, damaged.
-fn bits(rng: &mut Rng, _: u64, tally: &mut Tally) {
+/// A sheet of at most two subpalettes of two colours and three tiles of at most 64, damaged.
+fn bits(rng: &mut Rng, case: u64, tally: &mut Tally) {
     let mut sheet = small(rng);
+    sheet.edition = EDITIONS[case as usize % 2];
     sheet.palette.truncate(2);
     sheet.palette.iter_mut().for_each(|sub| sub.truncate(2));
-    sheet.tiles.truncate(3);
-    let bytes = sheet::written(&sheet);
-    damages(&bytes).chain(added(&bytes, bytes.len())).for_each(|damaged| compare(&damaged, tally));
+    let (t, colours) = (rng.among(1, 3), Colours::any(rng, 2.0));
+    sheet.tiles = jobs::tiles(rng, 64, t, &colours);
+    let bytes = written(&sheet);
+    let damaged = damages(&bytes).chain(added(&bytes, bytes.len()));
+    damaged.for_each(|damaged| compare(sheet.edition, &damaged, tally));
 }
 
-/// The scope's example, damaged, and with every byte put in at every place.
-fn example(_: &mut Rng, _: u64, tally: &mut Tally) {
-    let bytes = sheet::written(&sheet::example());
-    damages(&bytes).for_each(|damaged| compare(&damaged, tally));
-    (0..=bytes.len()).flat_map(|place| added(&bytes, place)).for_each(|damaged| compare(&damaged, tally));
+/// The scope's example, damaged, by the reader of either edition; and with every byte put in at every place.
+fn example(_: &mut Rng, case: u64, tally: &mut Tally) {
+    let edition = EDITIONS[case as usize];
+    let bytes = written(&sheet::example(edition));
+    for damaged in damages(&bytes) {
+        EDITIONS.iter().for_each(|&told| compare(told, &damaged, tally));
+    }
+    let places = (0..=bytes.len()).flat_map(|place| added(&bytes, place));
+    places.for_each(|damaged| compare(edition, &damaged, tally));
 }
 
 /// Of any size up to the limit: read, and written again.
-fn sheets(rng: &mut Rng, _: u64, tally: &mut Tally) {
-    let colours = Colours::any(rng, 2.0);
+fn sheets(rng: &mut Rng, case: u64, tally: &mut Tally) {
+    let (edition, colours) = (EDITIONS[case as usize % 2], Colours::any(rng, 2.0));
     let (s, c, t) = (jobs::sixteen(rng), jobs::sixteen(rng), rng.among(1, 1024));
     let mut sheet = Sheet {
+        edition,
         weight: jobs::weight(rng),
         palette: jobs::palette(rng, s, c, &colours, 2.0),
-        tiles: jobs::tiles(rng, t, &colours),
+        tiles: jobs::tiles(rng, edition.size, t, &colours),
     };
-    while sheet::written(&sheet).len() > sheet::MOST_BYTES {
+    while written(&sheet).len() > MOST_BYTES {
         sheet.tiles.truncate(sheet.tiles.len() * 3 / 4);
     }
-    let bytes = sheet::written(&sheet);
+    let bytes = written(&sheet);
     tally.add("sheets", 1);
     tally.add("bytes of sheets", bytes.len() as u64);
-    compare(&bytes, tally);
-    written_again(&bytes, tally);
+    compare(edition, &bytes, tally);
+    written_again(edition, &bytes, tally);
 }
 
 /// What our reader makes of a sheet, by our writer: the same bytes.
-fn written_again(bytes: &[u8], tally: &mut Tally) {
-    let found = Given::new(&vec![vec![[0.0; 3]]], &[], 1.0);
+fn written_again(edition: Edition, bytes: &[u8], tally: &mut Tally) {
+    let found = Given::new(edition.size, &vec![vec![[0.0; 3]]], &[], 1.0);
     let room = Given { tiles: vec![0; ROOM[0]], colours: vec![0.0; ROOM[1]], counts: vec![0; ROOM[2]], ..found };
     let (mut job, mut palette) = (Job::lent(&room), lent::floats(&vec![0.0; ROOM[3]]));
     let refusal = ours::sheet_read(&lent::bytes(bytes), &mut job, &mut palette);
     let tiles = &job.tiles.values()[..2 * job.t];
     let colours = tiles.chunks(2).map(|entry| entry[1] as usize).sum::<usize>();
     let given = Given {
+        size: job.size,
         s: job.s,
         c: job.c,
         t: job.t,
@@ -114,15 +127,15 @@ fn written_again(bytes: &[u8], tally: &mut Tally) {
     });
 }
 
-/// Near 65,536 bytes: a colour takes 102 bits, so that many are filled in that the sheet is just below, at or above.
-pub fn large(rng: &mut Rng, more: usize) -> Sheet {
+/// Near 65,536 bytes: so many colours are filled in that the sheet is just below, at or above.
+pub fn large(rng: &mut Rng, edition: Edition, more: usize) -> Sheet {
     let colours = Colours::any(rng, 2.0);
     let t = rng.pick(&[81, 100, 1024]);
-    let fit = (8 * sheet::MOST_BYTES - 182 - 7 * t) / 102;
+    let fit = (8 * MOST_BYTES - edition.bits_without_colours(1, t)) / edition.colour_bits();
     let palette = jobs::palette(rng, 1, 1, &colours, 2.0);
-    let mut sheet = Sheet { weight: 2.15, palette, tiles: vec![Default::default(); t] };
+    let mut sheet = Sheet { edition, weight: 2.15, palette, tiles: vec![Default::default(); t] };
     for k in 0..fit - 1 + more % 3 {
-        let tile = &mut sheet.tiles[k / 64];
+        let tile = &mut sheet.tiles[k / edition.size];
         tile.colours.push(colours.one(rng, 2.0));
         tile.counts.push(1);
     }
@@ -130,20 +143,22 @@ pub fn large(rng: &mut Rng, more: usize) -> Sheet {
 }
 
 fn largest(rng: &mut Rng, case: u64, tally: &mut Tally) {
-    let sheet = large(rng, case as usize);
-    let bytes = sheet::written(&sheet);
-    compare(&bytes, tally);
-    let size = rng.pick(&[sheet::MOST_BYTES, sheet::MOST_BYTES + 1, 2 * sheet::MOST_BYTES]);
-    compare(&[bytes, vec![0; size]].concat()[..size], tally);
+    let edition = EDITIONS[case as usize % 2];
+    let bytes = written(&large(rng, edition, case as usize / 2));
+    compare(edition, &bytes, tally);
+    let size = rng.pick(&[MOST_BYTES, MOST_BYTES + 1, 2 * MOST_BYTES]);
+    compare(edition, &[bytes, vec![0; size]].concat()[..size], tally);
 }
 
-fn compare(bytes: &[u8], tally: &mut Tally) {
-    read_into(bytes, ROOM, tally);
+/// By the reader of an edition.
+fn compare(edition: Edition, bytes: &[u8], tally: &mut Tally) {
+    read_into(edition.size, bytes, ROOM, tally);
 }
 
-/// Reads into room of these sizes: what is filled, and what stays. Gives what the reading here says of it.
-pub fn read_into(bytes: &[u8], room: [usize; 4], tally: &mut Tally) -> Refusal {
+/// Told a tile size, reads into room of these sizes: what is filled, and what stays. Gives what the reading here says of it.
+pub fn read_into(size: usize, bytes: &[u8], room: [usize; 4], tally: &mut Tally) -> Refusal {
     let found = Given {
+        size,
         s: 77,
         c: 78,
         t: 79,
@@ -154,10 +169,12 @@ pub fn read_into(bytes: &[u8], room: [usize; 4], tally: &mut Tally) -> Refusal {
     };
     let found_palette = nans(room[3]);
     let enough = room.iter().zip(ROOM).all(|(has, needs)| *has >= needs);
-    let read = if enough { sheet::read(bytes) } else { Err(3.into()) };
+    let lent = table::first(&[(2, &|| unless(table::tile_size(size))), (3, &|| unless(enough))]);
+    let read = if lent.number == 0 { sheet::read(size, bytes) } else { Err(lent) };
     let (mut right, mut right_palette) = (found.clone(), found_palette.clone());
     if let Ok(sheet) = &read {
-        let given = Given::new(&sheet.palette, &sheet.tiles, sheet.weight);
+        let given = Given::new(size, &sheet.palette, &sheet.tiles, sheet.weight);
+        tally.tiles(&sheet.tiles);
         right.tiles[..given.tiles.len()].copy_from_slice(&given.tiles);
         right.colours[..given.colours.len()].copy_from_slice(&given.colours);
         right.counts[..given.counts.len()].copy_from_slice(&given.counts);
@@ -169,7 +186,7 @@ pub fn read_into(bytes: &[u8], room: [usize; 4], tally: &mut Tally) -> Refusal {
     let right_refusal = read.err().unwrap_or_default();
     let (lent_bytes, mut job, mut palette) = (lent::bytes(bytes), Job::lent(&found), lent::floats(&found_palette));
     let refusal = ours::sheet_read(&lent_bytes, &mut job, &mut palette);
-    tally.answered("sheet reader", right_refusal);
+    tally.answered("sheet reader", size, right_refusal);
     tally.left(right.colours.iter().chain(&right_palette));
     let kept = lent_bytes.untouched() && job.guarded() && palette.guarded();
     let sizes = (job.s, job.c, job.t, job.weight);
@@ -179,15 +196,16 @@ pub fn read_into(bytes: &[u8], room: [usize; 4], tally: &mut Tally) -> Refusal {
     tally.same(
         (refusal, sizes, ours, palette.bits(), kept),
         (right_refusal, right_sizes, (right.tiles, right_colours, right.counts), right_palette, true),
-        || format!("{bytes:02x?}"),
+        || format!("told {size}, {bytes:02x?}"),
     );
     right_refusal
 }
 
 /// A job with its palette, damaged or not, into bytes of any number.
 fn writing(rng: &mut Rng, case: u64, tally: &mut Tally) {
-    let sheet = if case.is_multiple_of(500) { large(rng, case as usize / 500) } else { small(rng) };
-    let mut given = Given::new(&sheet.palette, &sheet.tiles, sheet.weight);
+    let edition = EDITIONS[case as usize / 500 % 2];
+    let sheet = if case.is_multiple_of(500) { large(rng, edition, case as usize / 1000) } else { small(rng) };
+    let mut given = Given::new(sheet.edition.size, &sheet.palette, &sheet.tiles, sheet.weight);
     let mut numbers: Vec<f32> = sheet.palette.iter().flatten().flatten().copied().collect();
     for _ in 0..rng.pick(&[0, 0, 1, 2]) {
         damage::damage(rng, &mut given, &mut numbers);
@@ -208,10 +226,16 @@ pub fn job_written(call: &Call, tally: &mut Tally) -> Refusal {
     written_into(&call.given, &call.palette, &[0x5a; 70_000], tally)
 }
 
-/// The sheet of a call's job and palette. Gives what the reading here says of it.
+/// The sheet of a call's job and palette, by the reader of its edition. Gives what the reading here says of it.
 pub fn job_read(call: &Call, tally: &mut Tally) -> Refusal {
-    let (palette, tiles) = (table::subs(&call.given, &call.palette), call.given.tiles());
-    read_into(&sheet::written(&Sheet { weight: call.given.weight, palette, tiles }), ROOM, tally)
+    let size = call.given.size;
+    read_into(size, &written(&holding(&call.given, &call.palette)), ROOM, tally)
+}
+
+/// The sheet that holds a job, whose tile size and table are right, and its palette.
+fn holding(given: &Given, numbers: &[f32]) -> Sheet {
+    let edition = Edition::of(given.size).unwrap();
+    Sheet { edition, weight: given.weight, palette: table::subs(given, numbers), tiles: given.tiles() }
 }
 
 /// The bytes of the sheet, or the refusal, whatever the room.
@@ -220,22 +244,24 @@ fn sheet_of(given: &Given, numbers: &[f32]) -> Result<Vec<u8>, Refusal> {
         Refusal { number: 0, .. } => {}
         refusal => return Err(refusal),
     }
-    let (palette, tiles) = (table::subs(given, numbers), given.tiles());
-    let bytes = sheet::written(&Sheet { weight: given.weight, palette, tiles });
-    if bytes.len() > sheet::MOST_BYTES { Err(13.into()) } else { Ok(bytes) }
+    let bytes = written(&holding(given, numbers));
+    if bytes.len() > MOST_BYTES { Err(13.into()) } else { Ok(bytes) }
 }
 
 /// Writes where these bytes are found: what is filled, and what stays. Gives what the scope says of it.
 pub fn written_into(given: &Given, numbers: &[f32], found: &[u8], tally: &mut Tally) -> Refusal {
     let fits = |bytes: Vec<u8>| if bytes.len() <= found.len() { Ok(bytes) } else { Err(3.into()) };
-    let written = sheet_of(given, numbers).and_then(fits);
-    let (refusal, bytes) = (written.as_ref().err().copied().unwrap_or_default(), written.unwrap_or_default());
+    let sheet = sheet_of(given, numbers).and_then(fits);
+    let (refusal, bytes) = (sheet.as_ref().err().copied().unwrap_or_default(), sheet.unwrap_or_default());
+    if refusal.number == 0 {
+        tally.tiles(&given.tiles());
+    }
     let right = [&bytes[..], &found[bytes.len()..]].concat();
 
     let (job, palette, mut dst) = (Job::lent(given), lent::floats(numbers), lent::bytes(found));
     let answer = ours::sheet_write(&job, &palette, &mut dst);
     let kept = job.untouched() && palette.untouched() && dst.guarded();
-    tally.answered("sheet writer", refusal);
+    tally.answered("sheet writer", given.size, refusal);
     tally.left(given.colours.iter().chain(numbers));
     tally.same((answer, dst.values().to_vec(), kept), ((refusal, bytes.len()), right, true), || {
         format!("{given:?} {numbers:?}")

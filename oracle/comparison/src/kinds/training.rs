@@ -6,21 +6,22 @@ use terms::rng::Rng;
 use terms::{Held, Palette, Tile};
 
 use super::seeding::placed;
-use super::{Kind, kind};
+use super::{Kind, TILES, kind};
 use crate::ours::{self, Flat, Job};
 use crate::table::Given;
 use crate::tally::Tally;
 
 pub const KINDS: &[Kind] = &[
-    kind("mse", 5_000, 50_000, mse),
-    kind("grow", 5_000, 50_000, grow),
-    kind("replace_weakest", 5_000, 50_000, replace_weakest),
-    kind("refine", 5_000, 50_000, refine),
-    kind("draws", 300, 3_000, draws),
+    kind("mse", 5_000, 50_000, mse).bringing(TILES),
+    kind("grow", 5_000, 50_000, grow).bringing(TILES),
+    kind("replace_weakest", 5_000, 50_000, replace_weakest).bringing(TILES),
+    kind("refine", 5_000, 50_000, refine).bringing(TILES),
+    kind("draws", 300, 3_000, draws).bringing(TILES),
 ];
 
 /// Tiles with hints, and a palette that a run may hold, in room for more.
 struct Case {
+    size: usize,
     palette: Palette,
     tiles: Vec<Tile>,
     weight: f32,
@@ -29,23 +30,24 @@ struct Case {
 }
 
 impl Case {
-    fn any(rng: &mut Rng) -> Self {
-        let colours = Colours::any(rng, 2.0);
+    fn any(rng: &mut Rng, tally: &mut Tally) -> Self {
+        let (size, colours) = (jobs::tile_size(rng), Colours::any(rng, 2.0));
         let limit = rng.pick(&[2.0, 4.0]);
         let (s, room, t) = (jobs::sixteen(rng), jobs::sixteen(rng), rng.pick(&[1, 2, 5, 20, 60]));
         let have = if rng.once_in(2) { room } else { rng.among(1, room) };
         let palette = jobs::palette(rng, s, have, &colours, limit);
-        let mut tiles = jobs::tiles(rng, t, &colours);
+        let mut tiles = jobs::tiles(rng, size, t, &colours);
         if rng.once_in(30) {
             tiles.fill(Tile::default());
         }
+        tally.tiles(&tiles);
         let flat = placed(rng, &palette, room, s);
-        Case { palette, tiles, weight: jobs::weight(rng), hints: jobs::hints(rng, t, s), flat }
+        Case { size, palette, tiles, weight: jobs::weight(rng), hints: jobs::hints(rng, t, s), flat }
     }
 
     /// With every place in use.
-    fn full(rng: &mut Rng) -> Self {
-        let mut case = Case::any(rng);
+    fn full(rng: &mut Rng, tally: &mut Tally) -> Self {
+        let mut case = Case::any(rng, tally);
         case.flat = Flat::new(&case.palette, case.palette[0].len());
         case
     }
@@ -68,7 +70,7 @@ impl Case {
 
     /// The job, as one of so many subpalettes of so many colours as there is room for.
     fn job(&self) -> Job {
-        let mut given = Given::new(&self.palette, &self.tiles, self.weight);
+        let mut given = Given::new(self.size, &self.palette, &self.tiles, self.weight);
         given.c = self.flat.room;
         Job::lent(&given)
     }
@@ -83,7 +85,7 @@ impl Case {
 }
 
 fn mse(rng: &mut Rng, _: u64, tally: &mut Tally) {
-    let case = Case::any(rng);
+    let case = Case::any(rng, tally);
     let (mut lent, mut hints) = (case.narrow_hints(), case.hints.clone());
     let ours = ours::mse(&case.job(), &case.flat, &mut lent);
     let rusts = rust(case.weight).mse(&case.palette, &case.tiles, &mut hints);
@@ -93,7 +95,7 @@ fn mse(rng: &mut Rng, _: u64, tally: &mut Tally) {
 
 /// Where there is room for one colour more.
 fn grow(rng: &mut Rng, _: u64, tally: &mut Tally) {
-    let mut case = Case::any(rng);
+    let mut case = Case::any(rng, tally);
     if case.flat.have == case.flat.room {
         case.flat = placed(rng, &case.palette, case.flat.have + 1, case.palette.len());
     }
@@ -105,7 +107,7 @@ fn grow(rng: &mut Rng, _: u64, tally: &mut Tally) {
 }
 
 fn replace_weakest(rng: &mut Rng, _: u64, tally: &mut Tally) {
-    let case = Case::full(rng);
+    let case = Case::full(rng, tally);
     let weight = case.weight;
     case.compare(
         ours::replace_weakest,
@@ -115,7 +117,7 @@ fn replace_weakest(rng: &mut Rng, _: u64, tally: &mut Tally) {
 }
 
 fn refine(rng: &mut Rng, _: u64, tally: &mut Tally) {
-    let case = Case::full(rng);
+    let case = Case::full(rng, tally);
     let weight = case.weight;
     case.compare(ours::refine, |palette, tiles, hints| probed(weight).refine(palette, tiles, hints), tally);
 }
@@ -131,6 +133,7 @@ fn draws(rng: &mut Rng, _: u64, tally: &mut Tally) {
     if b == 0 {
         return;
     }
+    tally.tiles(&job.tiles);
     let mut cycle = ours::Cycle::new(n, seed);
     let made = (s + c + 8) as u64 * b;
     let held = Held {
@@ -143,7 +146,7 @@ fn draws(rng: &mut Rng, _: u64, tally: &mut Tally) {
     cycle.made = made;
     let mut run = probed(job.weight).resume(&job, &held);
 
-    let lent = Job::lent(&Given::new(&palette, &job.tiles, job.weight));
+    let lent = Job::lent(&Given::new(job.size, &palette, &job.tiles, job.weight));
     let samples: Vec<u32> = job.samples.iter().flat_map(|s| [s.tile as u32, s.place as u32]).collect();
     let (mut flat, mut left) = (Flat::new(&palette, c), hints.iter().map(|&h| h as u32).collect::<Vec<_>>());
     for _ in 0..10 * b - 1 {

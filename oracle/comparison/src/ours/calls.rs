@@ -8,6 +8,7 @@ use foreign::{dunkafeto_assign, lend, probe_group, probe_public_best_two, probe_
 
 /// What every call with a job is lent.
 pub struct Job {
+    pub size: usize,
     pub s: usize,
     pub c: usize,
     pub t: usize,
@@ -20,6 +21,7 @@ pub struct Job {
 impl Job {
     pub fn lent(given: &Given) -> Self {
         Job {
+            size: given.size,
             s: given.s,
             c: given.c,
             t: given.t,
@@ -49,6 +51,7 @@ pub struct Entries {
 
 /// The refusal, and how many entries were written.
 pub fn group(
+    size: usize,
     p: usize,
     pixels: &Lent<u8>,
     oklab: &Lent<f32>,
@@ -59,7 +62,7 @@ pub fn group(
     let (mut entries, mut index) = (0, 0);
     let number = unsafe {
         lend!(probe_group(
-            p, ref pixels, ref oklab, zero.is_some(), r, g, b,
+            size, p, ref pixels, ref oklab, zero.is_some(), r, g, b,
             mut room.bytes, mut room.oklab, mut room.counts, mut room.index, &mut entries, &mut index
         ))
     };

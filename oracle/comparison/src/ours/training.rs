@@ -27,7 +27,7 @@ pub fn refine(job: &Job, palette: &mut Flat, hints: &mut [u32]) {
 pub fn draw(job: &Job, samples: &[u32], cycle: &mut Cycle, palette: &mut Flat, hints: &mut [u32], alpha: f32) {
     cycle.state = unsafe {
         lend!(probe_draw(
-            job.s, job.c, job.t, samples.len() / 2, job.weight,
+            job.size, job.s, job.c, job.t, samples.len() / 2, job.weight,
             ref job.tiles, ref job.colours, ref job.counts, ref samples,
             cycle.state, cycle.made, mut cycle.order, mut palette.numbers, palette.subs, palette.have, mut hints, alpha
         ))
@@ -39,7 +39,7 @@ pub fn draw(job: &Job, samples: &[u32], cycle: &mut Cycle, palette: &mut Flat, h
 pub fn seed(job: &Job, samples: &[u32], palette: &mut Flat) {
     unsafe {
         lend!(probe_seed(
-            job.s, job.c, job.t, samples.len() / 2, job.weight,
+            job.size, job.s, job.c, job.t, samples.len() / 2, job.weight,
             ref job.tiles, ref job.colours, ref job.counts, ref samples, mut palette.numbers
         ))
     }

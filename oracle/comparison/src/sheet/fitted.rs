@@ -2,11 +2,11 @@
 
 use std::fmt::Write;
 
-use super::read;
+use super::read_either;
 use crate::reading::fits::next_best;
 
 pub fn fitted(bytes: &[u8]) -> String {
-    let sheet = match read(bytes) {
+    let sheet = match read_either(bytes) {
         Ok(sheet) => sheet,
         Err(refusal) => return refused(refusal.number),
     };

@@ -15,29 +15,30 @@ use crate::lent::nans;
 use crate::table::Refusal;
 use crate::tally::Tally;
 
-pub fn compare(rng: &mut Rng, tally: &mut Tally) {
+pub fn compare(rng: &mut Rng, size: usize, tally: &mut Tally) {
     let tiles = vec![tile(2), tile(0), tile(3)];
-    for call in [runs(2, 2, &tiles), plain(rng, 2, 2, &tiles)].concat() {
+    for call in [runs(size, [2, 2], &tiles), plain(rng, size, [2, 2], &tiles)].concat() {
         every_component(tally, &call);
         every_two(tally, &call);
     }
-    largest_runs(tally);
-    largest_plain(rng, tally);
+    largest_runs(size, tally);
+    largest_plain(rng, size, tally);
 }
 
 /// A start, and what belongs to each stage.
-fn runs(s: usize, c: usize, tiles: &[Tile]) -> Vec<Good> {
-    let job = job(s, c, tiles.to_vec(), 20);
+fn runs(size: usize, sizes: [usize; 2], tiles: &[Tile]) -> Vec<Good> {
+    let job = job(size, sizes, tiles.to_vec(), 20);
     let start = Good::Run(standing(&job, 0).without_numbers(), Ask::Start(9));
     let belong = (0..8).map(|stage| standing(&job, stage)).map(|call| Good::Run(call.clone(), belonging(&call)));
     [start].into_iter().chain(belong).collect()
 }
 
 /// Single fit and `best_two` of the last tile; assign, writer and reader.
-fn plain(rng: &mut Rng, s: usize, c: usize, tiles: &[Tile]) -> Vec<Good> {
+fn plain(rng: &mut Rng, size: usize, [s, c]: [usize; 2], tiles: &[Tile]) -> Vec<Good> {
     let palette: Palette = vec![vec![[0.25, -0.5, 0.5]; c]; s];
     let taken = |k: usize| if k < 2 { &tiles[tiles.len() - 1..] } else { tiles };
-    PLAIN.iter().enumerate().map(|(k, plain)| Good::Plain(Call::new(rng, &palette, taken(k), 2.15), plain)).collect()
+    let call = |(k, plain)| Good::Plain(Call::new(rng, size, &palette, taken(k), 2.15), plain);
+    PLAIN.iter().enumerate().map(call).collect()
 }
 
 /// All colours that a call looks at: the number of the part, and the colour in it.
@@ -81,9 +82,9 @@ fn every_two(tally: &mut Tally, call: &Good) {
 }
 
 /// 256 places in a palette, 16,384 tile colours.
-fn largest_runs(tally: &mut Tally) {
+fn largest_runs(size: usize, tally: &mut Tally) {
     let (tile, first, second, handed_in) = (at(7, 16_383), at(16, 255), at(16, 511), at(17, 255));
-    for call in &runs(16, 16, &colours_in_all(16_384)) {
+    for call in &runs(size, [16, 16], &colours_in_all(size, 16_384)) {
         let right = match call {
             Good::Run(_, Ask::Start(_)) => vec![tile],
             Good::Run(_, Ask::HandIn(_)) => vec![tile, first, handed_in],
@@ -94,11 +95,14 @@ fn largest_runs(tally: &mut Tally) {
     }
 }
 
-/// The same, and 64 colours of one tile; beside such a palette a sheet to be read has bytes for 4,893 tile colours.
-fn largest_plain(rng: &mut Rng, tally: &mut Tally) {
-    let mut calls = plain(rng, 16, 16, &colours_in_all(16_384));
-    calls[4] = plain(rng, 16, 16, &colours_in_all(4_893)).swap_remove(4);
-    for (call, last) in calls.iter().zip([319, 319, 16_639, 16_639, 5_148]) {
+/// The same, and as many colours of one tile as can be; beside such a palette a sheet to be read has bytes for 4,893 tile colours in tiles
+/// of 64, for 4,802 in tiles of 256.
+fn largest_plain(rng: &mut Rng, size: usize, tally: &mut Tally) {
+    let (of_sheet, lasts) = if size == 64 { (4_893, [319, 5_148]) } else { (4_802, [511, 5_057]) };
+    let [of_tile, of_sheets] = lasts;
+    let mut calls = plain(rng, size, [16, 16], &colours_in_all(size, 16_384));
+    calls[4] = plain(rng, size, [16, 16], &colours_in_all(size, of_sheet)).swap_remove(4);
+    for (call, last) in calls.iter().zip([of_tile, of_tile, 16_639, 16_639, of_sheets]) {
         last_of_parts(tally, call, &[at(7, 255), at(7, last)]);
     }
 }

@@ -4,7 +4,7 @@ use terms::Tile;
 use terms::rng::Rng;
 
 use super::runs::{asks, standing};
-use super::{at, job, listed, tiles};
+use super::{at, job, listed, plain, tiles};
 use crate::call::{Ask, Call};
 use crate::kinds::calls;
 use crate::kinds::runs::asked;
@@ -15,11 +15,11 @@ use crate::tally::Tally;
 /// A number with its index, and what is done to a call that is right.
 type Fault<T> = (Refusal, fn(&mut T));
 
-pub fn compare(rng: &mut Rng, tally: &mut Tally) {
-    let call = standing(&job(2, 2, tiles(2, 3), 20), 3);
+pub fn compare(rng: &mut Rng, size: usize, tally: &mut Tally) {
+    let call = standing(&job(size, [2, 2], tiles(2, 3), 20), 3);
     let [_, _, hand_in, _] = asks(&call);
     every_two(tally, &(call, hand_in), &of_hand_in(), |(call, ask), tally| asked(call, ask, tally));
-    let fit = calls::Call::new(rng, &vec![vec![[0.25, -0.5, 0.5]; 2]; 2], &[Tile::default()], 2.15);
+    let fit = plain::good(rng, size, &[Tile::default()]);
     every_two(tally, &fit, &of_single_fit(), calls::fitted);
 }
 
@@ -37,6 +37,7 @@ fn every_two<T: Clone>(tally: &mut Tally, good: &T, order: &[Fault<T>], compare:
 
 fn of_hand_in() -> Vec<Fault<(Call, Ask)>> {
     vec![
+        (at(2, 0), |(call, _)| call.given.size = 128),
         (at(2, 0), |(call, _)| call.n = 16_385),
         (at(3, 0), |(call, _)| call.memory.hints = Vec::new()),
         (at(1, 0), |(call, _)| (call.n, call.samples, call.memory.order) = Default::default()),
@@ -62,6 +63,7 @@ fn finish(call: &mut Call) {
 /// Of an empty tile, which is the last fault itself and has no count for 6.
 fn of_single_fit() -> Vec<Fault<calls::Call>> {
     vec![
+        (at(2, 0), |call| call.given.size = 128),
         (at(2, 0), |call| call.given.t = 0),
         (at(3, 0), |call| call.hints = Vec::new()),
         (at(4, 0), |call| call.given.weight = f32::NAN),

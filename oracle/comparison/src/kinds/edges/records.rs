@@ -10,15 +10,15 @@ use crate::ours;
 use crate::reading::record::{before, round, waits};
 use crate::tally::Tally;
 
-pub fn compare(tally: &mut Tally) {
-    let jobs = [job(3, 3, tiles(2, 3), 20), job(2, 2, tiles(1, 1), 10), job(16, 16, tiles(2, 3), 25)];
-    for job in &jobs {
-        (0..8).for_each(|stage| of_stage(tally, job, stage));
+pub fn compare(size: usize, tally: &mut Tally) {
+    let jobs = [([3, 3], tiles(2, 3), 20), ([2, 2], tiles(1, 1), 10), ([16, 16], tiles(2, 3), 25)];
+    for job in jobs.map(|(sizes, tiles, n)| job(size, sizes, tiles, n)) {
+        (0..8).for_each(|stage| of_stage(tally, &job, stage));
     }
-    without_rounds(tally);
-    of_lengths(tally);
-    of_sizes(tally);
-    started(tally);
+    without_rounds(size, tally);
+    of_lengths(size, tally);
+    of_sizes(size, tally);
+    started(size, tally);
 }
 
 /// What belongs to the stage that a run is in.
@@ -79,20 +79,20 @@ fn of_stage(tally: &mut Tally, job: &Job, stage: u64) {
 }
 
 /// Where a stage has no round, or a round no draw, it has no record that passes.
-fn without_rounds(tally: &mut Tally) {
-    let nothing_to_draw = job(2, 2, tiles(2, 3), 9);
+fn without_rounds(size: usize, tally: &mut Tally) {
+    let nothing_to_draw = job(size, [2, 2], tiles(2, 3), 9);
     for stage in [0, 1, 2, 4] {
         try_words(tally, &nothing_to_draw, stage, 0, 0, 10);
         try_words(tally, &nothing_to_draw, stage, 0, 1, 10);
     }
     [3, 5, 6, 7].into_iter().for_each(|stage| try_words(tally, &nothing_to_draw, stage, 0, 0, 0));
-    try_words(tally, &job(1, 2, tiles(2, 3), 20), 0, 0, 2, 10);
-    try_words(tally, &job(2, 1, tiles(2, 3), 20), 1, 0, 2, 10);
+    try_words(tally, &job(size, [1, 2], tiles(2, 3), 20), 0, 0, 2, 10);
+    try_words(tally, &job(size, [2, 1], tiles(2, 3), 20), 1, 0, 2, 10);
 }
 
 /// Six words, as records had before they held sizes, and any other number but seven.
-fn of_lengths(tally: &mut Tally) {
-    let job = job(3, 2, tiles(4, 3), 20);
+fn of_lengths(size: usize, tally: &mut Tally) {
+    let job = job(size, [3, 2], tiles(4, 3), 20);
     for (stage, words) in (0..8).flat_map(|stage| [0, 1, 5, 6, 8, 14].map(|words| (stage, words))) {
         let mut call = standing(&job, stage);
         call.memory.record.resize(words, 0);
@@ -100,7 +100,7 @@ fn of_lengths(tally: &mut Tally) {
     }
 }
 
-/// The last word of a job with S 3, C 2, T 4 and n 20.
+/// The last word of a job with S 3, C 2, T 4 and n 20, whatever its tile size.
 const SIZES: u64 = 0x0003_0002_0004_0014;
 
 /// Every bit changed; each size with one more, one less, none and all ones; S and C exchanged, T and n, both halves, all four.
@@ -115,8 +115,8 @@ fn other_sizes() -> Vec<u64> {
 }
 
 /// The word is looked at in every stage by every call but start, after the samples and before the words ahead of it.
-fn of_sizes(tally: &mut Tally) {
-    let job = job(3, 2, tiles(4, 3), 20);
+fn of_sizes(size: usize, tally: &mut Tally) {
+    let job = job(size, [3, 2], tiles(4, 3), 20);
     for stage in 0..8 {
         let good = standing(&job, stage);
         ask(tally, "the job's sizes", &good, &belonging(&good), 0);
@@ -139,10 +139,10 @@ fn of_sizes(tally: &mut Tally) {
 }
 
 /// A start writes the word, whatever stood there.
-fn started(tally: &mut Tally) {
-    let least = (job(1, 1, tiles(1, 1), 1), 0x0001_0001_0001_0001);
-    let most = (job(16, 16, tiles(1024, 1), 16_384), 0x0010_0010_0400_4000);
-    for (job, right) in [(job(3, 2, tiles(4, 3), 20), SIZES), least, most] {
+fn started(size: usize, tally: &mut Tally) {
+    let least = (job(size, [1, 1], tiles(1, 1), 1), 0x0001_0001_0001_0001);
+    let most = (job(size, [16, 16], tiles(1024, 1), 16_384), 0x0010_0010_0400_4000);
+    for (job, right) in [(job(size, [3, 2], tiles(4, 3), 20), SIZES), least, most] {
         for found in [right, 0, u64::MAX, right ^ 1] {
             let mut call = standing(&job, 0);
             call.memory.record[6] = found;

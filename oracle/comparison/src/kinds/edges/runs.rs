@@ -1,8 +1,8 @@
 //! Edges of a run's job and of the memory lent to it, through start, advance, hand-in and result.
 
-use terms::{Job, Sample, sizes_word};
+use terms::{Job, Sample, Tile, sizes_word};
 
-use super::{DONE, around, at, colours_in_all, component, counted, job, listed, tiles, weights};
+use super::{DONE, around, at, colours_in_all, component, counted, job, listed, sums, tiles, weights};
 use crate::call::{Ask, Call};
 use crate::lent::nans;
 use crate::ours;
@@ -14,11 +14,12 @@ use crate::tally::Tally;
 /// The stages in which start, advance, hand-in and result are tried.
 const MOMENTS: [u64; 4] = [0, 2, 3, 7];
 
-pub fn compare(tally: &mut Tally) {
-    of_jobs(tally);
-    of_samples(tally);
-    of_memory(tally);
-    of_lengths(tally);
+pub fn compare(size: usize, tally: &mut Tally) {
+    of_sizes(size, tally);
+    of_tiles(size, tally);
+    of_samples(size, tally);
+    of_memory(size, tally);
+    of_lengths(size, tally);
 }
 
 /// A job's run at the first draw of a stage, or at a stop.
@@ -57,14 +58,23 @@ pub fn ask(tally: &mut Tally, what: &str, call: &Call, ask: &Ask, right: impl In
 fn asked(tally: &mut Tally, what: &str, call: &Call, ask: &Ask) -> Refusal {
     let right = outcome(call, ask);
     let refusal = right.refusal;
-    tally.answered(ask.name(), refusal);
+    tally.answered(ask.name(), call.given.size, refusal);
+    if refusal.number == 0 {
+        tally.tiles(&call.given.tiles());
+    }
     tally.left(right.floats());
     tally.same(ours::answer(call, ask), right, || format!("{what}: {}", ask.name()));
     refusal
 }
 
 /// The four calls, after an edit of the memory at their moment and of what they are given.
-fn each(tally: &mut Tally, what: &str, job: &Job, right: [impl Into<Refusal>; 4], edit: impl Fn(&mut Call, &mut Ask)) {
+pub fn each(
+    tally: &mut Tally,
+    what: &str,
+    job: &Job,
+    right: [impl Into<Refusal>; 4],
+    edit: impl Fn(&mut Call, &mut Ask),
+) {
     for ((k, stage), right) in MOMENTS.into_iter().enumerate().zip(right) {
         let mut call = standing(job, stage);
         let mut asked = asks(&call)[k].clone();
@@ -73,57 +83,62 @@ fn each(tally: &mut Tally, what: &str, job: &Job, right: [impl Into<Refusal>; 4]
     }
 }
 
-fn of_jobs(tally: &mut Tally) {
-    let two = || tiles(2, 3);
+fn of_sizes(size: usize, tally: &mut Tally) {
+    let job = |sizes: [usize; 2], t: usize, n: usize| job(size, sizes, tiles(t, 3), n);
     let mut whole = |what: &str, job: Job, number: u32| each(tally, what, &job, [number; 4], |_, _| {});
     for (n, number) in [(16_384, 0), (16_385, 2), (0, 1), (10, 0)] {
-        whole(&format!("{n} samples"), job(2, 2, two(), n), number);
+        whole(&format!("{n} samples"), job([2, 2], 2, n), number);
     }
     for (size, number) in [(16, 0), (17, 2), (1, 0)] {
-        whole(&format!("S {size}"), job(size, 2, two(), 20), number);
-        whole(&format!("C {size}"), job(2, size, two(), 20), number);
+        whole(&format!("S {size}"), job([size, 2], 2, 20), number);
+        whole(&format!("C {size}"), job([2, size], 2, 20), number);
     }
     for (t, number) in [(1024, 0), (1025, 2)] {
-        whole(&format!("T {t}"), job(2, 2, tiles(t, 1), 20), number);
-    }
-    for (n, number) in [(16_384, 0), (16_385, 5)] {
-        whole(&format!("{n} tile colours"), job(2, 2, colours_in_all(n), 20), number);
-    }
-    for (n, number) in [(64, 0), (65, 5)] {
-        whole(&format!("a tile of {n} colours"), job(2, 2, tiles(1, n), 20), number);
-    }
-    for (counts, number) in [([63, 1], 0), ([64, 1], 6), ([1, 64], 6), ([0, 1], 6), ([u32::MAX, 1], 6)] {
-        whole(&format!("counts {counts:?}"), job(2, 2, counted(counts), 20), number);
-    }
-    for (x, number) in around(2.0, 7) {
-        whole(&format!("component {x:?}"), job(2, 2, component(x), 20), number);
-    }
-    for (weight, number) in weights() {
-        whole(&format!("weight {weight:?}"), Job { weight, ..job(2, 2, two(), 20) }, number);
+        whole(&format!("T {t}"), job([2, 2], t, 20), number);
     }
     for n in [1, 9] {
         // with nothing to draw there is no record in stage 2, where advance is tried
-        each(tally, &format!("{n} samples"), &job(2, 2, two(), n), [0, 10, 0, 0], |_, _| {});
+        each(tally, &format!("{n} samples"), &job([2, 2], 2, n), [0, 10, 0, 0], |_, _| {});
     }
     for size in [0, 1 << 32, 1 << 63, usize::MAX] {
-        let good = job(2, 2, two(), 20);
+        let good = job([2, 2], 2, 20);
         each(tally, &format!("S {size}"), &good, [2; 4], |call, _| call.given.s = size);
         each(tally, &format!("C {size}"), &good, [2; 4], |call, _| call.given.c = size);
         each(tally, &format!("T {size}"), &good, [2; 4], |call, _| call.given.t = size);
     }
 }
 
+fn of_tiles(size: usize, tally: &mut Tally) {
+    let job = |tiles: Vec<Tile>| job(size, [2, 2], tiles, 20);
+    let mut whole = |what: &str, job: Job, number: u32| each(tally, what, &job, [number; 4], |_, _| {});
+    for (n, number) in [(16_384, 0), (16_385, 5)] {
+        whole(&format!("{n} tile colours"), job(colours_in_all(size, n)), number);
+    }
+    for (n, number) in [(size, 0), (size + 1, 5)] {
+        whole(&format!("a tile of {n} colours"), job(tiles(1, n)), number);
+    }
+    for (counts, number) in sums(size).into_iter().chain([(vec![0, 1], 6), (vec![u32::MAX, 1], 6)]) {
+        whole(&format!("counts {counts:?}"), job(counted(&counts)), number);
+    }
+    for (x, number) in around(2.0, 7) {
+        whole(&format!("component {x:?}"), job(component(x)), number);
+    }
+    for (weight, number) in weights() {
+        whole(&format!("weight {weight:?}"), Job { weight, ..job(tiles(2, 3)) }, number);
+    }
+}
+
 /// Tile and place, the last that are there and the first that are not.
-fn of_samples(tally: &mut Tally) {
+fn of_samples(size: usize, tally: &mut Tally) {
     for (tile, place, number) in [(1, 2, 0), (2, 0, 8), (1, 3, 8), (0, 3, 8)] {
-        let mut job = job(2, 2, tiles(2, 3), 20);
+        let mut job = job(size, [2, 2], tiles(2, 3), 20);
         job.samples[19] = Sample { tile, place };
         each(tally, &format!("tile {tile} place {place}"), &job, [number; 4], |_, _| {});
     }
 }
 
-fn of_memory(tally: &mut Tally) {
-    let good = job(2, 2, tiles(2, 3), 20);
+fn of_memory(size: usize, tally: &mut Tally) {
+    let good = job(size, [2, 2], tiles(2, 3), 20);
     for (x, number) in around(4.0, 16) {
         let what = format!("working component {x:?}");
         let last = at(number, 3);
@@ -157,11 +172,11 @@ fn of_memory(tally: &mut Tally) {
 }
 
 /// Each lent slice with one item more and one less.
-fn of_lengths(tally: &mut Tally) {
+fn of_lengths(size: usize, tally: &mut Tally) {
     fn other<T: Copy + Default>(items: &mut Vec<T>, more: bool) {
         items.resize(if more { items.len() + 1 } else { items.len() - 1 }, T::default());
     }
-    let good = job(2, 2, tiles(2, 3), 20);
+    let good = job(size, [2, 2], tiles(2, 3), 20);
     for more in [false, true] {
         let mut wrong = |what: &str, edit: &dyn Fn(&mut Call)| {
             each(tally, what, &good, [3; 4], |call, _| edit(call));
