@@ -10,9 +10,12 @@ oracle = sys.argv[1]
 words, cases, compared = [], 0, 0
 FOUND, MASK = 0x7fa5a5a5, 2 ** 64 - 1
 TWO, ABOVE, MINUS, ABOVE_FOUR = 0x40000000, 0x40000001, 0x80000000, 0x40800001
-START, ADVANCE, HAND_IN, RESULT, ADVANCE_DAMAGED, ADVANCE_RESIZED = 0, 1, 2, 3, 4, 5
+START, ADVANCE, HAND_IN, RESULT, ADVANCE_DAMAGED, ADVANCE_RESIZED, TOLD = 0, 1, 2, 3, 4, 5, 6
 # what is answered: a number, and the index that goes with it
-DONE, SIZE, COUNT, OTHER_SIZES = (0, 0), (2, 0), (6, 0), (20, 0)
+DONE, SIZE, TABLE, COUNT, EDITION, OTHER_SIZES = (0, 0), (2, 0), (5, 0), (6, 0), (12, 0), (20, 0)
+# tile sizes: their edition's number, the bits of a tile's number of colours, those of a count less 1
+EDITIONS = {64: (1, 7, 6), 256: (2, 9, 8)}
+NO_SIZES = (0, 1, 63, 65, 128, 255, 257, 512)
 
 
 def bits(x):
@@ -75,11 +78,11 @@ def done(told, left):
 
 
 class Job:
-    def __init__(self, s, c, t, each, total, component, weight=2.15):
-        self.s, self.c, self.t, self.weight = s, c, t, bits(weight)
-        self.numbers = [s, c, t, each, total, component, bits(weight)]
+    def __init__(self, s, c, t, each, total, component, weight=2.15, size=64):
+        self.s, self.c, self.t, self.weight, self.size = s, c, t, bits(weight), size
+        self.numbers = [size, s, c, t, each, total, component, bits(weight)]
         counts = [1] * (each - 1) + [total + 1 - each]
-        self.tiles = [[([bits(k / 64), bits(i / 64), bits(-(k / 128))], counts[k]) for k in range(each)] for i in range(t)]
+        self.tiles = [[([bits(k % 64 / 64), bits(i / 64), bits(-(k / 128))], counts[k]) for k in range(each)] for i in range(t)]
         self.tiles[-1][-1][0][1] = component
         self.hints = [i % (s + 1) for i in range(t)]
 
@@ -105,6 +108,8 @@ def run(job, n, seed, calls):
     states = held(job, n, seed, each, calls)
     for call, answer in calls:
         words.extend(call)
+        if call[0] == TOLD:
+            continue
         if answer != DONE:
             refused(answer)
             continue
@@ -131,13 +136,14 @@ def held(job, n, seed, each, calls):
 
 
 def sheet(job, palette):
-    """The fit sheet of docs/SCOPE.md."""
-    fields = [(0x54464954, 32), (1, 4), (job.s - 1, 4), (job.c - 1, 4), (job.t - 1, 10), (job.weight, 32)]
+    """The fit sheet of docs/SCOPE.md, in the edition of the job's tile size."""
+    number, length_bits, count_bits = EDITIONS[job.size]
+    fields = [(0x54464954, 32), (number, 4), (job.s - 1, 4), (job.c - 1, 4), (job.t - 1, 10), (job.weight, 32)]
     fields += [(x, 32) for x in palette]
     for tile in job.tiles:
-        fields.append((len(tile), 7))
+        fields.append((len(tile), length_bits))
         for colour, count in tile:
-            fields += [(count - 1, 6)] + [(x, 32) for x in colour]
+            fields += [(count - 1, count_bits)] + [(x, 32) for x in colour]
     text = "".join(format(value, "0%db" % width) for value, width in fields)
     text += "0" * (-len(text) % 8)
     return [int(text[i:i + 8], 2) for i in range(0, len(text), 8)]
@@ -161,11 +167,12 @@ def fits(job, component, answer):
     done([len(written)], written + [FOUND & 255] * (4096 - len(written)))
 
 
-def read(job, component, answer):
+def read(job, component, answer, told=None):
+    """By a reader that is told the job's tile size, or another."""
     palette = job.palette(component)
     written = sheet(job, palette)
     padded = bytes(written + [0] * (-len(written) % 4))
-    put([3, len(written)] + list(struct.unpack(">%dI" % (len(padded) // 4), padded)))
+    put([3, job.size if told is None else told, len(written)] + list(struct.unpack(">%dI" % (len(padded) // 4), padded)))
     if answer != DONE:
         return refused(answer)
     left = []
@@ -174,9 +181,9 @@ def read(job, component, answer):
     done([job.s, job.c, job.t, job.weight], left)
 
 
-def group(pixels, answer):
+def group(pixels, answer, size=64):
     p = len(pixels)
-    put([4, p] + [x for rgba, colour in pixels for x in [rgba] + colour])
+    put([4, size, p] + [x for rgba, colour in pixels for x in [rgba] + colour])
     if answer != DONE:
         return refused(answer)
     count, *rest = ask("group", [0, p] + [x for rgba, colour in pixels for x in [rgba] + colour])
@@ -216,8 +223,23 @@ def resized(sizes):
     return [([ADVANCE_RESIZED] + double(other), OTHER_SIZES) for other in others]
 
 
-def small(t=1, total=64, component=TWO):
-    return Job(2, 2, t, 2, total, component)
+def from_here(size):
+    """What the calls of a run are told from there on."""
+    return ([TOLD, size], None)
+
+
+def small(t=1, total=64, component=TWO, size=64):
+    return Job(2, 2, t, 2, total, component, size=size)
+
+
+def large(each, t=1, size=256):
+    """Tiles of so many colours, each counted once."""
+    return Job(2, 2, t, each, each, TWO, size=size)
+
+
+def colours(p):
+    """Pixels of colours of their own, but for the last, which has the first's."""
+    return [(k % (p - 1) << 8 | 255, [bits(k % (p - 1) / 256), 0, 0]) for k in range(p)]
 
 
 # samples
@@ -251,6 +273,39 @@ run(small(t=2), 20, 10, stages + others)
 first, to_stop, *others = whole(TWO)
 wrong = resized(0x0003000200040014)
 run(Job(3, 2, 4, 2, 64, TWO), 20, 11, [first] + wrong + [(advance(5), DONE)] + wrong + [to_stop] + wrong + others)
+# tile sizes: counts that add up to 256 and 257; 65, 256 and 257 colours of a tile; 65, 256 and 257 pixels
+run(small(t=3, total=256, size=256), 20, 12, whole(TWO))
+run(small(t=3, total=257, size=256), 20, 12, every(COUNT))
+run(large(256, t=2), 20, 13, whole(TWO))
+run(large(257, t=2), 20, 13, every(TABLE))
+run(large(65, size=64), 20, 13, every(TABLE))
+for call in (fits, read):
+    call(small(total=256, size=256), TWO, DONE)
+    call(small(total=257, size=256), TWO, COUNT)
+    call(Job(2, 2, 1, 1, 256, TWO, size=256), TWO, DONE)
+    call(large(65), TWO, DONE)
+    call(large(65, size=64), TWO, TABLE)
+    call(large(256), TWO, DONE)
+    call(large(257), TWO, TABLE)
+for size, p, answer in ((64, 64, DONE), (64, 65, SIZE), (256, 65, DONE), (256, 256, DONE), (256, 257, SIZE)):
+    group(colours(p), answer, size)
+group([(0x010203ff, [0, 0, 0])] * 256, DONE, 256)
+# a reader that is told the other edition's tile size; tile sizes that there are not
+read(small(), TWO, EDITION, told=256)
+read(small(size=256), TWO, EDITION, told=64)
+for size in NO_SIZES:
+    run(small(size=size), 20, 14, every(SIZE))
+    fits(small(size=size), TWO, SIZE)
+    read(small(), TWO, SIZE, told=size)
+    group(colours(2), SIZE, size)
+# the record does not hold it: a run goes on with the other where its job passes, and is refused where a tile is too large
+first, to_stop, *others = whole(TWO)
+switched = [first, from_here(256), (advance(5), DONE), from_here(128), (advance(5), SIZE), from_here(64), to_stop, from_here(256)] + others
+run(small(t=2), 20, 15, switched)
+switched = [first, from_here(64), (advance(5), TABLE), from_here(256), (advance(5), DONE), from_here(64), ([RESULT], TABLE), from_here(256), to_stop] + others
+run(large(65, t=2), 20, 16, switched)
+switched = [first, from_here(64), (advance(5), COUNT), from_here(256), to_stop, from_here(64), ([HAND_IN, TWO], COUNT), from_here(256)] + others
+run(small(t=2, total=65, size=256), 20, 17, switched)
 
 here = os.path.dirname(os.path.abspath(__file__))
 with open(os.path.join(here, "edges"), "wb") as out:

@@ -54,7 +54,7 @@ def palette(kind, n, have):
 FIT, TWO, MSE = 1, 2, 3
 
 
-def job(subs, room, tiles, hints, weight):
+def job(subs, room, tiles, hints, weight, size=64):
     """Each tile's fit and best two, and the error, from these hints; `room` more subpalettes and colours have room than are present."""
     n, have = len(subs), len(subs[0])
     stride = have + room
@@ -69,7 +69,7 @@ def job(subs, room, tiles, hints, weight):
     spelt = [hexes([len(tile)] + [x for c, count in tile for x in c + [count]]) for tile in tiles]
 
     def case(kind, i, answer, left):
-        put([1, kind, i, n + room, stride, n, have, len(tiles), first, weight] + lists)
+        put([1, kind, i, size, n + room, stride, n, have, len(tiles), first, weight] + lists)
         answers(answer + left)
 
     for i, tile in enumerate(tiles):
@@ -112,6 +112,10 @@ for n in (0, 1, 2, 3, 7, 16):
         put([3, n] + flat + [w] + q)
         answers(ask("nearest " + hexes([w] + q + flat)))
         answers(ask("nearest_two " + hexes([w] + q + flat)))
+# tiles of 256 colours, a colour counted 256 times, more colours than 64 and counts that sum to more
+for kind in ("any", "grid"):
+    many = [[(colour(kind), 1) for _ in range(256)], [(colour(kind), 256)], [(colour(kind), draw.randint(1, 3)) for _ in range(70)]]
+    job(palette(kind, 3, 2), 1, many, [0, 2, 99], bits(2.15), 256)
 
 here = os.path.dirname(os.path.abspath(__file__))
 with open(os.path.join(here, "palette"), "wb") as out:

@@ -33,11 +33,11 @@ def colour(grid):
     return [bits(draw.uniform(0, 1))] + [bits(draw.uniform(-0.5, 0.5)) for _ in "ab"]
 
 
-def run(s, c, tiles, n, weight, grid, allotments):
+def run(s, c, tiles, n, weight, grid, allotments, size=64):
     """A whole run of tiles given by their numbers of colours, in calls of these sizes, used over and over until it is finished."""
     global runs, compared
     t, seed = len(tiles), draw.getrandbits(64)
-    content = [[(colour(grid), draw.randrange(1, 5)) for _ in range(k)] for k in tiles]
+    content = [[(colour(grid), draw.randrange(1, min(4, size // k) + 1)) for _ in range(k)] for k in tiles]
     hints = [draw.choice([0, 1, 99]) for _ in tiles]
     full = [i for i, k in enumerate(tiles) if k]
     samples = [(i, draw.randrange(tiles[i])) for i in (draw.choice(full) for _ in range(n))]
@@ -65,7 +65,7 @@ def run(s, c, tiles, n, weight, grid, allotments):
         table += [first, k]
         first += k
     runs += 1
-    words.extend([s, c, t, first, n, 3 * s * c, bits(weight)] + double(seed) + [len(sizes)] + table)
+    words.extend([size, s, c, t, first, n, 3 * s * c, bits(weight)] + double(seed) + [len(sizes)] + table)
     words.extend(count for tile in content for _, count in tile)
     words.extend(x for tile in content for k, _ in tile for x in k)
     words.extend(x for sample in samples for x in sample)
@@ -98,6 +98,12 @@ run(1, 3, [4, 0, 3], 30, 1.0, True, [LARGE])
 run(2, 2, [3, 1], 9, 2.15, False, [3])
 run(4, 4, [5, 4, 6, 0, 3, 5, 4, 2], 40, 2.15, False, [61, 100])
 run(4, 2, [1, 1, 2, 1, 3], 20, 1.0, True, [9, 40, 0])
+# tiles of more colours than 64, and of as many as can be
+run(2, 2, [65, 0, 3, 100], 25, 2.15, False, [7, 0, 1, 30], 256)
+run(3, 2, [256, 1, 256, 128, 0], 40, 2.15, True, [19, LARGE], 256)
+run(1, 1, [255], 10, 1.0, False, [3], 256)
+# any tiles
+run(4, 4, [5, 4, 6, 0, 3, 5, 4, 2], 40, 2.15, False, [61, 100], 256)
 here = os.path.dirname(os.path.abspath(__file__))
 with open(os.path.join(here, "runs"), "wb") as out:
     out.write(struct.pack(">%dI" % (1 + len(words)), runs, *words))

@@ -27,17 +27,18 @@ pub fn best_two(job: &Job, palette: &[f32], hints: &mut [u32]) -> (Answer, usize
 
 /// The answer, and the bytes that the sheet has.
 pub fn sheet_write(job: &Job, palette: &[f32], dst: &mut [u8]) -> (Answer, usize) {
-    let (mut size, mut fault) = (0, 0);
-    let number = unsafe { lend!(probe_sheet_write(..job, ref palette, mut dst, &mut size, &mut fault)) };
-    ((number, fault), size)
+    let (mut written, mut fault) = (0, 0);
+    let number = unsafe { lend!(probe_sheet_write(..job, ref palette, mut dst, &mut written, &mut fault)) };
+    ((number, fault), written)
 }
 
-/// The answer; the job's slices and the palette are the room that is filled, its sizes and weight become the sheet's.
+/// The answer of a reading that is told the job's tile size; its slices and the palette are the room that is filled, its other sizes and its
+/// weight become the sheet's.
 pub fn sheet_read(bytes: &[u8], job: &mut Job, palette: &mut [f32]) -> Answer {
     let mut fault = 0;
     let number = unsafe {
         lend!(probe_sheet_read(
-            ref bytes, mut job.tiles, mut job.colours, mut job.counts, mut palette,
+            job.size, ref bytes, mut job.tiles, mut job.colours, mut job.counts, mut palette,
             &mut job.s, &mut job.c, &mut job.t, &mut job.weight, &mut fault
         ))
     };
@@ -53,11 +54,11 @@ pub struct Entries {
 }
 
 /// The answer, and how many entries were written; no colour is the zero.
-pub fn group(pixels: &[u8], oklab: &[f32], room: &mut Entries) -> (Answer, usize) {
+pub fn group(size: usize, pixels: &[u8], oklab: &[f32], room: &mut Entries) -> (Answer, usize) {
     let (mut entries, mut fault) = (0, 0);
     let number = unsafe {
         lend!(probe_group(
-            room.index.len(), ref pixels, ref oklab, false, 0, 0, 0,
+            size, room.index.len(), ref pixels, ref oklab, false, 0, 0, 0,
             mut room.bytes, mut room.oklab, mut room.counts, mut room.index, &mut entries, &mut fault
         ))
     };

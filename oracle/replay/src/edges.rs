@@ -1,11 +1,12 @@
 //! The limits that docs/SCOPE.md has run, on both sides, by every public call that they concern. A case's first word says what it
-//! has; values are f32 patterns. Large jobs are made here from a few numbers: S, C, T, the colours of a tile, the sum of its counts, a
-//! component of the last tile colour, the weight; palettes from a component of their last colour.
+//! has; values are f32 patterns. Large jobs are made here from a few numbers: the tile size, S, C, T, the colours of a tile, the sum of
+//! its counts, a component of the last tile colour, the weight; palettes from a component of their last colour.
 //! 1: a job, n samples, a seed of two words, the number of calls. A call is 0 a start, 1 an allotment of two words and an advance, 2 a
 //!    component and a hand-in, 3 a result, 4 a place in both working palettes in a row, a component and an advance on a copy that has it
-//!    there, 5 a number of two words and an advance on a copy that has it as its record's last word. 2: a job and a component, by
-//!    `assign`, single fit, `best_two` and the sheet's writer.
-//! 3: a sheet, its number of bytes and its bytes, four to a word. 4: p pixels to group, each r, g, b, a in a word and its Oklab.
+//!    there, 5 a number of two words and an advance on a copy that has it as its record's last word; 6 is no call but the tile size that
+//!    those behind it are told. 2: a job and a component, by `assign`, single fit, `best_two` and the sheet's writer.
+//! 3: a sheet, the tile size that its reader is told, its number of bytes and its bytes, four to a word. 4: a tile size and p pixels to
+//!    group, each r, g, b, a in a word and its Oklab.
 //! After each call its number. Where that is 0, what the call answers, in numbers of two words, and the digest of all memory that it is
 //! lent to write, from 0 as in the list of leaves; after any other number the index that goes with it, and nothing is written.
 
@@ -20,9 +21,10 @@ const FOUND: u32 = 0x7fa5_a5a5;
 const ROOM: [usize; 3] = [768, 2048, 5140];
 const MOST_SIZE: usize = 16;
 const MOST_TILES: usize = 64;
+const MOST_COLOURS: usize = 257;
 const MOST_SAMPLES: usize = 16_385;
 const MOST_BYTES: usize = 4096;
-const MOST_PIXELS: usize = 64;
+const MOST_PIXELS: usize = 257;
 
 pub fn case(list: &mut List) -> Read<()> {
     match list.word()? {
@@ -56,14 +58,14 @@ fn words(numbers: &[&[u32]], floats: &[&[f32]]) -> Vec<u64> {
 
 /// Tiles of as many colours; each count is 1 but a tile's last.
 fn job(list: &mut List) -> Read<Job> {
-    let [s, c] = [list.number(MOST_SIZE)?, list.number(MOST_SIZE)?];
-    let [t, each, sum] = [list.number(MOST_TILES)?, list.number(MOST_TILES)?, list.number(2 * MOST_TILES)?];
+    let [size, s, c] = [list.word()? as usize, list.number(MOST_SIZE)?, list.number(MOST_SIZE)?];
+    let [t, each, sum] = [list.number(MOST_TILES)?, list.number(MOST_COLOURS)?, list.number(2 * MOST_COLOURS)?];
     let (component, weight) = (list.float()?, list.float()?);
     if t == 0 || each == 0 || sum < each {
         return list.refuse("no such job is made");
     }
-    let colour = |i: usize, k: usize| [k as f32 / 64.0, i as f32 / 64.0, -(k as f32) / 128.0];
-    let mut job = Job { s, c, t, weight, ..Job::default() };
+    let colour = |i: usize, k: usize| [(k % 64) as f32 / 64.0, i as f32 / 64.0, -(k as f32) / 128.0];
+    let mut job = Job { size, s, c, t, weight, ..Job::default() };
     for i in 0..t {
         job.tiles.extend([(i * each) as u32, each as u32]);
         job.counts.extend((1..=each).map(|k| if k < each { 1 } else { (sum + 1 - each) as u32 }));
@@ -102,16 +104,21 @@ fn run(list: &mut List) -> Read<()> {
         record: [FOUND.into(); 7],
     };
     for _ in 0..list.word()? {
-        call(list, &job, seed, &mut memory)?;
+        call(list, &mut job, seed, &mut memory)?;
     }
     Ok(())
 }
 
-fn call(list: &mut List, job: &Job, seed: u64, memory: &mut Memory) -> Read<()> {
-    let asked = list.word()?;
-    if asked == 4 || asked == 5 {
-        return advance_damaged(list, job, memory.clone(), asked);
+fn call(list: &mut List, job: &mut Job, seed: u64, memory: &mut Memory) -> Read<()> {
+    match list.word()? {
+        6 => job.size = list.word()? as usize,
+        asked @ (4 | 5) => advance_damaged(list, job, memory.clone(), asked)?,
+        asked => call_of_run(list, job, seed, memory, asked)?,
     }
+    Ok(())
+}
+
+fn call_of_run(list: &mut List, job: &Job, seed: u64, memory: &mut Memory, asked: u32) -> Read<()> {
     // a result alone is lent room
     let mut room = found(if asked == 3 { memory.palette.len() } else { 0 });
     let lent = held(memory, &room);
@@ -180,12 +187,12 @@ fn bytes(all: &[u8]) -> Vec<u64> {
 }
 
 fn sheet(list: &mut List) -> Read<()> {
-    let size = list.number(MOST_BYTES)?;
-    let all = list.words(size.div_ceil(4))?;
-    let sheet: Vec<u8> = all.into_iter().flat_map(u32::to_be_bytes).take(size).collect();
+    let (told, many) = (list.word()? as usize, list.number(MOST_BYTES)?);
+    let all = list.words(many.div_ceil(4))?;
+    let sheet: Vec<u8> = all.into_iter().flat_map(u32::to_be_bytes).take(many).collect();
     let [numbers, entries, counts] = ROOM;
-    let mut job =
-        Job { tiles: vec![FOUND; entries], counts: vec![FOUND; counts], colours: found(3 * counts), ..Job::default() };
+    let mut job = Job { size: told, tiles: vec![FOUND; entries], counts: vec![FOUND; counts], ..Job::default() };
+    job.colours = found(3 * counts);
     let mut palette = found(numbers);
     let lent = words(&[&job.tiles, &job.counts], &[&job.colours, &palette]);
     let answer = calls::sheet_read(&sheet, &mut job, &mut palette);
@@ -195,7 +202,7 @@ fn sheet(list: &mut List) -> Read<()> {
 }
 
 fn grouping(list: &mut List) -> Read<()> {
-    let p = list.number(MOST_PIXELS)?;
+    let (size, p) = (list.word()? as usize, list.number(MOST_PIXELS)?);
     let (mut pixels, mut oklab) = (Vec::new(), Vec::new());
     for _ in 0..p {
         pixels.extend(list.word()?.to_be_bytes());
@@ -205,6 +212,6 @@ fn grouping(list: &mut List) -> Read<()> {
         Entries { bytes: vec![FOUND as u8; 4 * p], oklab: found(3 * p), counts: vec![FOUND; p], index: vec![FOUND; p] };
     let all = |room: &Entries| [bytes(&room.bytes), words(&[&room.counts, &room.index], &[&room.oklab])].concat();
     let lent = all(&room);
-    let (answer, entries) = calls::group(&pixels, &oklab, &mut room);
+    let (answer, entries) = calls::group(size, &pixels, &oklab, &mut room);
     same_outcome(list, answer, &[entries as u64], &lent, &all(&room))
 }

@@ -1,7 +1,7 @@
 //! Fits, best twos, errors, nudges, nearest colours. A case's first word says what it has; values are f32 patterns, a colour is three.
-//! 1: what is asked (1 a best fit, 2 the best two, 3 the mean squared error) and of which tile; S, C, and of these n subpalettes of h
-//!    colours present, T tiles, N tile colours, the weight; the tile table, N counts, N colours, the palette's S·C colours, T hints.
-//!    Then the answer, an index and two values, 0 where it has none, and the hints left.
+//! 1: what is asked (1 a best fit, 2 the best two, 3 the mean squared error) and of which tile; the tile size, S, C, and of these n
+//!    subpalettes of h colours present, T tiles, N tile colours, the weight; the tile table, N counts, N colours, the palette's S·C
+//!    colours, T hints. Then the answer, an index and two values, 0 where it has none, and the hints left.
 //! 2: alpha, a colour, a target, and the colour nudged. 3: n, n colours, the weight, a target; its nearest, and its nearest two.
 
 use crate::list::{List, Read};
@@ -11,7 +11,7 @@ use foreign::{lend, ours, probe_best_fit, probe_best_two, probe_mse, probe_nudge
 const MOST_SUBPALETTES: usize = 8;
 const MOST_COLOURS_EACH: usize = 8;
 const MOST_TILES: usize = 4;
-const MOST_TILE_COLOURS: usize = 32;
+const MOST_TILE_COLOURS: usize = 512;
 const MOST_COLOURS: usize = 16;
 
 pub fn case(list: &mut List) -> Read<()> {
@@ -71,12 +71,12 @@ fn job(list: &mut List) -> Read<()> {
 
 impl Shown {
     fn read(list: &mut List) -> Read<Shown> {
-        let (s, c) = (list.number(MOST_SUBPALETTES)?, list.number(MOST_COLOURS_EACH)?);
+        let (size, s, c) = (list.word()? as usize, list.number(MOST_SUBPALETTES)?, list.number(MOST_COLOURS_EACH)?);
         let (present, have) = (list.number(s)?, list.number(c)?);
         let (t, n) = (list.number(MOST_TILES)?, list.number(MOST_TILE_COLOURS)?);
         let (weight, tiles) = (list.float()?, list.words(2 * t)?);
         let (counts, colours) = (list.words(n)?, list.floats(3 * n)?);
-        let job = Job { s, c, t, weight, tiles, colours, counts, ..Job::default() };
+        let job = Job { size, s, c, t, weight, tiles, colours, counts, ..Job::default() };
         Ok(Shown { job, present, have, palette: list.floats(3 * s * c)?, hints: list.words(t)? })
     }
 
