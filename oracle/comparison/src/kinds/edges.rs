@@ -6,7 +6,7 @@ mod order;
 mod plain;
 mod records;
 mod runs;
-mod sheets;
+pub mod sheets;
 mod tile_sizes;
 
 use terms::{Job, Sample, Tile};

@@ -15,17 +15,11 @@ use crate::tally::Tally;
 pub const KINDS: &[Kind] = &[
     kind("neighbour of other sizes", 300, 6_000, other_sizes).bringing(JOBS),
     kind("neighbour of equal sizes", 300, 6_000, equal_sizes).bringing(JOBS),
-    kind("neighbour of the other tile size", 300, 6_000, other_tile_size).bringing(&[
-        FROM_64,
-        FROM_256,
-        "refused with 5",
-        "refused with 6",
-    ]),
+    kind("neighbour of the other tile size", 300, 6_000, other_tile_size).bringing(&OTHER_TILE_SIZE),
 ];
 
-/// What is counted of a run that goes on with the other tile size.
-const FROM_64: &str = "runs that went on from 64 to 256";
-const FROM_256: &str = "runs that went on from 256 to 64";
+/// What is counted of a run that is taken up with the other tile size.
+const OTHER_TILE_SIZE: [&str; 4] = ["gone on at 256", "gone on at 64", "refused for colours", "refused for counts"];
 
 /// What is counted of a run by the stage that it is left in.
 const LEFT_IN: [&str; 8] = [
@@ -62,27 +56,27 @@ fn equal_sizes(rng: &mut Rng, _: u64, tally: &mut Tally) {
     tally.add("runs that changed jobs", 1);
 }
 
-/// The same job with the other tile size: it passes there, or some tile is too large.
+/// The same job with the other tile size: it passes there, or some tile has too many colours or pixels.
 fn other_tile_size(rng: &mut Rng, _: u64, tally: &mut Tally) {
+    // one of the larger size may have tiles that the smaller takes
     let made = jobs::tile_size(rng);
     let job = Job { size: jobs::tile_size(rng).max(made), ..jobs::of_tile_size(rng, made, 60) };
     let mut run = left(rng, job, tally);
-    let size = 64 + 256 - run.job.size;
-    let too_large = |tile: &Tile| tile.counts.len() > size;
-    let too_full = |tile: &Tile| tile.counts.iter().sum::<u32>() as usize > size;
-    let number = match &run.job.tiles {
-        tiles if tiles.iter().any(too_large) => 5,
-        tiles if tiles.iter().any(too_full) => 6,
-        _ => 0,
-    };
+    let size = if run.job.size == 64 { 256 } else { 64 };
     run.resume_on(Job { size, ..run.job.clone() });
+    let any = |over: fn(&Tile) -> usize| run.job.tiles.iter().any(|tile| over(tile) > size);
+    let (counted, number) = match size {
+        _ if any(|tile| tile.counts.len()) => (OTHER_TILE_SIZE[2], 5),
+        _ if any(|tile| tile.counts.iter().sum::<u32>() as usize) => (OTHER_TILE_SIZE[3], 6),
+        64 => (OTHER_TILE_SIZE[1], 0),
+        _ => (OTHER_TILE_SIZE[0], 0),
+    };
+    tally.add(counted, 1);
     if number == 0 {
         run.finish(rng, tally);
-        tally.add(if size == 64 { FROM_256 } else { FROM_64 }, 1);
-        return;
+    } else {
+        each_answered(&run.call, &damage::asks(rng, &run.call), number, tally);
     }
-    tally.add(if number == 5 { "refused with 5" } else { "refused with 6" }, 1);
-    each_answered(&run.call, &damage::asks(rng, &run.call), number, tally);
 }
 
 fn other_sizes(rng: &mut Rng, _: u64, tally: &mut Tally) {

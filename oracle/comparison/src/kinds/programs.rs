@@ -6,8 +6,9 @@ use std::io::Write;
 use std::process::{Command, Stdio};
 
 use terms::rng::Rng;
-use terms::sheet::{EDITIONS, Edition, written};
+use terms::sheet::{EDITIONS, Edition, MOST_BYTES, written};
 
+use super::edges::sheets::of_bytes;
 use super::{JOBS, Kind, SIZES, TILES, kind, sheets, whole};
 use crate::damage::sheets as damage;
 use crate::sheet::{self, fitted::fitted};
@@ -17,14 +18,23 @@ pub const KINDS: &[Kind] = &[
     kind("program fit", 300, 3_000, fit).bringing(JOBS),
     whole("program fit, example", 2, fit_example).bringing(SIZES),
     whole("program fit, editions", 16, fit_editions).bringing(SIZES),
+    whole("program fit, limits", 6, fit_limits).bringing(SIZES),
     kind("program train", 200, 3_000, train::any).bringing(JOBS),
     whole("program train, example", 2, train::example).bringing(SIZES),
     whole("program train, editions", 16, train::editions).bringing(SIZES),
+    whole("program train, limits", 6, train::limits).bringing(SIZES),
     whole("program train, edges", 10, train::edges).bringing(TILES),
 ];
 
-/// What runs a program of ours on this machine, seen from the folder that the comparison runs in.
-const PROGRAM: &str = "../program";
+/// Runs a program of ours, seen from the folder that the comparison runs in: itself where it can be, which saves the shell in front of it.
+fn command(program: &str) -> Command {
+    if cfg!(target_arch = "x86_64") {
+        return Command::new(format!("../target/bin/{program}"));
+    }
+    let mut command = Command::new("../program");
+    command.arg(program);
+    command
+}
 
 /// A sheet of either edition, small or near the limit, damaged or not.
 fn any(rng: &mut Rng, case: u64) -> Vec<u8> {
@@ -55,6 +65,11 @@ fn editions(case: u64) -> Vec<Vec<u8>> {
     EDITIONS.into_iter().map(named).flat_map(spoilt).collect()
 }
 
+/// One byte less than a sheet may have, as many, and one more, in either edition.
+fn limits(case: u64) -> Vec<u8> {
+    written(&of_bytes(EDITIONS[case as usize % 2], MOST_BYTES - 1 + case as usize / 2))
+}
+
 fn fit(rng: &mut Rng, case: u64, tally: &mut Tally) {
     fits(&any(rng, case), tally);
 }
@@ -67,9 +82,13 @@ fn fit_editions(_: &mut Rng, case: u64, tally: &mut Tally) {
     editions(case).iter().for_each(|bytes| fits(bytes, tally));
 }
 
+fn fit_limits(_: &mut Rng, case: u64, tally: &mut Tally) {
+    fits(&limits(case), tally);
+}
+
 fn fits(bytes: &[u8], tally: &mut Tally) {
     let read = sheet::read_either(bytes);
-    answered("program fit", bytes, read.as_ref().map_or_else(|refusal| refusal.number, |_| 0), tally);
+    answered("program fit", bytes, read.as_ref().err().map_or(0, |refusal| refusal.number), tally);
     if let Ok(sheet) = read {
         let blank = sheet.tiles.iter().filter(|tile| tile.counts.is_empty()).count();
         tally.add("tiles counted in a load", (sheet.tiles.len() - blank) as u64);
@@ -97,7 +116,7 @@ fn same(program: &str, bytes: &[u8], right: Vec<u8>, tally: &mut Tally) {
 
 /// What a program writes.
 fn ran(program: &str, bytes: &[u8]) -> std::io::Result<Vec<u8>> {
-    let mut process = Command::new(PROGRAM).arg(program).stdin(Stdio::piped()).stdout(Stdio::piped()).spawn()?;
+    let mut process = command(program).stdin(Stdio::piped()).stdout(Stdio::piped()).spawn()?;
     // a program that has read enough may close its end first
     let _ = process.stdin.take().unwrap().write_all(bytes);
     Ok(process.wait_with_output()?.stdout)

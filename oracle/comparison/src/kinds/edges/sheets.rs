@@ -69,7 +69,7 @@ fn of_editions(edition: Edition, tally: &mut Tally) {
 }
 
 /// A sheet of exactly so many bytes, the last of its tiles empty.
-fn of_bytes(edition: Edition, bytes: usize) -> Sheet {
+pub fn of_bytes(edition: Edition, bytes: usize) -> Sheet {
     let bits = |t: usize, n: usize| edition.bits_without_colours(4, t) + edition.colour_bits() * n;
     let colours = |t: usize| (0..5140).rev().find(|&n| bits(t, n).div_ceil(8) == bytes);
     let (t, n) = (81..=1024).find_map(|t| Some((t, colours(t)?))).unwrap();

@@ -20,6 +20,10 @@ pub fn editions(_: &mut Rng, case: u64, tally: &mut Tally) {
     super::editions(case).iter().for_each(|bytes| trains(bytes, tally));
 }
 
+pub fn limits(_: &mut Rng, case: u64, tally: &mut Tally) {
+    trains(&super::limits(case), tally);
+}
+
 /// Counts that add up to nothing, to 16,384 and to one more, and the most that a sheet has; the largest training of all. Each in either
 /// edition.
 pub fn edges(rng: &mut Rng, case: u64, tally: &mut Tally) {
