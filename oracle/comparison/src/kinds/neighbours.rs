@@ -36,6 +36,7 @@ const LEFT_IN: [&str; 8] = [
 /// A run of ours that is left at some moment: in a stage, and some calls later.
 fn left(rng: &mut Rng, job: Job, tally: &mut Tally) -> Whole {
     let mut run = Whole::of(rng, job);
+    tally.tiles(&run.job.tiles);
     let stage = rng.below(8) as u64;
     run.go_on(rng, 1, tally);
     while run.call.stage() < stage {
