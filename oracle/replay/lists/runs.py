@@ -33,11 +33,11 @@ def colour(grid):
     return [bits(draw.uniform(0, 1))] + [bits(draw.uniform(-0.5, 0.5)) for _ in "ab"]
 
 
-def run(s, c, tiles, n, weight, grid, allotments, size=64):
+def run(s, c, tiles, n, weight, grid, allotments, tile_size=64):
     """A whole run of tiles given by their numbers of colours, in calls of these sizes, used over and over until it is finished."""
     global runs, compared
     t, seed = len(tiles), draw.getrandbits(64)
-    content = [[(colour(grid), draw.randrange(1, min(4, size // k) + 1)) for _ in range(k)] for k in tiles]
+    content = [[(colour(grid), draw.randrange(1, min(4, tile_size // k) + 1)) for _ in range(k)] for k in tiles]
     hints = [draw.choice([0, 1, 99]) for _ in tiles]
     full = [i for i, k in enumerate(tiles) if k]
     samples = [(i, draw.randrange(tiles[i])) for i in (draw.choice(full) for _ in range(n))]
@@ -65,7 +65,7 @@ def run(s, c, tiles, n, weight, grid, allotments, size=64):
         table += [first, k]
         first += k
     runs += 1
-    words.extend([size, s, c, t, first, n, 3 * s * c, bits(weight)] + double(seed) + [len(sizes)] + table)
+    words.extend([tile_size, s, c, t, first, n, 3 * s * c, bits(weight)] + double(seed) + [len(sizes)] + table)
     words.extend(count for tile in content for _, count in tile)
     words.extend(x for tile in content for k, _ in tile for x in k)
     words.extend(x for sample in samples for x in sample)
