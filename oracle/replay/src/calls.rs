@@ -32,8 +32,8 @@ pub fn sheet_write(job: &Job, palette: &[f32], dst: &mut [u8]) -> (Answer, usize
     ((number, fault), written)
 }
 
-/// The answer of a reading that is told the job's tile size; its slices and the palette are the room that is filled, its other sizes and its
-/// weight become the sheet's.
+/// The answer of a reading that is told the job's tile size; its slices and the palette are the room that is filled, its other sizes and
+/// its weight become the sheet's.
 pub fn sheet_read(bytes: &[u8], job: &mut Job, palette: &mut [f32]) -> Answer {
     let mut fault = 0;
     let number = unsafe {

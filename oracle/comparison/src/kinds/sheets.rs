@@ -155,8 +155,8 @@ fn compare(edition: Edition, bytes: &[u8], tally: &mut Tally) {
     read_into(edition.size, bytes, ROOM, tally);
 }
 
-/// Told a tile size, reads into room of these sizes: what is filled, and what stays. Gives what the reading here says of it.
-pub fn read_into(size: usize, bytes: &[u8], room: [usize; 4], tally: &mut Tally) -> Refusal {
+/// Room of these sizes, with numbers in it that no sheet has; the last is the palette's.
+fn unread(size: usize, room: [usize; 4]) -> (Given, Vec<f32>) {
     let found = Given {
         size,
         s: 77,
@@ -167,24 +167,33 @@ pub fn read_into(size: usize, bytes: &[u8], room: [usize; 4], tally: &mut Tally)
         colours: nans(room[1]),
         counts: vec![0x5a5a_5a5a; room[2]],
     };
-    let found_palette = nans(room[3]);
+    (found, nans(room[3]))
+}
+
+/// Fills in what a sheet holds; what it does not fill stays.
+fn fill(sheet: &Sheet, room: &mut Given, palette: &mut [f32]) {
+    let given = Given::new(room.size, &sheet.palette, &sheet.tiles, sheet.weight);
+    room.tiles[..given.tiles.len()].copy_from_slice(&given.tiles);
+    room.colours[..given.colours.len()].copy_from_slice(&given.colours);
+    room.counts[..given.counts.len()].copy_from_slice(&given.counts);
+    (room.s, room.c, room.t, room.weight) = (given.s, given.c, given.t, given.weight);
+    let numbers: Vec<f32> = sheet.palette.iter().flatten().flatten().copied().collect();
+    palette[..numbers.len()].copy_from_slice(&numbers);
+}
+
+/// Told a tile size, reads into room of these sizes: what is filled, and what stays. Gives what the reading here says of it.
+pub fn read_into(size: usize, bytes: &[u8], room: [usize; 4], tally: &mut Tally) -> Refusal {
     let enough = room.iter().zip(ROOM).all(|(has, needs)| *has >= needs);
     let lent = table::first(&[(2, &|| unless(table::tile_size(size))), (3, &|| unless(enough))]);
     let read = if lent.number == 0 { sheet::read(size, bytes) } else { Err(lent) };
-    let (mut right, mut right_palette) = (found.clone(), found_palette.clone());
+    let (mut right, mut right_palette) = unread(size, room);
+    let (lent_bytes, mut job, mut palette) = (lent::bytes(bytes), Job::lent(&right), lent::floats(&right_palette));
     if let Ok(sheet) = &read {
-        let given = Given::new(size, &sheet.palette, &sheet.tiles, sheet.weight);
+        fill(sheet, &mut right, &mut right_palette);
         tally.tiles(&sheet.tiles);
-        right.tiles[..given.tiles.len()].copy_from_slice(&given.tiles);
-        right.colours[..given.colours.len()].copy_from_slice(&given.colours);
-        right.counts[..given.counts.len()].copy_from_slice(&given.counts);
-        (right.s, right.c, right.t, right.weight) = (given.s, given.c, given.t, given.weight);
-        let numbers: Vec<f32> = sheet.palette.iter().flatten().flatten().copied().collect();
-        right_palette[..numbers.len()].copy_from_slice(&numbers);
     }
 
     let right_refusal = read.err().unwrap_or_default();
-    let (lent_bytes, mut job, mut palette) = (lent::bytes(bytes), Job::lent(&found), lent::floats(&found_palette));
     let refusal = ours::sheet_read(&lent_bytes, &mut job, &mut palette);
     tally.answered("sheet reader", size, right_refusal);
     tally.left(right.colours.iter().chain(&right_palette));
