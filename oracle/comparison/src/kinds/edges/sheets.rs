@@ -1,11 +1,11 @@
-//! Edges of a sheet, through the reader: fields, size, and the room that is lent.
+//! Edges of a sheet, through the reader: fields, edition, size, and the room that is lent; the size through the writer, too.
 
 use terms::Tile;
 use terms::sheet::{EDITIONS, Edition, MOST_BYTES, Sheet, written};
 
 use super::{around, at, colours_in_all, component, counted, listed, sums, tiles, weights};
-use crate::kinds::sheets::{ROOM, read_into};
-use crate::table::Refusal;
+use crate::kinds::sheets::{ROOM, read_into, written_into};
+use crate::table::{Given, Refusal};
 use crate::tally::Tally;
 
 pub fn compare(size: usize, tally: &mut Tally) {
@@ -78,12 +78,18 @@ pub fn of_bytes(edition: Edition, bytes: usize) -> Sheet {
     sheet(edition, all)
 }
 
+/// Read, and written into room for more.
 fn of_sizes(edition: Edition, tally: &mut Tally) {
     for (bytes, number) in [(MOST_BYTES - 1, 0), (MOST_BYTES, 0), (MOST_BYTES + 1, 13)] {
-        let whole = written(&of_bytes(edition, bytes));
+        let sheet = of_bytes(edition, bytes);
+        let whole = written(&sheet);
         tally.same(whole.len(), bytes, || "the bytes of a sheet".to_string());
         let compared = read_into(edition.size, &whole, ROOM, tally);
         listed(tally, &format!("{bytes} bytes"), "reader", compared, number);
+        let given = Given::new(edition.size, &sheet.palette, &sheet.tiles, sheet.weight);
+        let numbers: Vec<f32> = sheet.palette.into_iter().flatten().flatten().collect();
+        let compared = written_into(&given, &numbers, &[0x5a; MOST_BYTES + 2], tally);
+        listed(tally, &format!("{bytes} bytes"), "writer", compared, number);
     }
 }
 
