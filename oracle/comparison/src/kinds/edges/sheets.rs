@@ -31,7 +31,7 @@ fn of_fields(edition: Edition, tally: &mut Tally) {
         let palette = vec![vec![[0.5; 3]; c]; 17 - c];
         read(tally, "S and C", &Sheet { palette, ..sheet(tiles(1, 1)) }, 0);
     }
-    // the field has a bit more than the size needs
+    // its field can say up to twice the size, less one
     for (n, number) in [(0, 0), (1, 0), (size - 1, 0), (size, 0), (size + 1, 5), (2 * size - 1, 5)] {
         read(tally, &format!("a tile of {n} colours"), &sheet(tiles(1, n)), number);
     }
