@@ -117,8 +117,8 @@ fn whole(rng: &mut Rng, _: u64, tally: &mut Tally) {
 fn largest(rng: &mut Rng, case: u64, tally: &mut Tally) {
     let (size, colours) = (in_turn(case), Colours::any(rng, 2.0));
     let lengths = if size == 64 { vec![16; 1024] } else { [vec![256; 62], vec![1; 512], vec![0; 450]].concat() };
-    let tile =
-        |&n: &usize| Tile { colours: colours.many(rng, n, 2.0), counts: vec![if n == 1 { size as u32 } else { 1 }; n] };
+    let count = |n: usize| if n == 1 { size as u32 } else { 1 };
+    let tile = |&n: &usize| Tile { colours: colours.many(rng, n, 2.0), counts: vec![count(n); n] };
     let tiles: Vec<Tile> = lengths.iter().map(tile).collect();
     let full = lengths.iter().filter(|&&n| n > 0).count();
     let sample = |i: usize| Sample { tile: i % full, place: i / full % lengths[i % full] };
@@ -190,6 +190,8 @@ impl Whole {
             let ask = self.next(rng, &call);
             let right = outcome(&call, &ask);
             let accepted = right.refusal.number == 0;
+            // a run that the reading does not start would never end
+            assert!(accepted || !matches!(ask, Ask::Start(_)), "a start is read as {:?}", right.refusal);
             let draws = match &ask {
                 Ask::Advance(allotment) if accepted => self.steps.advance(*allotment),
                 Ask::HandIn(reduced) if accepted => {
