@@ -112,10 +112,9 @@ for n in (0, 1, 2, 3, 7, 16):
         put([3, n] + flat + [w] + q)
         answers(ask("nearest " + hexes([w] + q + flat)))
         answers(ask("nearest_two " + hexes([w] + q + flat)))
-# tiles of 256 colours, a colour counted 256 times, more colours than 64 and counts that sum to more
-for kind in ("any", "grid"):
-    many = [[(colour(kind), 1) for _ in range(256)], [(colour(kind), 256)], [(colour(kind), draw.randint(1, 3)) for _ in range(70)]]
-    job(palette(kind, 3, 2), 1, many, [0, 2, 99], bits(2.15), 256)
+# of tile size 256: as many colours, one that is counted as often, more than 64 that tie
+job(palette("any", 3, 2), 1, [[(colour("any"), 1) for _ in range(256)], [(colour("any"), 256)]], [0, 99], bits(2.15), 256)
+job(palette("grid", 3, 2), 1, [[(colour("grid"), draw.randint(1, 3)) for _ in range(70)], []], [2, 1], bits(2.15), 256)
 
 here = os.path.dirname(os.path.abspath(__file__))
 with open(os.path.join(here, "palette"), "wb") as out:
