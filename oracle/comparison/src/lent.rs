@@ -52,6 +52,16 @@ impl Lent<f32> {
     }
 }
 
+/// Floats in every bit, in which one NaN is not another.
+#[derive(Debug)]
+pub struct Bits<'a>(pub &'a [f32]);
+
+impl Same for Bits<'_> {
+    fn same(&self, other: &Self) -> bool {
+        self.0.untouched(other.0)
+    }
+}
+
 pub fn bits(values: &[f32]) -> Vec<u32> {
     values.iter().map(|x| x.to_bits()).collect()
 }

@@ -135,6 +135,12 @@ impl<T: Same> Same for [T] {
     }
 }
 
+impl<T: Same + ?Sized> Same for &T {
+    fn same(&self, other: &&T) -> bool {
+        (**self).same(*other)
+    }
+}
+
 impl<T: Same> Same for Vec<T> {
     fn same(&self, other: &Vec<T>) -> bool {
         self[..].same(&other[..])

@@ -8,7 +8,7 @@ use terms::sheet::{EDITIONS, Edition, MOST_BYTES, Sheet, written};
 use super::calls::Call;
 use super::{JOBS, Kind, SIZES, kind, whole};
 use crate::damage::sheets::{added, damages};
-use crate::lent::{bits as bits_of, nans};
+use crate::lent::{Bits, nans};
 use crate::ours::{self, Job};
 use crate::sheet;
 use crate::table::{Given, Refusal, unless};
@@ -199,12 +199,12 @@ pub fn read_into(size: usize, bytes: &[u8], room: [usize; 4], tally: &mut Tally)
     tally.left(right.colours.iter().chain(&right_palette));
     let kept = lent_bytes.untouched() && job.guarded() && palette.guarded();
     let sizes = (job.s, job.c, job.t, job.weight);
-    let ours = (job.tiles.values().to_vec(), job.colours.bits(), job.counts.values().to_vec());
+    let ours = (job.tiles.values(), Bits(job.colours.values()), job.counts.values());
     let right_sizes = (right.s, right.c, right.t, right.weight);
-    let (right_colours, right_palette) = (bits_of(&right.colours), bits_of(&right_palette));
+    let rights = (&right.tiles[..], Bits(&right.colours), &right.counts[..]);
     tally.same(
-        (refusal, sizes, ours, palette.bits(), kept),
-        (right_refusal, right_sizes, (right.tiles, right_colours, right.counts), right_palette, true),
+        (refusal, sizes, ours, Bits(palette.values()), kept),
+        (right_refusal, right_sizes, rights, Bits(&right_palette), true),
         || format!("told {size}, {bytes:02x?}"),
     );
     right_refusal
