@@ -14,7 +14,8 @@ use Rattle.job.specs.Job.{Job, sizeOf, countsPart, coloursPart}
 use Rattle.job.specs.Gives.{Ready}
 use Rattle.job.proofs.Tiles.{counts-length, tile-three, tile-bounded}
 use Rattle.sheet_format.specs.declared.Edition.{Edition}
-use Rattle.sheet_format.specs.Sheet.{Colour, entrySize}
+use Rattle.sheet_format.specs.Sheet.{Colour, entrySize, tilesSize}
+use Rattle.sheet_format.proofs.Editions.{tile-more}
 use Rattle.sheet_pack.specs.Packed.{coloursOf, tilesFrom, coloursBits, tileBits, Counted}
 use Rattle.sheet_pack.proofs.Prints.{length-coloursBits}
 
@@ -27,8 +28,8 @@ module _ (E : Edition) (J : Job) (R : Ready J) (i : ℕ) (h : i < J .T) where
     pub three : length xs ≡ 3 * length part
     pub counted : Counted part
     pub bounded : Bounded xs 2
-    pub few : length part ≤ 256
-    pub reach : sum (sizeOf (J .tiles)) i + length part ≤ length (J .counts)
+    -- behind the tiles before it there is room for it among all
+    pub room : tilesSize E i (sum (sizeOf (J .tiles)) i) + (E .many + entrySize E * length part) ≤ tilesSize E (J .T) (length (J .counts))
     pub after : sum (sizeOf (J .tiles)) (i + 1) ≡ sum (sizeOf (J .tiles)) i + length part
     pub bits : length (tileBits E (coloursOf part xs)) ≡ E .many + entrySize E * length part
     pub next : coloursOf part xs ∷ tilesFrom (J .tiles) (J .colours) (J .counts) (suc i) (J .T - (i + 1)) ≡ tilesFrom (J .tiles) (J .colours) (J .counts) i (suc (J .T - (i + 1)))
@@ -49,8 +50,7 @@ module _ (E : Edition) (J : Job) (R : Ready J) (i : ℕ) (h : i < J .T) where
     three = spread part xs e g;
     counted = subst⁻¹ Counted e (λ k l. R .low i k h l);
     bounded = subst⁻¹ (λ (l : List Float). Bounded l 2) g (tile-bounded J R i h);
-    few = omega (arith, size part e, R .short i h, R .sizes .small);
-    reach = omega (arith, size part e, R .inside i h, R .starts i h);
+    room = tile-more E (J .T) i (length (J .counts)) (sum (sizeOf (J .tiles)) i) (length part) h (omega (arith, size part e, R .inside i h, R .starts i h));
     after = sym (sum-more (sizeOf (J .tiles)) i (sum (sizeOf (J .tiles)) i) (length part) refl (size part e));
     bits = tile-bits part xs (spread part xs e g);
     next = ap₂ {C = List (List Colour)} (λ a b. coloursOf a b ∷ tilesFrom (J .tiles) (J .colours) (J .counts) (suc i) (J .T - (i + 1))) e g;

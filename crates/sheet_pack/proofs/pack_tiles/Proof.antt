@@ -10,7 +10,6 @@ use Rattle.bits.specs.Bits.{bits}
 use Rattle.job.specs.Job.{sizeOf}
 use Rattle.job.proofs.Tiles.{counts-placed, colours-placed}
 use Rattle.sheet_format.specs.Sheet.{tilesSize}
-use Rattle.sheet_format.proofs.Editions.{tile-more}
 use Rattle.sheet_pack.specs.Packed.{tilesFrom, tilesBits}
 use Rattle.sheet_pack.proofs.Writes.{tiles-again, tiles-end}
 use Rattle.sheet_pack.proofs.Here.{none-before, here}
@@ -45,8 +44,7 @@ pack-tile-requires c κs =
     let after-tile-part = c in let after-counts-part = after-tile-part .before .before in let past-if1 = after-counts-part .before in
     let at-loop = past-if1 .before .before in let start = at-loop .before .before .before .before .before in let turn = at-loop .loop in let a = start .args in
     let H = here (a .e) _ (start .pre .3) (turn .i) (past-if1 .if1 .taken) _ _ (after-counts-part .counts-part .ensures) (after-tile-part .tile-part .ensures) in
-    let room = tile-more (a .e) (a .z .t) (turn .i) (length (a .counts .now)) _ _ (past-if1 .if1 .taken) (H .reach) in
-    (start .pre .0, omega (arith, room, start .pre .1, start .pre .2, turn .inv .2, turn .inv .1), omega (arith, room, start .pre .1, start .pre .2, turn .inv .2), H .three, H .counted, H .bounded)
+    (start .pre .0, omega (arith, H .room, start .pre .1, start .pre .2, turn .inv .2, turn .inv .1), omega (arith, H .room, start .pre .1, start .pre .2, turn .inv .2), H .three, H .counted, H .bounded)
 
 add-q : tie.Need-add-q Inv-loop μ-loop
 add-q c = let start = c .before .before .before .before .before .before .before .before .before .before .before .before .before .before in omega (arith, start .pre .0 .narrow-each)
@@ -56,24 +54,21 @@ mul-q c =
     let after-tile-part = c .before .before .before .before in let after-counts-part = after-tile-part .before .before in let past-if1 = after-counts-part .before in
     let at-loop = past-if1 .before .before in let start = at-loop .before .before .before .before .before in let turn = at-loop .loop in let a = start .args in
     let H = here (a .e) _ (start .pre .3) (turn .i) (past-if1 .if1 .taken) _ _ (after-counts-part .counts-part .ensures) (after-tile-part .tile-part .ensures) in
-    let room = tile-more (a .e) (a .z .t) (turn .i) (length (a .counts .now)) _ _ (past-if1 .if1 .taken) (H .reach) in
-    omega (arith, room, start .pre .1, start .pre .2, turn .inv .2)
+    omega (arith, H .room, start .pre .1, start .pre .2, turn .inv .2)
 
 add-q-2 : tie.Need-add-q-2 Inv-loop μ-loop
 add-q-2 c =
     let after-tile-part = c .before .before .before .before .before in let after-counts-part = after-tile-part .before .before in let past-if1 = after-counts-part .before in
     let at-loop = past-if1 .before .before in let start = at-loop .before .before .before .before .before in let turn = at-loop .loop in let a = start .args in
     let H = here (a .e) _ (start .pre .3) (turn .i) (past-if1 .if1 .taken) _ _ (after-counts-part .counts-part .ensures) (after-tile-part .tile-part .ensures) in
-    let room = tile-more (a .e) (a .z .t) (turn .i) (length (a .counts .now)) _ _ (past-if1 .if1 .taken) (H .reach) in
-    omega (arith, room, start .pre .1, start .pre .2, turn .inv .2)
+    omega (arith, H .room, start .pre .1, start .pre .2, turn .inv .2)
 
 add-q-3 : tie.Need-add-q-3 Inv-loop μ-loop
 add-q-3 c =
     let after-tile-part = c .before .before .before .before .before in let after-counts-part = after-tile-part .before .before in let past-if1 = after-counts-part .before in
     let at-loop = past-if1 .before .before in let start = at-loop .before .before .before .before .before in let turn = at-loop .loop in let a = start .args in
     let H = here (a .e) _ (start .pre .3) (turn .i) (past-if1 .if1 .taken) _ _ (after-counts-part .counts-part .ensures) (after-tile-part .tile-part .ensures) in
-    let room = tile-more (a .e) (a .z .t) (turn .i) (length (a .counts .now)) _ _ (past-if1 .if1 .taken) (H .reach) in
-    omega (arith, room, start .pre .1, start .pre .2, turn .inv .2)
+    omega (arith, H .room, start .pre .1, start .pre .2, turn .inv .2)
 
 add-i : tie.Need-add-i Inv-loop μ-loop
 add-i c = omega arith
