@@ -4,8 +4,8 @@ use mathlib.Core.Path.{◌≡◌, refl, ap, ◌∙◌}
 use mathlib.Core.Logic.{◌≢◌, ◌⊎◌, inl, inr}
 use mathlib.Core.List.{List, [], ◌∷◌}
 use native.Mathlib.Omega.{arith}
-use lib.ListN.{get_or, length, set, drop, length-set}
-use lib.Seq.{sets, drop-set-lt}
+use lib.ListN.{get_or, length, set, length-set}
+use lib.Seq.{sets}
 use lib.Ieee.{Float, nan}
 use Rattle.lists.proofs.Runs.{lt_or_gt, sets-before, sets-after, sets_in, all_set}
 use Rattle.color.specs.declared.Oklab.{Oklab}
@@ -61,14 +61,6 @@ module _ (s : List Float) (i : ℕ) (x : Oklab) where
           ap (λ (m : ℕ). get_or (put_at s i x) m nan) e
           ∙ ap (λ (t : List Float). get_or t (3 * i + d) nan) (put_sets s i x)
           ∙ sets_in nan (numbers x) s (3 * i) d (omega arith) l
-
-  -- what stands behind it stays
-  pub drop_put : (m : ℕ) → 3 * i + 2 < m → drop m (put_at s i x) ≡ drop m s
-  unfolding put_at
-  drop_put m h =
-      drop-set-lt m (set (set s (3 * i) x.l) (3 * i + 1) x.a) (3 * i + 2) x.b h
-      ∙ drop-set-lt m (set s (3 * i) x.l) (3 * i + 1) x.a (omega arith)
-      ∙ drop-set-lt m s (3 * i) x.l (omega arith)
 
   -- what holds of every number
   pub all_put : (P : Float → Type 0) → P x.l → P x.a → P x.b → ((j : ℕ) → j < length s → P (get_or s j nan)) → (j : ℕ) → j < length (put_at s i x) → P (get_or (put_at s i x) j nan)

@@ -59,21 +59,21 @@ module _ (q a c : ℕ) (above : 0 < c) (small : q ≤ 16384) (some : c ≤ 16 * 
       (positive_of_value (near 1 16) 1 16 (sixteenths 1 (lit< tt)) (lit< tt)) top-positive
       (round_mono binary32 1 16 a c (lit< tt) above (omega arith)) below_top
 
-  from-below : 0 < q → q * den (near a c) ≤ num (near a c)
-  from-below h =
+  from_below : 0 < q → q * den (near a c) ≤ num (near a c)
+  from_below h =
       let q_is : HasValue (near q 1) false q 1 = round_whole binary32 false q (omega arith) in
       rw mul-one at
       (values_of_le (near q 1) (near a c) q 1 (num (near a c)) (den (near a c)) (positive_of_value (near q 1) q 1 q_is h) near_positive q_is (own_value (near a c) near_positive)
       (round_mono binary32 q 1 a c (lit< tt) above (rw mul-one least)))
 
-  from-above : num (near a c) < (q + 1) * den (near a c)
-  from-above =
+  from_above : num (near a c) < (q + 1) * den (near a c)
+  from_above =
       let sixteen : num (near a c) * 16 ≤ (16 * q + 15) * den (near a c) =
       values_of_le (near a c) (near (16 * q + 15) 16) (num (near a c)) (den (near a c)) (16 * q + 15) 16 near_positive top-positive (own_value (near a c) near_positive) top-is below_top in
       under_next (num (near a c)) (den (near a c)) q (den_pos (near a c)) sixteen
 
   pub near_cut : to_unsigned 64 (near a c) ≡ q
-  near_cut = cut (near a c) q near_positive small (elim (eq-zero-or-pos q) [ inl z ↦ rw (z, zero-mul) zero-le | inr h ↦ from-below h ]) from-above
+  near_cut = cut (near a c) q near_positive small (elim (eq-zero-or-pos q) [ inl z ↦ rw (z, zero-mul) zero-le | inr h ↦ from_below h ]) from_above
 
 product : (n : ℕ) → 0 < n → n ≤ 16384 → mul binary32 fraction (of_int binary32 (pos n)) ≡ round binary32 false (13421773 * n) (2 ^ 27 * 1)
 unfolding of_int

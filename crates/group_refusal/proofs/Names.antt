@@ -20,17 +20,17 @@ abbrev Clear : (ℕ → Refusal) → ℕ → Type 0
 Clear f k = (i : ℕ) → i < k → (f i).number ≡ 0
 
 module _ (P : Refusal → Type 0) (f : ℕ → Refusal) (p : ℕ) (found : (k : ℕ) → k < p → Clear f k → ((f k).number ≡ 0 → ⊥) → P (f k)) (none : P nothing) where
-  first-from : (i n : ℕ) → i + n ≡ p → Clear f i → P (first_of f i n)
+  first_from : (i n : ℕ) → i + n ≡ p → Clear f i → P (first_of f i n)
   unfolding first_of
-  first-from i zero e passed = none
-  first-from i (suc n) e passed = by (eqb (f i).number 0) refl (λ z. first-from (i + 1) n (omega arith) (below_more _ _ passed z))
+  first_from i zero e passed = none
+  first_from i (suc n) e passed = by (eqb (f i).number 0) refl (λ z. first_from (i + 1) n (omega arith) (below_more _ _ passed z))
     where
       by : (b : Bool) → eqb (f i).number 0 ≡ b → ((f i).number ≡ 0 → P (first_of f (i + 1) n)) → P (cond b (first_of f (i + 1) n) (f i))
       by true g rest = rest (eqb-true (f i).number 0 g)
       by false g rest = found i (omega arith) passed (eqb-false (f i).number 0 g)
 
   pub first_of-all : P (first_of f 0 p)
-  first_of-all = first-from 0 p (omega arith) (below_none _)
+  first_of-all = first_from 0 p (omega arith) (below_none _)
 
 -- and with 2 and 3 of the answer
 answer_by : (P : Refusal → Type 0) (size : ℕ) (q : Pixels) (fits : Bool)

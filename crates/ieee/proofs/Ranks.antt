@@ -60,8 +60,8 @@ module _ {f : Format} (x d limit : Float) (lose : Bool) (gx : Good f x) (gd : Go
 
 -- ---- the code's `sum > limit || (sum == limit && lose)`: r is what its second half answers
 module _ (x limit : Float) (lose r : Bool) where
-  pub half-asked : eq x limit ≡ true → r ≡ lose → r ≡ eq x limit && lose
-  half-asked p q = q ∙ sym (ap (λ (b : Bool). b && lose) p)
+  pub half_asked : eq x limit ≡ true → r ≡ lose → r ≡ eq x limit && lose
+  half_asked p q = q ∙ sym (ap (λ (b : Bool). b && lose) p)
 
   pub half-not : eq x limit ≡ false → r ≡ eq x limit → r ≡ eq x limit && lose
   half-not p q = q ∙ p ∙ sym (and_no_l (eq x limit) lose p)

@@ -15,15 +15,15 @@ use Rattle.palette_tile.specs.Tiles.{present_in, fit_at, two_at, Paired, Fitted}
 use Rattle.palette_tile.proofs.Present.{tile_fits_lem, tile-hinted}
 
 module _ (J : Job) (pal : List Float) (n have : ℕ) (hints : List ℕ) (t : ℕ) (K : Paired J pal n have hints t) where
-  pub colours-asked : Inside 3 J.tiles t (length J.colours)
-  colours-asked = colours-placed J K.shown.ready t K.tile
+  pub colours_asked : Inside 3 J.tiles t (length J.colours)
+  colours_asked = colours-placed J K.shown.ready t K.tile
 
-  pub counts-asked : Inside 1 J.tiles t (length J.counts)
-  counts-asked = counts-placed J K.shown.ready t K.tile
+  pub counts_asked : Inside 1 J.tiles t (length J.counts)
+  counts_asked = counts-placed J K.shown.ready t K.tile
 
   module _ (tile : List Float) (part : List ℕ) (e : tile ≡ tile_of J t) (g : part ≡ counts_of J t) where
-    pub two-asked : Fits (present_in J pal n have) (tile_with tile part) J.weight × Hinted n hints t
-    two-asked = (
+    pub two_asked : Fits (present_in J pal n have) (tile_with tile part) J.weight × Hinted n hints t
+    two_asked = (
       subst⁻¹ (λ (x : List Float). Fits (present_in J pal n have) (tile_with x part) J.weight) e
           (subst⁻¹ (λ (y : List ℕ). Fits (present_in J pal n have) (tile_with (tile_of J t) y) J.weight) g (tile_fits_lem J pal n have K.shown t K.tile)),
       tile-hinted J pal n have K.shown t K.tile hints K.each,
@@ -37,8 +37,8 @@ module _ (J : Job) (pal : List Float) (n have : ℕ) (hints : List ℕ) (t : ℕ
     unfolding fit_at
     fit-done r p = p ∙ ap (λ (x : List Float). best_fit (present_in J pal n have) (tile_with x part) J.weight) e ∙ ap (λ (y : List ℕ). best_fit (present_in J pal n have) (tile_with (tile_of J t) y) J.weight) g
 
-pub fit-asked : (J : Job) (pal : List Float) (n have : ℕ) (hints : List ℕ) (t : ℕ) → Fitted J pal n have hints t → (tile : List Float) (part : List ℕ) → tile ≡ tile_of J t → part ≡ counts_of J t
+pub fit_asked : (J : Job) (pal : List Float) (n have : ℕ) (hints : List ℕ) (t : ℕ) → Fitted J pal n have hints t → (tile : List Float) (part : List ℕ) → tile ≡ tile_of J t → part ≡ counts_of J t
     → Fits (present_in J pal n have) (tile_with tile part) J.weight × ((1 ≤ length part) × Hinted n hints t)
-fit-asked J pal n have hints t K tile part e g =
-    let A = two-asked J pal n have hints t K.paired tile part e g in
+fit_asked J pal n have hints t K tile part e g =
+    let A = two_asked J pal n have hints t K.paired tile part e g in
     (A.0, (omega (arith, ap length g, counts-length J K.paired.shown.ready t K.paired.tile, K.full), A.1))

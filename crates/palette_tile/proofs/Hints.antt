@@ -1,22 +1,28 @@
--- The hints that fits leave have a place for each tile still, and a tile that is not empty has its winner there. Assumes nothing.
-use Prim.Native.Nat.{ℕ, ◌≤◌, ◌<◌}
-use mathlib.Core.Path.{◌≡◌, ◌∙◌}
-use mathlib.Core.Bool.{false}
+-- The hints that fits leave have a place for each tile still. Assumes nothing.
+use Prim.Native.Nat.{ℕ, zero, suc, ◌<◌}
+use mathlib.Core.Path.{◌≡◌, refl, ◌∙◌}
+use mathlib.Core.Bool.{Bool, true, false, cond}
 use mathlib.Core.List.{List}
-use lib.ListN.{get_or, length}
+use lib.ListN.{length, set, length-set}
 use lib.Ieee.{Float}
 use Rattle.job.specs.Job.{Job, is_empty}
+use Rattle.palette_tile.specs.Walk.{walk}
 use Rattle.palette_tile.specs.Tiles.{winner, hint_step, hints_of, Shown, Paired}
-use Rattle.palette_tile.proofs.Walks.{length-writes, written, Walked, walked_has}
+use Rattle.palette_tile.proofs.Walks.{Walked, walked_has}
 
 module _ (J : Job) (pal : List Float) (n have : ℕ) where
-  pub length-hints : (h : List ℕ) (t : ℕ) → length (hints_of J pal n have h t) ≡ length h
+  pub length-hint_step : (t : ℕ) (h : List ℕ) → length (hint_step J pal n have t h) ≡ length h
   unfolding hint_step
-  length-hints h t = length-writes (is_empty J) (winner J pal n have) h t
+  length-hint_step t h = by (is_empty J t)
+    where
+      by : (b : Bool) → length (cond b h (set h t (winner J pal n have t))) ≡ length h
+      by true = refl
+      by false = length-set h t (winner J pal n have t)
 
-  pub hint_named : (h : List ℕ) (m : ℕ) → m ≤ length h → (t : ℕ) → t < m → is_empty J t ≡ false → get_or (hints_of J pal n have h m) t 0 ≡ winner J pal n have t
-  unfolding hint_step
-  hint_named h m e t l p = written (is_empty J) (winner J pal n have) h m e t l p
+  pub length-hints : (h : List ℕ) (t : ℕ) → length (hints_of J pal n have h t) ≡ length h
+  unfolding walk
+  length-hints h zero = refl
+  length-hints h (suc t) = length-hint_step t (hints_of J pal n have h t) ∙ length-hints h t
 
   -- ---- a loop that walks over the tiles
   module _ {first hints : List ℕ} {t : ℕ} (W : Walked J.T (hint_step J pal n have) first hints t) where

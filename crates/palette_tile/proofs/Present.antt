@@ -18,7 +18,6 @@ use Rattle.stats.proofs.BestTwo.{first_of, two-first, two-below, next-below as t
 use Rattle.palette.specs.Palette.{sub_of, nearest_of, dist_at, Present, Counted, Fits, Hinted}
 use Rattle.palette.proofs.Parts.{sub-room, sub-length, sub-colours, sub-bounded}
 use Rattle.palette.proofs.Near.{nearest-below, nearest-within}
-use Rattle.palette_tile.specs.Own.{OwnTurn}
 use Rattle.palette_tile.specs.Tiles.{tile_at, present_in, fit_at, winner, two_at, Shown}
 
 -- the first of the best two is the best fit
@@ -70,14 +69,6 @@ module _ (J : Job) (pal : List Float) (n have : ℕ) (S : Shown J pal n have) wh
 
     pub part-within : (q : Oklab) → Sized q 2 → Within (nearest_of (sub_of pal J.C have i) q J.weight).dist 1188 1
     part-within q Q = nearest-within (sub_of pal J.C have i) q J.weight part-some part-bounded Q S.ready.weight S.ready.heavy
-
-    -- a walk over its own tiles, at tile t
-    pub own_turn : (hints : List ℕ) → length hints ≡ J.T → (t : ℕ) → t < J.T → (room : ℕ) → have ≤ room → OwnTurn J (sub_of pal J.C have i) hints t room
-    own_turn hints each t m room h = record { ready = S.ready; some = part-some; most = omega (arith, part-colours); tile = m; each = each }
-
-  -- another palette of the same length and bound is shown too
-  pub still_shown : (after : List Float) → length after ≡ length pal → Bounded after 4 → Shown J after n have
-  still_shown after e B = record { ready = S.ready; subs = S.subs; most = S.most; some = S.some; present = S.present; room = e ∙ S.room; bounded = B }
 
   -- ---- tile t
   module _ (t : ℕ) (l : t < J.T) where

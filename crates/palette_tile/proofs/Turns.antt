@@ -7,8 +7,9 @@ use mathlib.Core.List.{List}
 use native.Mathlib.Omega.{arith}
 use lib.ListN.{length, set}
 use lib.Ieee.{Float}
-use borrow.Author.Tests.{eqb-false}
+use borrow.Author.Tests.{eqb-true, eqb-false}
 use Rattle.job.specs.Job.{Job, size_of, tile_of, counts_of, is_empty}
+use Rattle.job.proofs.Tiles.{counts-length}
 use Rattle.stats.specs.declared.Near.{Near}
 use Rattle.palette.specs.Palette.{Tile, tile_with, sub_of}
 use Rattle.palette_tile.specs.Tiles.{tile_at, fit_at, winner, hint_step, Shown, Paired, Fitted}
@@ -23,7 +24,10 @@ module _ (J : Job) (t : ℕ) (r : Bool) (R : r ≡ is_empty J t) where
   taken_up a b p e = e ∙ sym (ap (λ (z : Bool). cond z a b) (sym R ∙ p))
 
 module _ (J : Job) (pal : List Float) (n have : ℕ) (hints : List ℕ) (t : ℕ) (K : Paired J pal n have hints t) (r : Bool) (R : r ≡ is_empty J t) where
-  -- an empty one keeps its hint
+  -- an empty one has no colours, and keeps its hint
+  pub no_colours : r ≡ true → length (tile_at J t).counts ≡ 0
+  no_colours p = counts-length J K.shown.ready t K.tile ∙ eqb-true (size_of J.tiles t) 0 (sym R ∙ p)
+
   pub hint-kept : r ≡ true → hints ≡ hint_step J pal n have t hints
   unfolding hint_step
   hint-kept p = passed_over J t r R hints (set hints t (winner J pal n have t)) p

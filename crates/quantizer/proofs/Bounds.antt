@@ -28,7 +28,7 @@ use Rattle.quantizer.specs.Replacing.{Shares, shares_of, spread_of, owner_of, sw
 use Rattle.quantizer.specs.Drawing.{target_of, moved}
 use Rattle.quantizer.specs.Lengths.{Wide}
 use Rattle.quantizer.proofs.Lengths.{shares-wide, spread_wide, length-grown_by, length-colour_copied}
-use Rattle.quantizer.proofs.Indexes.{split_below, from-below, to_below, shown-subs, row-placed, target_in}
+use Rattle.quantizer.proofs.Indexes.{split_below, from_below, to_below, shown-subs, row-placed, target_in}
 
 -- ---- seeding
 module _ (K : Course) (room : Bool) (D : Sampled K.job K.n K.samples room) where
@@ -65,7 +65,7 @@ module _ (J : Job) (pal : List Float) (L : length pal ≡ 3 * (J.S * J.C)) where
 
 -- ---- growing
 module _ (J : Job) (pal : List Float) (have : ℕ) (S : Shown J pal J.S have) (k : ℕ) (B : Bounded pal k) where
-  pub grown_by-bounded : (i : ℕ) → i ≤ J.S → Bounded (grown_by J pal have i) k
+  grown_by-bounded : (i : ℕ) → i ≤ J.S → Bounded (grown_by J pal have i) k
   unfolding grown_by
   grown_by-bounded zero h = B
   grown_by-bounded (suc i) h =
@@ -90,7 +90,7 @@ module _ (J : Job) (pal : List Float) (S : Shown J pal J.S J.C) (k : ℕ) (B : B
   stays = record { size = refl; bound = B }
 
   module _ (A : Shares) (W : Wide A places) where
-    pub recoloured-kept : (i : ℕ) → i ≤ J.S → Kept pal k (recoloured J pal A i)
+    recoloured-kept : (i : ℕ) → i ≤ J.S → Kept pal k (recoloured J pal A i)
     unfolding recoloured colour_swapped
     recoloured-kept zero h = stays
     recoloured-kept (suc i) h =
@@ -102,11 +102,11 @@ module _ (J : Job) (pal : List Float) (S : Shown J pal J.S J.C) (k : ℕ) (B : B
         (record {
           size = length-colour_copied q J.C i s.from s.to ∙ before.size;
           bound = colour_copied-bounded q k J.C i s.from s.to before.bound
-              (place-room J.S J.C i s.from (length q) h (from-below A (i * J.C) J.C (omega (arith, W.had)) (omega (arith, W.lost)) S.some) (omega (arith, rows J pal S.room, before.size)));
+              (place-room J.S J.C i s.from (length q) h (from_below A (i * J.C) J.C (omega (arith, W.had)) (omega (arith, W.lost)) S.some) (omega (arith, rows J pal S.room, before.size)));
         })
         before
 
-  pub colours-kept : Kept pal k (colours_replaced J pal)
+  colours-kept : Kept pal k (colours_replaced J pal)
   unfolding colours_replaced
   colours-kept = either-kept pal k (ltb 1 J.C) _ pal (recoloured-kept (spread_of J pal (owner_of J pal) J.T) (spread_wide J pal (owner_of J pal) J.T) J.S (le_refl J.S)) stays
 
@@ -132,7 +132,7 @@ module _ (J : Job) (pal : List Float) (S : Shown J pal J.S J.C) (k : ℕ) (B : B
       few = shown-subs J pal J.S J.C S
 
       from_in : swap.from < J.S
-      from_in = from-below (shares_of J pal J.T) 0 J.S (omega (arith, W.had, few)) (omega (arith, W.lost, few)) S.subs
+      from_in = from_below (shares_of J pal J.T) 0 J.S (omega (arith, W.had, few)) (omega (arith, W.lost, few)) S.subs
 
       to_in : swap.to < J.S
       to_in = to_below (shares_of J pal J.T) 0 J.S (omega (arith, W.had, few)) (omega (arith, W.lost, few)) S.subs

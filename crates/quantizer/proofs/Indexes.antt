@@ -1,6 +1,6 @@
 -- Every index that a stage chooses is one of those present, and its place is one of the palette's. Assumes nothing.
 use Prim.Native.Nat.{ℕ, ◌+◌, ◌*◌, ◌/◌, ◌≤◌, ◌<◌}
-use mathlib.Core.Path.{subst}
+use mathlib.Core.Path.{◌≡◌, subst}
 use mathlib.Core.Bool.{Bool, true, false, cond}
 use mathlib.Core.List.{List}
 use native.Mathlib.Nat.{le_trans, mul-le-mul_right}
@@ -13,11 +13,13 @@ use Rattle.color.specs.declared.Oklab.{Oklab}
 use Rattle.color.specs.Color.{colour_at}
 use Rattle.stats.proofs.BestTwo.{two-below}
 use Rattle.job.specs.Job.{Job, tile_of}
+use Rattle.stats.specs.declared.Near.{Near}
 use Rattle.palette.specs.Palette.{gap, sub_of}
 use Rattle.palette_two.specs.PaletteTwo.{nearest_two_of}
 use Rattle.palette_edit.proofs.Kept.{place-room}
-use Rattle.palette_tile.specs.Tiles.{winner, Shown}
+use Rattle.palette_tile.specs.Tiles.{fit_at, winner, Shown}
 use Rattle.palette_tile.proofs.Present.{shown-present, winner-below, pair-below, part-colours, part-nearest}
+use Rattle.palette_tile.proofs.Turns.{fit-below}
 use Rattle.quantizer.specs.Sums.{sums_at, greatest, places}
 use Rattle.quantizer.proofs.Choices.{greatest-below, smallest-below}
 use Rattle.quantizer.specs.Seeding.{worst_of}
@@ -28,8 +30,8 @@ use Rattle.quantizer.proofs.Lengths.{length-distances, length_needs}
 
 -- ---- among sums
 module _ (A : Shares) (from size : ℕ) (had : from + size ≤ length A.had) (lost : from + size ≤ length A.lost) (some : 1 ≤ size) where
-  pub from-below : (swap_in A from size).from < size
-  from-below = greatest-below A.had from size had some
+  pub from_below : (swap_in A from size).from < size
+  from_below = greatest-below A.had from size had some
 
   pub to_below : (swap_in A from size).to < size
   to_below = smallest-below A.lost from size lost some
@@ -45,6 +47,10 @@ module _ (J : Job) (pal : List Float) (n have : ℕ) (S : Shown J pal n have) wh
   -- the places of subpalette i are among `places`
   pub row-placed : (i : ℕ) → i < n → i * J.C + J.C ≤ places
   row-placed i l = row_room i n J.C places l shown-few
+
+  -- b is a tile's fit
+  pub fit_row : (t : ℕ) (b : Near) → b ≡ fit_at J pal n have t → b.index * J.C + J.C ≤ places
+  fit_row t b e = row-placed b.index (fit-below J pal n have t b e S)
 
   pub place-placed : (i j : ℕ) → i < n → j < have → i * J.C + j < places
   place-placed i j l m = omega (arith, row-placed i l, S.present)

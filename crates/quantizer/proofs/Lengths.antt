@@ -3,10 +3,9 @@ use Prim.Native.Nat.{ℕ, zero, suc, ◌*◌}
 use mathlib.Core.Path.{◌≡◌, refl, ◌∙◌}
 use mathlib.Core.Bool.{Bool, true, false, cond}
 use mathlib.Core.List.{List}
-use lib.ListN.{length, length-set}
+use lib.ListN.{get_or, length, length-set}
 use lib.Dec.{eqb, ltb}
 use lib.Ieee.{Float}
-use Rattle.color.specs.declared.Oklab.{Oklab}
 use Rattle.color.specs.Color.{colour_at}
 use Rattle.color.proofs.Puts.{length_put}
 use Rattle.job.specs.Job.{Job, is_empty}
@@ -14,15 +13,14 @@ use Rattle.palette_tile.specs.Walk.{walk}
 use Rattle.palette.specs.Palette.{Tile, sub_of}
 use Rattle.palette_edit.specs.Edits.{place_of, colour_copied}
 use Rattle.palette_tile.specs.Tiles.{tile_at, winner}
-use Rattle.palette_tile.proofs.Walks.{length-writes}
 use Rattle.palette_tile.proofs.Hints.{length-hints}
 use Rattle.quantizer.specs.Sums.{places}
 use Rattle.quantizer.specs.Course.{Course}
 use Rattle.quantizer.proofs.Lists.{length-bump, length-zeros}
 use Rattle.quantizer.specs.Seeding.{seed_mean, seeded, distance_step, distances_of}
 use Rattle.quantizer.specs.Growing.{tile_needs, need_step, needs_of, grown_by, grown, grown_hints}
-use Rattle.quantizer.specs.Replacing.{Shares, shares_of, pair_at, pair_hints, tile_shares, spread_step, spread_of, replaced_hints}
-use Rattle.quantizer.specs.Refining.{Gather, gather_of, mean_at, mean_step, means_of, refined}
+use Rattle.quantizer.specs.Replacing.{Shares, shares_of, pair_hints, tile_shares, spread_step, spread_of, replaced_hints}
+use Rattle.quantizer.specs.Refining.{Gather, gather_of, mean_step, means_of, refined}
 use Rattle.quantizer.specs.Drawing.{target_of, moved, moved_hints}
 use Rattle.quantizer.specs.Lengths.{Wide}
 
@@ -70,7 +68,9 @@ spread_wide J pal owner (suc t) = tile-wide (sub_of pal J.C J.C (owner t)) (tile
 -- ---- hints
 module _ (J : Job) (pal : List Float) (h : List ℕ) where
   pub length-pair_hints : (t : ℕ) → length (pair_hints J pal h t) ≡ length h
-  length-pair_hints = length-writes (λ t. false) (λ t. (pair_at J pal t).index) h
+  unfolding walk
+  length-pair_hints zero = refl
+  length-pair_hints (suc t) = length-set (pair_hints J pal h t) t _ ∙ length-pair_hints t
 
   pub length-grown_hints : (have : ℕ) → length (grown_hints J pal have h) ≡ length h
   unfolding grown_hints
@@ -106,14 +106,14 @@ module _ (J : Job) (pal : List Float) where
   unfolding moved
   length_moved n have t k alpha = length_put pal (target_of J pal n have t k) _
 
-pub length_mean : (x : Oklab) (m p : ℕ) (pal : List Float) → length (mean_at x m p pal) ≡ length pal
-unfolding mean_at
-length_mean x m p pal = cond-length (eqb m 0) pal _ (length pal) refl (length_put pal p _)
+length_mean : (A : Gather) (p : ℕ) (pal : List Float) → length (mean_step A p pal) ≡ length pal
+unfolding mean_step
+length_mean A p pal = cond-length (eqb (get_or A.cnts p 0) 0) pal _ (length pal) refl (length_put pal p _)
 
 pub length_means : (pal : List Float) (A : Gather) (n : ℕ) → length (means_of pal A n) ≡ length pal
-unfolding means_of mean_step
+unfolding means_of
 length_means pal A zero = refl
-length_means pal A (suc n) = length_mean _ _ n (means_of pal A n) ∙ length_means pal A n
+length_means pal A (suc n) = length_mean A n (means_of pal A n) ∙ length_means pal A n
 
 pub length-refined : (J : Job) (pal : List Float) → length (refined J pal) ≡ length pal
 unfolding refined

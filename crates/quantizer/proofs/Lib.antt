@@ -8,4 +8,3 @@ pub mod NoNans
 pub mod Goods
 pub mod Lengths
 pub mod Refines
-pub mod Rows

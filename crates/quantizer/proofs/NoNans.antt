@@ -1,7 +1,9 @@
 -- The sums that the stages choose among have no NaN and no sign, so that a choice among them may be made. Assumes nothing.
-use Prim.Native.Nat.{ℕ, zero, suc, ◌+◌, ◌/◌, ◌≤◌, ◌<◌}
+use Prim.Native.Nat.{ℕ, zero, suc, ◌+◌, ◌*◌, ◌/◌, ◌≤◌, ◌<◌}
+use mathlib.Core.Path.{◌≡◌}
 use mathlib.Core.Bool.{Bool, true, false, cond}
 use mathlib.Core.List.{List}
+use native.Mathlib.Nat.{le_refl}
 use native.Mathlib.Omega.{arith}
 use lib.ListN.{get_or, length}
 use lib.Dec.{T}
@@ -19,17 +21,17 @@ use Rattle.palette.specs.Palette.{dist_at, gap, sub_of, nearest_of, term_of}
 use Rattle.palette.proofs.Parts.{sub-finite}
 use Rattle.palette.proofs.Sums.{gap-good, tile-real, dist-good}
 use Rattle.palette_two.specs.PaletteTwo.{nearest_two_of}
-use Rattle.palette_tile.specs.Tiles.{tile_at, present_in, fit_at, two_at, Shown}
+use Rattle.palette_tile.specs.Tiles.{tile_at, present_in, fit_at, winner, two_at, Shown}
 use Rattle.palette_tile.proofs.Present.{shown-present, winner-below, pair-below, part-nearest, tile-counted}
-use Rattle.quantizer.specs.Sums.{bump}
+use Rattle.quantizer.specs.Sums.{bump, places}
 use Rattle.quantizer.specs.Seeding.{distance_step, distances_of}
-use Rattle.quantizer.specs.Growing.{tile_needs}
-use Rattle.quantizer.specs.Replacing.{Shares, pair_at, shares_of, tile_shares}
+use Rattle.quantizer.specs.Growing.{tile_needs, need_step, needs_of}
+use Rattle.quantizer.specs.Replacing.{Shares, pair_at, shares_of, tile_shares, spread_step, spread_of}
 use Rattle.quantizer.specs.Goods.{AllGood}
 use Rattle.quantizer.proofs.Goods.{zeros-good, bump-good}
 use Rattle.quantizer.specs.Lengths.{Wide}
-use Rattle.quantizer.proofs.Lengths.{tile-wide, length-distances, length-tile_needs, shares-wide}
-use Rattle.quantizer.proofs.Indexes.{shown-subs, part-nearest-two}
+use Rattle.quantizer.proofs.Lengths.{tile-wide, length-distances, length-tile_needs, length_needs, shares-wide, spread_wide}
+use Rattle.quantizer.proofs.Indexes.{shown-subs, place-placed, part-nearest-two}
 
 module _ (J : Job) (pal : List Float) (n have : ℕ) (S : Shown J pal n have) (t : ℕ) (l : t < J.T) where
   -- ---- a tile's distances, the least of them, and the second least
@@ -55,34 +57,34 @@ module _ (J : Job) (pal : List Float) (n have : ℕ) (S : Shown J pal n have) (t
         gap-good (sub_of pal J.C have i) J.weight F S.ready.weight (colour_at (tile_at J t).colours k)
         (tile-real (sub_of pal J.C have i) J.weight F S.ready.weight (tile_at J t) (tile-counted J pal n have S t l) k o) j p
 
-    -- to sums of its colours alone
-    pub tile_needs-good : (d : List Float) → have ≤ length d → AllGood d → (k : ℕ) → k ≤ length (tile_at J t).counts → AllGood (tile_needs (sub_of pal J.C have i) (tile_at J t) J.weight 0 d k)
+    pub tile_needs-good : (d : List Float) → length d ≡ places → AllGood d → (k : ℕ) → k ≤ length (tile_at J t).counts → AllGood (tile_needs (sub_of pal J.C have i) (tile_at J t) J.weight (i * J.C) d k)
     unfolding tile_needs
     tile_needs-good d e g zero h = g
     tile_needs-good d e g (suc k) h =
         let s = sub_of pal J.C have i in
         let q = colour_at (tile_at J t).colours k in
-        bump-good (tile_needs s (tile_at J t) J.weight 0 d k) (0 + (nearest_of s q J.weight).index) (term_of s (tile_at J t) J.weight k)
-        (omega (arith, part-nearest J pal n have S i m q, length-tile_needs s (tile_at J t) J.weight 0 d k))
+        let p = place-placed J pal n have S i (nearest_of s q J.weight).index m (part-nearest J pal n have S i m q) in
+        bump-good (tile_needs s (tile_at J t) J.weight (i * J.C) d k) (i * J.C + (nearest_of s q J.weight).index) (term_of s (tile_at J t) J.weight k)
+        (omega (arith, p, length-tile_needs s (tile_at J t) J.weight (i * J.C) d k))
         (times-good binary32 _ _ (least-good (gap s q J.weight) (length s / 3) (gaps-good k h)) (count-good k h))
         (tile_needs-good d e g k (omega arith))
 
-    pub tile_shares-good : (A : Shares) (room : ℕ) → have ≤ room → Wide A room → AllGood A.had × AllGood A.lost → (k : ℕ) → k ≤ length (tile_at J t).counts
-        → AllGood (tile_shares (sub_of pal J.C have i) (tile_at J t) J.weight 0 A k).had × AllGood (tile_shares (sub_of pal J.C have i) (tile_at J t) J.weight 0 A k).lost
+    pub tile_shares-good : (A : Shares) → Wide A places → AllGood A.had × AllGood A.lost → (k : ℕ) → k ≤ length (tile_at J t).counts
+        → AllGood (tile_shares (sub_of pal J.C have i) (tile_at J t) J.weight (i * J.C) A k).had × AllGood (tile_shares (sub_of pal J.C have i) (tile_at J t) J.weight (i * J.C) A k).lost
     unfolding tile_shares
-    tile_shares-good A room e W g zero h = g
-    tile_shares-good A room e W g (suc k) h =
+    tile_shares-good A W g zero h = g
+    tile_shares-good A W g (suc k) h =
         let s = sub_of pal J.C have i in
         let q = colour_at (tile_at J t).colours k in
         let r = nearest_two_of s q J.weight in
-        let B = tile_shares s (tile_at J t) J.weight 0 A k in
-        let wide = tile-wide s (tile_at J t) J.weight 0 A room W k in
-        let before = tile_shares-good A room e W g k (omega arith) in
-        let p = part-nearest-two J pal n have S i m q in
+        let B = tile_shares s (tile_at J t) J.weight (i * J.C) A k in
+        let wide = tile-wide s (tile_at J t) J.weight (i * J.C) A places W k in
+        let before = tile_shares-good A W g k (omega arith) in
+        let p = place-placed J pal n have S i r.index m (part-nearest-two J pal n have S i m q) in
         let both = two-all (Good binary32) (gap s q J.weight) (length s / 3) (inf-good binary32) (gaps-good k h) in
         let f = of_int binary32 (pos (get_or (tile_at J t).counts k 0)) in (
-          bump-good B.had (0 + r.index) (mul binary32 r.dist f) (omega (arith, p, wide.had)) (times-good binary32 r.dist f both.0 (count-good k h)) before.0,
-          bump-good B.lost (0 + r.index) (mul binary32 r.second f) (omega (arith, p, wide.lost)) (times-good binary32 r.second f both.1 (count-good k h)) before.1,
+          bump-good B.had (i * J.C + r.index) (mul binary32 r.dist f) (omega (arith, p, wide.had)) (times-good binary32 r.dist f both.0 (count-good k h)) before.0,
+          bump-good B.lost (i * J.C + r.index) (mul binary32 r.second f) (omega (arith, p, wide.lost)) (times-good binary32 r.second f both.1 (count-good k h)) before.1,
         )
 
 -- ---- seeding
@@ -94,6 +96,14 @@ distances-good J pal n S (suc t) h = either (is_empty J t) (distances-good J pal
     either : (b : Bool) → AllGood (distances_of J pal n t) → AllGood (cond b (distances_of J pal n t) (bump (distances_of J pal n t) (fit_at J pal n 1 t).index (fit_at J pal n 1 t).dist))
     either true g = g
     either false g = bump-good (distances_of J pal n t) (fit_at J pal n 1 t).index (fit_at J pal n 1 t).dist (omega (arith, winner-below J pal n 1 S t, shown-subs J pal n 1 S, length-distances J pal n t)) (fit-good J pal n 1 S t h) g
+
+-- ---- growing
+pub needs_good : (J : Job) (pal : List Float) (have : ℕ) → Shown J pal J.S have → (t : ℕ) → t ≤ J.T → AllGood (needs_of J pal have t)
+unfolding walk need_step
+needs_good J pal have S zero h = zeros-good places
+needs_good J pal have S (suc t) h =
+    tile_needs-good J pal J.S have S t h (winner J pal J.S have t) (winner-below J pal J.S have S t) (needs_of J pal have t) (length_needs J pal have t)
+    (needs_good J pal have S t (omega arith)) (length (tile_at J t).counts) (le_refl _)
 
 -- ---- replacing
 module _ (J : Job) (pal : List Float) (S : Shown J pal J.S J.C) where
@@ -109,3 +119,9 @@ module _ (J : Job) (pal : List Float) (S : Shown J pal J.S J.C) where
         bump-good (shares_of J pal t).had r.index r.dist (omega (arith, wide.had)) good.0 before.0,
         bump-good (shares_of J pal t).lost r.index r.second (omega (arith, wide.lost)) good.1 before.1,
       )
+
+  pub spread_good : (owner : ℕ → ℕ) → ((t : ℕ) → t < J.T → owner t < J.S) → (t : ℕ) → t ≤ J.T → AllGood (spread_of J pal owner t).had × AllGood (spread_of J pal owner t).lost
+  unfolding walk spread_step
+  spread_good owner o zero h = (zeros-good places, zeros-good places)
+  spread_good owner o (suc t) h =
+      tile_shares-good J pal J.S J.C S t h (owner t) (o t h) (spread_of J pal owner t) (spread_wide J pal owner t) (spread_good owner o t (omega arith)) (length (tile_at J t).counts) (le_refl _)

@@ -26,7 +26,7 @@ use Rattle.palette.specs.Palette.{Tile, sub_of, nearest_of}
 use Rattle.palette_tile.specs.Tiles.{tile_at, winner, Shown}
 use Rattle.palette_tile.proofs.Present.{winner-below, part-nearest, tile_sized_lem}
 use Rattle.quantizer.specs.Sums.{zeros, places}
-use Rattle.quantizer.specs.Refining.{Gather, nothing, add_at, tile_gather, gather_step, gather_of, mean_at, mean_step, means_of, refined}
+use Rattle.quantizer.specs.Refining.{Gather, nothing, add_at, tile_gather, gather_step, gather_of, mean_step, means_of, refined}
 use Rattle.quantizer.proofs.Lists.{length-zeros, zeros-bounded}
 use Rattle.quantizer.proofs.Indexes.{shown-few, place-placed}
 use Rattle.quantizer.specs.Refines.{Gathered, SumsWithin}
@@ -39,7 +39,7 @@ same_or_not a b = by (ℕ_discrete a b)
     by (no n) = inr n
 
 -- ---- an addition
-module _ (n : ℕ) (A : Gather) (H : SumsWithin n A) (p : ℕ) (q : Oklab) (m : ℕ) (P : p < n) where
+module _ (A : Gather) (H : SumsWithin A) (p : ℕ) (q : Oklab) (m : ℕ) (P : p < places) where
   pub counted : (i : ℕ) → get_or (add_at A p q m).cnts i 0 ≤ get_or A.cnts i 0 + m
   unfolding add_at
   counted i = elim (same_or_not i p) [
@@ -49,7 +49,7 @@ module _ (n : ℕ) (A : Gather) (H : SumsWithin n A) (p : ℕ) (q : Oklab) (m : 
     | inr n ↦ omega (arith, get_or-set_other A.cnts p i (get_or A.cnts p 0 + m) 0 n)
   ]
 
-  pub held-add : Sized q 2 → get_or A.cnts p 0 + m ≤ 8388608 → SumsWithin n (add_at A p q m)
+  pub held-add : Sized q 2 → get_or A.cnts p 0 + m ≤ 8388608 → SumsWithin (add_at A p q m)
   unfolding add_at
   held-add Q N =
       record {
@@ -73,13 +73,13 @@ module _ (n : ℕ) (A : Gather) (H : SumsWithin n A) (p : ℕ) (q : Oklab) (m : 
           (times-sized (colour_at A.sums p) q 2 (get_or A.cnts p 0) m (omega arith) (omega arith) (H.sized p P) Q))
 
 -- ---- a tile: what its colours add to a count is at most their own counts
-pub record Summed (n : ℕ) (A B : Gather) (m : ℕ) : Type 0 where
-  pub held : SumsWithin n B
+pub record Summed (A B : Gather) (m : ℕ) : Type 0 where
+  pub held : SumsWithin B
   pub few : (i : ℕ) → get_or B.cnts i 0 ≤ get_or A.cnts i 0 + m
 
-module _ (n : ℕ) (s : List Float) (X : Tile) (w : Float) (base : ℕ) (A : Gather) (H : SumsWithin n A) (place : (q : Oklab) → base + (nearest_of s q w).index < n)
+module _ (s : List Float) (X : Tile) (w : Float) (base : ℕ) (A : Gather) (H : SumsWithin A) (place : (q : Oklab) → base + (nearest_of s q w).index < places)
     (near : (k : ℕ) → k < length X.counts → Sized (colour_at X.colours k) 2) (few : (i : ℕ) → get_or A.cnts i 0 + sum (λ k. get_or X.counts k 0) (length X.counts) ≤ 8388608) where
-  pub tile_summed : (k : ℕ) → k ≤ length X.counts → Summed n A (tile_gather s X w base A k) (sum (λ k. get_or X.counts k 0) k)
+  pub tile_summed : (k : ℕ) → k ≤ length X.counts → Summed A (tile_gather s X w base A k) (sum (λ k. get_or X.counts k 0) k)
   unfolding tile_gather sum
   tile_summed zero h = record { held = H; few = λ i. omega arith }
   tile_summed (suc k) h =
@@ -90,8 +90,8 @@ module _ (n : ℕ) (s : List Float) (X : Tile) (w : Float) (base : ℕ) (A : Gat
       let T = tile_summed k (omega arith) in
       let most : sum (λ k. get_or X.counts k 0) k + m ≤ sum (λ k. get_or X.counts k 0) (length X.counts) = sum_rises (λ k. get_or X.counts k 0) (length X.counts) (suc k) h in
       record {
-        held = held-add n B T.held p q m (place q) (near k h) (omega (arith, T.few p, few p));
-        few = λ i. omega (arith, T.few i, counted n B T.held p q m (place q) i);
+        held = held-add B T.held p q m (place q) (near k h) (omega (arith, T.few p, few p));
+        few = λ i. omega (arith, T.few i, counted B T.held p q m (place q) i);
       }
 
 none-counted : (n i : ℕ) → get_or (replicate n 0) i 0 ≤ 0
@@ -99,18 +99,18 @@ none-counted zero i = omega arith
 none-counted (suc n) zero = omega arith
 none-counted (suc n) (suc i) = none-counted n i
 
-pub nothing-gathered : (n : ℕ) → Gathered n (nothing n) 0
-nothing-gathered n =
+pub nothing-gathered : Gathered nothing 0
+nothing-gathered =
     record {
       held = record {
-        whole = length-zeros (3 * n);
-        all = length-replicate {A = ℕ} n 0;
-        sized = λ p l. colour-sized (zeros (3 * n)) (2 * get_or (replicate n 0) p 0) p (zeros-bounded (3 * n) (2 * get_or (replicate n 0) p 0)) (third (length (zeros (3 * n))) p (length-zeros (3 * n)) l);
+        whole = length-zeros (3 * places);
+        all = length-replicate {A = ℕ} places 0;
+        sized = λ p l. colour-sized (zeros (3 * places)) (2 * get_or (replicate places 0) p 0) p (zeros-bounded (3 * places) (2 * get_or (replicate places 0) p 0)) (third (length (zeros (3 * places))) p (length-zeros (3 * places)) l);
       };
-      few = none-counted n;
+      few = none-counted places;
     }
   where
-    third : (z p : ℕ) → z ≡ 3 * n → p < n → p < z / 3
+    third : (z p : ℕ) → z ≡ 3 * places → p < places → p < z / 3
     third z p e l = omega arith
 
 module _ (J : Job) (pal : List Float) (S : Shown J pal J.S J.C) where
@@ -124,21 +124,21 @@ module _ (J : Job) (pal : List Float) (S : Shown J pal J.S J.C) where
   tile-pixels : (t : ℕ) → t < J.T → sum (λ k. get_or (tile_at J t).counts k 0) (length (tile_at J t).counts) ≤ most_tile_size
   tile-pixels t l = le_trans (S.ready.full t l) S.ready.sizes.small
 
-  pub gathered : (t : ℕ) → t ≤ J.T → Gathered places (gather_of J pal t) (most_tile_size * t)
+  pub gathered : (t : ℕ) → t ≤ J.T → Gathered (gather_of J pal t) (most_tile_size * t)
   unfolding walk gather_step
-  gathered zero h = record { held = (nothing-gathered places).held; few = λ i. omega (arith, (nothing-gathered places).few i) }
+  gathered zero h = record { held = nothing-gathered.held; few = λ i. omega (arith, nothing-gathered.few i) }
   gathered (suc t) h =
       let i = winner J pal J.S J.C t in
       let G = gathered t (omega arith) in
       let most : J.T ≤ 1024 = S.ready.sizes.tiles in
-      let B = tile_summed places (sub_of pal J.C J.C i) (tile_at J t) J.weight (i * J.C) (gather_of J pal t) G.held (gather-place i (winner-below J pal J.S J.C S t)) (tile-colour t h)
+      let B = tile_summed (sub_of pal J.C J.C i) (tile_at J t) J.weight (i * J.C) (gather_of J pal t) G.held (gather-place i (winner-below J pal J.S J.C S t)) (tile-colour t h)
       (λ j. omega (arith, G.few j, tile-pixels t h, most)) (length (tile_at J t).counts) (le_refl (length (tile_at J t).counts)) in
       record { held = B.held; few = λ j. omega (arith, B.few j, G.few j, tile-pixels t h) }
 
 -- ---- the means
-module _ (pal : List Float) (A : Gather) (H : SumsWithin places A) (few : (p : ℕ) → get_or A.cnts p 0 ≤ 8388608) (k : ℕ) (K : 2 ≤ k) (B : Bounded pal k) where
+module _ (pal : List Float) (A : Gather) (H : SumsWithin A) (few : (p : ℕ) → get_or A.cnts p 0 ≤ 8388608) (k : ℕ) (K : 2 ≤ k) (B : Bounded pal k) where
   pub means_bounded : (n : ℕ) → n ≤ places → Bounded (means_of pal A n) k
-  unfolding means_of mean_step mean_at
+  unfolding means_of mean_step
   means_bounded zero h = B
   means_bounded (suc p) h = elim (eq-zero-or-pos (get_or A.cnts p 0)) [
     | inl z ↦ subst⁻¹ (λ (b : Bool). Bounded (cond b (means_of pal A p) (put_at (means_of pal A p) p mean)) k) (eq-eqb (get_or A.cnts p 0) 0 z) (means_bounded p (omega arith))

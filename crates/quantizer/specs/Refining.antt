@@ -17,9 +17,8 @@ pub record Gather : Type 0 where
 abbrev pub gather : List Float → List ℕ → Gather
 gather sums cnts = record { sums = sums; cnts = cnts }
 
--- n of them before the first tile
-abbrev pub nothing : ℕ → Gather
-nothing n = gather (zeros (3 * n)) (replicate n 0)
+abbrev pub nothing : Gather
+nothing = gather (zeros (3 * places)) (replicate places 0)
 
 -- m pixels of the colour q, to the colour at p
 unfoldable pub add_at : Gather → ℕ → Oklab → ℕ → Gather
@@ -38,15 +37,11 @@ gather_step J pal i t A = tile_gather (sub_of pal J.C J.C i) (tile_at J t) J.wei
 
 -- over the first t tiles, each to the subpalette that fits it best
 abbrev pub gather_of : Job → List Float → ℕ → Gather
-gather_of J pal t = walk (λ i. gather_step J pal (winner J pal J.S J.C i) i) (nothing places) t
-
--- colour p becomes the mean of m pixels whose sum is x, where there are any
-unfoldable pub mean_at : Oklab → ℕ → ℕ → List Float → List Float
-mean_at x m p pal = cond (eqb m 0) pal (put_at pal p (over_of x m))
+gather_of J pal t = walk (λ i. gather_step J pal (winner J pal J.S J.C i) i) nothing t
 
 -- colour p becomes its mean, where pixels were counted
 unfoldable pub mean_step : Gather → ℕ → List Float → List Float
-mean_step A p pal = mean_at (colour_at A.sums p) (get_or A.cnts p 0) p pal
+mean_step A p pal = cond (eqb (get_or A.cnts p 0) 0) pal (put_at pal p (over_of (colour_at A.sums p) (get_or A.cnts p 0)))
 
 -- so do the first n colours
 unfoldable pub means_of : List Float → Gather → ℕ → List Float

@@ -8,7 +8,7 @@ use Rattle.quantizer.specs.Replacing.{Shares, swap_of, swap_in}
 use Rattle.quantizer.proofs.Lists.{length-sums}
 use Rattle.quantizer.specs.Goods.{AllGood}
 use Rattle.quantizer.proofs.Goods.{sums_no_nan}
-use Rattle.quantizer.proofs.Indexes.{from-below, to_below}
+use Rattle.quantizer.proofs.Indexes.{from_below, to_below}
 use Rattle.quantizer_choice.specs.Choosing.{Choosing}
 
 module _ (A : Shares) (from size : ℕ) (had : from + size ≤ length A.had) (lost : from + size ≤ length A.lost) (some : 1 ≤ size) where
@@ -23,7 +23,7 @@ module _ (A : Shares) (from size : ℕ) (had : from + size ≤ length A.had) (lo
       })
 
   pub part-below : (r : Swap) → r ≡ swap_in A from size → (r.from < size) × (r.to < size)
-  part-below r p = subst⁻¹ (λ (x : Swap). (x.from < size) × (x.to < size)) p (from-below A from size had lost some, to_below A from size had lost some)
+  part-below r p = subst⁻¹ (λ (x : Swap). (x.from < size) × (x.to < size)) p (from_below A from size had lost some, to_below A from size had lost some)
 
 pub part_swap : (A : Shares) (from size m : ℕ) → m ≡ size → (r : Swap) → r ≡ swap_of (take m (drop from A.had)) (take m (drop from A.lost)) → r ≡ swap_in A from size
 part_swap A from size m e r p = p ∙ ap (λ (k : ℕ). swap_of (take k (drop from A.had)) (take k (drop from A.lost))) e

@@ -1,8 +1,8 @@
--- What the sums by colour ask, and hints that name the subpalette that each tile goes to. Definitions only. Assumes nothing.
+-- What the sums by colour ask: hints that name the subpalette that each tile goes to. Assumes nothing.
 use Rattle.std.specs.Prelude.{ℕ, ◌<◌, ◌≡◌, List, length, Float}
-use Rattle.job.specs.Job.{Job, most_colours}
-use Rattle.palette_tile.specs.Own.{OwnTurn}
+use Rattle.job.specs.Job.{Job}
 use Rattle.palette_tile.specs.Tiles.{Shown}
+use Rattle.quantizer.specs.Sums.{places}
 use Rattle.quantizer.specs.Replacing.{Shares, owner_of}
 use Rattle.quantizer.specs.Lengths.{Wide}
 use Rattle.quantizer_owner.specs.Owner.{owner_in}
@@ -12,7 +12,8 @@ pub record Owned (J : Job) (pal : List Float) (hints : List ℕ) : Type 0 where
   pub each : length hints ≡ J.T
   pub owner : (t : ℕ) → t < J.T → owner_in J.S hints t ≡ owner_of J pal t
 
--- tile t's part in the sums of the colours of s
-pub record OwnerTurn (J : Job) (s : List Float) (hints : List ℕ) (t : ℕ) (A : Shares) : Type 0 where
-  pub turn : OwnTurn J s hints t most_colours
-  pub wide : Wide A most_colours
+-- tile t's part in the sums
+pub record OwnerTurn (J : Job) (pal : List Float) (hints : List ℕ) (t : ℕ) (A : Shares) : Type 0 where
+  pub owned : Owned J pal hints
+  pub tile : t < J.T
+  pub wide : Wide A places

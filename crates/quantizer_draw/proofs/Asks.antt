@@ -14,8 +14,8 @@ module _ (K : Course) (at : Cycle) (pal : List Float) (subs have : ℕ) (hints :
   sample-is : sample ≡ (draw_one at).sample
   sample-is = ap (λ (d : Drawn). d.sample) e
 
-  pub nudge-asked : Drawing K pal subs have hints sample
-  nudge-asked =
+  pub nudge_asked : Drawing K pal subs have hints sample
+  nudge_asked =
       record {
         sampling = G.sampling;
         shown = G.shown;

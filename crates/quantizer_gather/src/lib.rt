@@ -1,61 +1,60 @@
-// What a pass of refinement takes a subpalette's means from: the sums and the counts of its colours, from the tiles that it won, which their
-// hints tell. They are what specs/Rows.antt says.
-ghost use Rattle.std.specs.Prelude.{◌≡◌, ◌<◌, length};
-ghost use Rattle.job.specs.Job.{job_of, most_colours};
-ghost use Rattle.palette.specs.Palette.{sub_of};
-ghost use Rattle.palette_tile.specs.Tiles.{Shown};
-ghost use Rattle.quantizer.specs.Refining.{gather, nothing};
-ghost use Rattle.quantizer_gather.specs.Rows.{row_step, row_of};
+// The sums and the counts that one pass of refinement takes its means from: each tile colour goes to the nearest colour of the subpalette
+// that fits its tile best. They are what the definitions in quantizer's specs/Refining.antt say; the hints then name each tile's winner.
+ghost use Rattle.std.specs.Prelude.{◌≡◌, length};
+ghost use Rattle.job.specs.Job.{job_of};
+ghost use Rattle.palette_tile.specs.Tiles.{winner, hint_step, hints_of, Shown};
+ghost use Rattle.quantizer.specs.Refining.{gather, nothing, gather_step, gather_of};
 ghost use Rattle.quantizer_gather.specs.Turns.{Turned};
 
 use job::Sizes;
 
-// Tile i's part in the sums and counts of subpalette k, whose colours are `sub`, where its hint names it.
+// Tile i's part; its hint is written, where it is not empty.
 fn gather_step(
     z: Sizes,
     tiles: &[u32],
     colours: &[f32],
     counts: &[u32],
-    sub: &[f32],
-    hints: &[u32],
-    k: usize,
+    pal: &[f32],
+    hints: &mut [u32],
     i: usize,
     sums: &mut [f32],
     cnts: &mut [u32],
 )
-    requires { Turned (job_of z tiles.now colours.now counts.now) sub.now hints.now i (gather sums.old cnts.old) }
-    ensures { gather sums.new cnts.new
-        ≡ row_step (job_of z tiles.now colours.now counts.now) sub.now hints.now k i (gather sums.old cnts.old) }
+    requires { Turned (job_of z tiles.now colours.now counts.now) pal.now hints.old i (gather sums.old cnts.old) }
+    ensures { (gather sums.new cnts.new
+        ≡ gather_step (job_of z tiles.now colours.now counts.now) pal.now
+        (winner (job_of z tiles.now colours.now counts.now) pal.now z.s z.c i) i (gather sums.old cnts.old))
+        × (hints.new ≡ hint_step (job_of z tiles.now colours.now counts.now) pal.now z.s z.c i hints.old) }
 {
-    let winner = hints[i] as usize;
-    if winner != k {
+    if job::is_empty(tiles, i) {
         return;
     }
+    let best = palette_tile::tile_fit(z, tiles, colours, counts, pal, z.s, z.c, hints, i);
+    let winner = best.index;
+    let sub = palette::part(pal, z.c, z.c, winner);
     let tile = job::tile_part(tiles, colours, i);
     let part = job::counts_part(tiles, counts, i);
-    quantizer_gather_tile::gather_tile(sub, tile, part, z.weight, sums, cnts);
+    quantizer_gather_tile::gather_tile(sub, tile, part, z.weight, winner * z.c, sums, cnts);
 }
 
-// All tiles' parts in those of subpalette k, from sums and counts of 0.
+// All tiles' parts, from sums and counts of 0.
 pub fn gather_all(
     z: Sizes,
     tiles: &[u32],
     colours: &[f32],
     counts: &[u32],
     pal: &[f32],
-    hints: &[u32],
-    k: usize,
+    hints: &mut [u32],
     sums: &mut [f32],
     cnts: &mut [u32],
 )
-    requires { Shown (job_of z tiles.now colours.now counts.now) pal.now z.s z.c × ((length hints.now ≡ z.t) × ((k < z.s) × (gather sums.old cnts.old ≡ nothing most_colours))) }
-    ensures { gather sums.new cnts.new
-        ≡ row_of (job_of z tiles.now colours.now counts.now) (sub_of pal.now z.c z.c k) hints.now k z.t }
+    requires { Shown (job_of z tiles.now colours.now counts.now) pal.now z.s z.c × ((length hints.old ≡ z.t) × (gather sums.old cnts.old ≡ nothing)) }
+    ensures { (gather sums.new cnts.new ≡ gather_of (job_of z tiles.now colours.now counts.now) pal.now z.t)
+        × (hints.new ≡ hints_of (job_of z tiles.now colours.now counts.now) pal.now z.s z.c hints.old z.t) }
 {
-    let sub = palette::part(pal, z.c, z.c, k);
     let mut i = 0;
     while i < z.t {
-        gather_step(z, tiles, colours, counts, sub, hints, k, i, sums, cnts);
+        gather_step(z, tiles, colours, counts, pal, hints, i, sums, cnts);
         i += 1;
     }
 }

@@ -1,14 +1,23 @@
--- A tile of a job gives what a walk over its matches asks, to sums of a subpalette's colours alone. Assumes nothing.
-use Prim.Native.Nat.{ℕ, ◌/◌, ◌≤◌, ◌<◌}
+-- A tile of a job gives what a walk over its matches asks, in any subpalette that is present. Assumes nothing.
+use Prim.Native.Nat.{ℕ, ◌*◌, ◌<◌}
+use mathlib.Core.Path.{◌≡◌}
 use mathlib.Core.List.{List}
 use native.Mathlib.Omega.{arith}
-use lib.ListN.{length}
 use lib.Ieee.{Float}
 use Rattle.job.specs.Job.{Job}
-use Rattle.job.specs.Gives.{Ready}
-use Rattle.job.proofs.Tiles.{tile-three}
-use Rattle.palette_tile.specs.Tiles.{tile_at}
+use Rattle.palette.specs.Palette.{sub_of, Counted}
+use Rattle.palette_tile.specs.Tiles.{tile_at, Shown}
+use Rattle.palette_tile.proofs.Present.{part-colours, part-some, tile-counted}
+use Rattle.quantizer.specs.Sums.{places}
+use Rattle.quantizer.proofs.Indexes.{row-placed}
 use Rattle.quantizer_matches.specs.Matches.{Matched}
 
-pub tile_matched : (J : Job) → Ready J → (t : ℕ) → t < J.T → (s : List Float) → 1 ≤ length s / 3 → (room : ℕ) → length s / 3 ≤ room → Matched s (tile_at J t) room
-tile_matched J R t l s some room most = record { some = some; place = most; three = tile-three J R t l; high = λ k m. omega (arith, R.high t k l m, R.sizes.small) }
+pub tile_matched : (J : Job) (pal : List Float) (n have : ℕ) → (S : Shown J pal n have) (t : ℕ) → t < J.T → (i : ℕ) → i < n → (room : ℕ) → room ≡ places → Matched (sub_of pal J.C have i) (tile_at J t) (i * J.C) room
+tile_matched J pal n have S t l i m room e =
+    let counted : Counted (tile_at J t) = tile-counted J pal n have S t l in
+    record {
+      some = part-some J pal n have S i m;
+      place = omega (arith, part-colours J pal n have S i m, row-placed J pal n have S i m, S.present, e);
+      three = counted.three;
+      high = counted.high;
+    }

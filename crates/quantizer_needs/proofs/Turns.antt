@@ -1,81 +1,74 @@
--- A turn over one tile: what its calls ask, and what it comes to; the sums of a subpalette while the tiles are walked over; and the fits. Assumes nothing.
-use Prim.Native.Nat.{ℕ, ◌≤◌, ◌<◌}
-use mathlib.Core.Path.{◌≡◌, refl, sym, ap, subst⁻¹, ◌∙◌}
-use mathlib.Core.Bool.{Bool, cond}
+-- Sums by colour over the tiles, each in the subpalette that fits it best: a tile's part in them, and those of all tiles. Assumes nothing.
+use Prim.Native.Nat.{ℕ, ◌*◌, ◌≤◌}
+use mathlib.Core.Path.{◌≡◌, sym, ap, ◌∙◌}
+use mathlib.Core.Bool.{Bool, true, false, cond}
 use mathlib.Core.List.{List}
-use native.Mathlib.Omega.{arith}
-use lib.ListN.{get_or, length}
+use lib.ListN.{length, set}
 use lib.Ieee.{Float}
 use borrow.Author.Tests.{eq-eqb, ne_eqb}
-use Rattle.job.specs.Job.{Job, tile_of, counts_of, most_colours}
+use Rattle.job.specs.Job.{Job, tile_of, counts_of, is_empty}
+use Rattle.stats.specs.declared.Near.{Near}
 use Rattle.palette.specs.Palette.{tile_with, sub_of}
-use Rattle.palette_tile.specs.Own.{OwnTurn}
-use Rattle.palette_tile.specs.Tiles.{tile_at, hints_of}
-use Rattle.palette_tile.proofs.Present.{own_turn}
-use Rattle.palette_tile.proofs.Walks.{passed_by, stepped, own_either, Walked, walk-keeps, walked_has}
-use Rattle.quantizer.specs.Sums.{zeros}
-use Rattle.quantizer.specs.Growing.{tile_needs, grown_hints}
-use Rattle.quantizer.proofs.Lists.{length-zeros}
-use Rattle.quantizer.proofs.Lengths.{length-tile_needs}
+use Rattle.palette_tile.specs.Tiles.{tile_at, fit_at, winner, hint_step, hints_of}
+use Rattle.palette_tile.proofs.Present.{winner-below}
+use Rattle.palette_tile.proofs.Walks.{Walked, walked_end, walked_has}
+use Rattle.palette_tile.proofs.Turns.{no_colours, hint-kept, hint-written, goes_same, goes_asks, fit-index}
+use Rattle.quantizer.specs.Sums.{zeros, places}
+use Rattle.quantizer.specs.Growing.{tile_needs, need_step, needs_of, grown_hints}
+use Rattle.quantizer.proofs.Lengths.{length_needs}
 use Rattle.quantizer_matches.specs.Matches.{Matched}
 use Rattle.quantizer_matches.proofs.Asked.{tile_matched}
-use Rattle.quantizer_needs.specs.Rows.{row_need, row_needs}
-use Rattle.quantizer_needs.specs.Asked.{Growing}
+use Rattle.quantizer_needs.specs.Asked.{split_sums, NeedTurn}
 
 -- ---- a tile
-module _ (J : Job) (s : List Float) (hints : List ℕ) (i t : ℕ) (d : List Float) where
-  abbrev step : ℕ → List Float → List Float
-  step t d = tile_needs s (tile_at J t) J.weight 0 d (length (tile_at J t).counts)
+module _ (J : Job) (pal : List Float) (have : ℕ) (hints : List ℕ) (t : ℕ) (total : List Float) (K : NeedTurn J pal have hints t total) where
+  abbrev best : ℕ
+  best = winner J pal J.S have t
 
-  -- its hint names another
-  pub turn-other : (get_or hints t 0 ≡ i → ⊥) → d ≡ row_need J s hints i t d
-  unfolding row_need
-  turn-other n = passed_by (λ t. get_or hints t 0) i step t d n
+  abbrev Stepped : List Float → List ℕ → Type 0
+  Stepped after left = (after ≡ need_step J pal have best t total) × (left ≡ hint_step J pal J.S have t hints)
 
-  pub length-row_need : length (row_need J s hints i t d) ≡ length d
-  unfolding row_need
-  length-row_need = own_either (λ t. get_or hints t 0) i step t d (λ e. length e ≡ length d) refl (length-tile_needs s (tile_at J t) J.weight 0 d (length (tile_at J t).counts))
+  -- an empty one adds nothing
+  pub turn-none : (r : Bool) → r ≡ is_empty J t → r ≡ true → Stepped total hints
+  unfolding need_step tile_needs
+  turn-none r R p = (
+    sym (ap (tile_needs (sub_of pal J.C have best) (tile_at J t) J.weight (best * J.C) total) (no_colours J pal J.S have hints t K.paired r R p)),
+    hint-kept J pal J.S have hints t K.paired r R p,
+  )
 
-  module _ (tile : List Float) (part : List ℕ) (E : tile ≡ tile_of J t) (C : part ≡ counts_of J t) where
-    pub turn_matched : OwnTurn J s hints t (length d) → Matched s (tile_with tile part) (length d)
-    turn_matched K =
-        subst⁻¹ (λ (x : List Float). Matched s (tile_with x part) (length d)) E
-        (subst⁻¹ (λ (x : List ℕ). Matched s (tile_with (tile_of J t) x) (length d)) C
-        (tile_matched J K.ready t K.tile s K.some (length d) K.most))
+  module _ (b : Near) (B : b ≡ fit_at J pal J.S have t) (sub tile : List Float) (part : List ℕ) (S : sub ≡ sub_of pal J.C have b.index) (E : tile ≡ tile_of J t) (C : part ≡ counts_of J t) where
+    pub turn_matched : Matched sub (tile_with tile part) (b.index * J.C) (length total)
+    turn_matched =
+        goes_asks J pal have t b.index best (fit-index J pal J.S have t b B) sub tile part S E C (λ i s X. Matched s X (i * J.C) (length total))
+        (tile_matched J pal J.S have K.paired.shown t K.paired.tile best (winner-below J pal J.S have K.paired.shown t) (length total) K.wide)
 
-    pub turn-done : get_or hints t 0 ≡ i → (after : List Float) → after ≡ tile_needs s (tile_with tile part) J.weight 0 d (length part) → after ≡ row_need J s hints i t d
-    unfolding row_need
-    turn-done e after g =
-        stepped (λ t. get_or hints t 0) i step t d e
-        (g
-        ∙ ap (λ (x : List Float). tile_needs s (tile_with x part) J.weight 0 d (length part)) E
-        ∙ ap (λ (x : List ℕ). tile_needs s (tile_with (tile_of J t) x) J.weight 0 d (length x)) C)
+    pub turn-done : (r : Bool) → r ≡ is_empty J t → r ≡ false → (after : List Float) (left : List ℕ) → after
+        ≡ tile_needs sub (tile_with tile part) J.weight (b.index * J.C) total (length part) → left ≡ set hints t b.index → Stepped after left
+    unfolding need_step
+    turn-done r R p after left u v = (
+      u ∙ goes_same J pal have t b.index best (fit-index J pal J.S have t b B) sub tile part S E C (λ i s X. tile_needs s X J.weight (i * J.C) total (length X.counts)),
+      hint-written J pal J.S have hints t K.paired r R p b B left v,
+    )
 
--- ---- while the tiles are walked over, for subpalette i
-module _ (J : Job) (pal : List Float) (have : ℕ) (hints : List ℕ) (K : Growing J pal have hints) (i : ℕ) (l : i < J.S) where
-  abbrev own : List Float
-  own = sub_of pal J.C have i
+-- ---- all tiles; none is fitted where one colour each is present
+module _ (J : Job) (pal : List Float) (have : ℕ) where
+  abbrev Split : List Float → List ℕ → List ℕ → Type 0
+  Split total first left = (total ≡ split_sums J pal have) × (left ≡ grown_hints J pal have first)
 
-  pub length-row_needs : (t : ℕ) → t ≤ J.T → length (row_needs J own hints i t) ≡ most_colours
-  length-row_needs = walk-keeps (λ t d. length d ≡ most_colours) J.T (row_need J own hints i) (zeros most_colours) (length-zeros most_colours) (λ t m d e. length-row_need J own hints i t d ∙ e)
+  pub none_fitted : have ≡ 1 → (total : List Float) (first : List ℕ) → total ≡ zeros places → Split total first first
+  unfolding split_sums grown_hints
+  none_fitted e total first z = (
+    z ∙ sym (ap (λ (b : Bool). cond b (zeros places) (needs_of J pal have J.T)) (eq-eqb have 1 e)),
+    sym (ap (λ (b : Bool). cond b first (hints_of J pal J.S have first J.T)) (eq-eqb have 1 e)),
+  )
 
-  module _ {d : List Float} {t : ℕ} (W : Walked J.T (row_need J own hints i) (zeros most_colours) d t) where
-    pub walked_length : length d ≡ most_colours
-    walked_length = walked_has W (λ t d. length d ≡ most_colours) length-row_needs
+  module _ {total : List Float} {t : ℕ} (W : Walked J.T (λ i. need_step J pal have (winner J pal J.S have i) i) (zeros places) total t) where
+    pub needs_wide : length total ≡ places
+    needs_wide = walked_has W (λ t d. length d ≡ places) (λ t l. length_needs J pal have t)
 
-    -- `sub` is the subpalette, as the code has it
-    pub walked_turn : t < J.T → (sub : List Float) → sub ≡ own → OwnTurn J sub hints t (length d)
-    walked_turn m sub e = subst⁻¹ (λ (s : List Float). OwnTurn J s hints t (length d)) e (own_turn J pal J.S have K.shown i l hints K.each t m (length d) (omega (arith, walked_length, K.more, K.shown.ready.sizes.cap)))
-
-  pub walked_next : (sub : List Float) → sub ≡ own → (t : ℕ) (d after : List Float) → after ≡ row_need J sub hints i t d → after ≡ row_need J own hints i t d
-  walked_next sub e t d after g = g ∙ ap (λ (s : List Float). row_need J s hints i t d) e
-
--- ---- the fits; none is made where one colour each is present
-module _ (J : Job) (pal : List Float) (have : ℕ) (first : List ℕ) where
-  pub none_fitted : have ≡ 1 → first ≡ grown_hints J pal have first
-  unfolding grown_hints
-  none_fitted e = sym (ap (λ (b : Bool). cond b first (hints_of J pal J.S have first J.T)) (eq-eqb have 1 e))
-
-  pub all_fitted : (have ≡ 1 → ⊥) → (hints : List ℕ) → hints ≡ hints_of J pal J.S have first J.T → hints ≡ grown_hints J pal have first
-  unfolding grown_hints
-  all_fitted n hints e = e ∙ sym (ap (λ (b : Bool). cond b first (hints_of J pal J.S have first J.T)) (ne_eqb have 1 n))
+    pub all_fitted : {first hints : List ℕ} → Walked J.T (hint_step J pal J.S have) first hints t → (have ≡ 1 → ⊥) → J.T ≤ t → Split total first hints
+    unfolding split_sums grown_hints
+    all_fitted {first} H f h = (
+      walked_end W h ∙ sym (ap (λ (b : Bool). cond b (zeros places) (needs_of J pal have J.T)) (ne_eqb have 1 f)),
+      walked_end H h ∙ sym (ap (λ (b : Bool). cond b first (hints_of J pal J.S have first J.T)) (ne_eqb have 1 f)),
+    )

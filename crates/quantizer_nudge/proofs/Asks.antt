@@ -21,12 +21,12 @@ use Rattle.quantizer_sample.proofs.Course.{told, tile-full}
 use Rattle.quantizer_nudge.specs.Nudges.{moved_by, hints_by, Drawing}
 
 module _ (K : Course) (pal : List Float) (subs have : ℕ) (hints : List ℕ) (i : ℕ) (D : Drawing K pal subs have hints i) where
-  pub sample-asked : Told K.job.tiles K.job.colours K.samples i
-  sample-asked = told K i D.sampling D.drawn
+  pub sample_asked : Told K.job.tiles K.job.colours K.samples i
+  sample_asked = told K i D.sampling D.drawn
 
   module _ (tile : ℕ) (e : tile ≡ sample_tile K i) where
-    pub fit-asked : Fitted K.job pal subs have hints tile
-    fit-asked =
+    pub fit_asked : Fitted K.job pal subs have hints tile
+    fit_asked =
         subst⁻¹ (λ (x : ℕ). Fitted K.job pal subs have hints x) e
         (record { paired = record { shown = D.shown; tile = D.sampling.passed.tile i D.drawn; each = D.each }; full = tile-full K i D.sampling D.drawn })
 
@@ -35,8 +35,8 @@ module _ (K : Course) (pal : List Float) (subs have : ℕ) (hints : List ℕ) (i
       best_in : r.index < subs
       best_in = subst⁻¹ (λ (x : Near). x.index < subs) f (winner-below K.job pal subs have D.shown tile)
 
-      pub part-asked : (have ≤ K.job.C) × (r.index * (3 * K.job.C) + 3 * K.job.C ≤ length pal)
-      part-asked = shown-part K.job pal subs have D.shown r.index best_in
+      pub part_asked : (have ≤ K.job.C) × (r.index * (3 * K.job.C) + 3 * K.job.C ≤ length pal)
+      part_asked = shown-part K.job pal subs have D.shown r.index best_in
 
       -- v is the nearest of its subpalette to q
       module _ (sub : List Float) (g : sub ≡ sub_of pal K.job.C have r.index) (q : Oklab) (v : Near) (h : v ≡ nearest_of sub q K.job.weight) where
@@ -46,11 +46,11 @@ module _ (K : Course) (pal : List Float) (subs have : ℕ) (hints : List ℕ) (i
         near_in : v.index < have
         near_in = subst⁻¹ (λ (x : ℕ). x < have) near_is (part-nearest K.job pal subs have D.shown r.index best_in q)
 
-        pub place-asked : 3 * (r.index * K.job.C + v.index) + 2 < length pal
-        place-asked = place-room subs K.job.C r.index v.index (length pal) best_in (omega (arith, near_in, D.shown.present)) (shown-present K.job pal subs have D.shown).room
+        pub place_asked : 3 * (r.index * K.job.C + v.index) + 2 < length pal
+        place_asked = place-room subs K.job.C r.index v.index (length pal) best_in (omega (arith, near_in, D.shown.present)) (shown-present K.job pal subs have D.shown).room
 
         pub place-small : r.index * K.job.C + v.index < 18446744073709551616
-        place-small = omega (arith, place-asked, D.shown.room, D.shown.ready.sizes.cells)
+        place-small = omega (arith, place_asked, D.shown.room, D.shown.ready.sizes.cells)
 
         pub draw-done : (alpha : Float) (after : List Float) (told : List ℕ) → q ≡ colour_at (tile_of K.job (sample_tile K i)) (sample_place K i) → told ≡ set hints tile r.index
             → after ≡ nudged_at pal (r.index * K.job.C + v.index) q alpha

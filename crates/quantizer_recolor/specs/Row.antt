@@ -1,10 +1,13 @@
--- What gives way to what in one subpalette, from the tiles that go there. Definitions only. Assumes nothing.
-use Rattle.std.specs.Prelude.{ℕ, List, Float}
-use Rattle.job.specs.Job.{Job}
-use Rattle.palette.specs.Palette.{sub_of}
-use Rattle.quantizer.specs.declared.Swap.{Swap}
-use Rattle.quantizer.specs.Replacing.{swap_in}
-use Rattle.quantizer_color_sums.specs.Rows.{row_shares}
+-- What the replacement of a colour in one subpalette asks. Assumes nothing.
+use Rattle.std.specs.Prelude.{ℕ, ◌+◌, ◌*◌, ◌≤◌, List, length, Float}
+use Rattle.quantizer.specs.Replacing.{Shares}
+use Rattle.quantizer.specs.Goods.{AllGood}
 
-abbrev pub swap_row : Job → List Float → List ℕ → ℕ → Swap
-swap_row J pal hints i = swap_in (row_shares J (sub_of pal J.C J.C i) hints i J.T) 0 J.C
+-- the sums of subpalette i's colours are there and no NaN, and so are its places in the palette
+pub record Row (pal : List Float) (c i : ℕ) (A : Shares) : Type 0 where
+  pub some : 1 ≤ c
+  pub had : i * c + c ≤ length A.had
+  pub lost : i * c + c ≤ length A.lost
+  pub had_good : AllGood A.had
+  pub lost_good : AllGood A.lost
+  pub room : 3 * (i * c + c) ≤ length pal

@@ -1,46 +1,24 @@
-// In each subpalette the weakest-fit colour gives way to a copy of the best one, from the sums over the tiles that go there; what one
-// subpalette becomes no tile of another sees. The palette is left as specs/Replacing.antt of quantizer says.
-ghost use Rattle.std.specs.Prelude.{◌≡◌, ◌<◌, length};
+// In each subpalette the weakest-fit colour gives way to a copy of the best one, from the sums over all tiles.
+// The palette is left as specs/Replacing.antt of quantizer says.
+ghost use Rattle.std.specs.Prelude.{◌≡◌, ◌*◌};
 ghost use Rattle.job.specs.Job.{job_of};
-ghost use Rattle.palette_tile.specs.Tiles.{Shown};
-ghost use Rattle.quantizer.specs.Replacing.{colour_swapped, colours_replaced};
+ghost use Rattle.quantizer.specs.Replacing.{shares, swap_in, colour_swapped, colours_replaced};
 ghost use Rattle.quantizer_color_sums.specs.Asked.{Owned};
-ghost use Rattle.quantizer_recolor.specs.Row.{swap_row};
+ghost use Rattle.quantizer_recolor.specs.Row.{Row};
 
 use job::Sizes;
 
-// In subpalette k, the colour that gives way becomes the one that has most.
-fn replace_color(
-    z: Sizes,
-    tiles: &[u32],
-    colours: &[f32],
-    counts: &[u32],
-    pal: &mut [f32],
-    hints: &[u32],
-    k: usize,
-)
-    requires { Shown (job_of z tiles.now colours.now counts.now) pal.old z.s z.c × ((length hints.now ≡ z.t) × (k < z.s)) }
-    ensures { pal.new ≡ colour_swapped pal.old z.c k (swap_row (job_of z tiles.now colours.now counts.now) pal.old hints.now k) }
+// In subpalette i, the colour that gives way becomes the one that has most.
+fn replace_color(pal: &mut [f32], c: usize, i: usize, total: &[f32], second: &[f32])
+    requires { Row pal.old c i (shares total.now second.now) }
+    ensures { pal.new ≡ colour_swapped pal.old c i (swap_in (shares total.now second.now) (i * c) c) }
 {
-    let mut total_color_mse = [0.0f32; 16];
-    let mut second_color_mse = [0.0f32; 16];
-    quantizer_color_sums::color_sums(
-        z,
-        tiles,
-        colours,
-        counts,
-        pal,
-        hints,
-        k,
-        &mut total_color_mse,
-        &mut second_color_mse,
-    );
-    let c = z.c;
-    let swap = quantizer_choice::choose(&total_color_mse[0..c], &second_color_mse[0..c]);
-    quantizer_swap::swap_color(pal, c, k, swap)
+    let at = i * c;
+    let swap = quantizer_choice::choose(&total[at..at + c], &second[at..at + c]);
+    quantizer_swap::swap_color(pal, c, i, swap)
 }
 
-// A colour in each subpalette, from the tiles that the hints assign to it; with one colour each there is none to replace.
+// A colour in each subpalette, from the sums over all tiles, which the hints assign; with one colour each there is none to replace.
 pub fn replace_colors(
     z: Sizes,
     tiles: &[u32],
@@ -55,9 +33,21 @@ pub fn replace_colors(
     if z.c == 1 {
         return;
     }
-    let mut k = 0;
-    while k < z.s {
-        replace_color(z, tiles, colours, counts, pal, hints, k);
-        k += 1;
+    let mut total_color_mse = [0.0f32; 256];
+    let mut second_color_mse = [0.0f32; 256];
+    quantizer_color_sums::color_sums(
+        z,
+        tiles,
+        colours,
+        counts,
+        pal,
+        hints,
+        &mut total_color_mse,
+        &mut second_color_mse,
+    );
+    let mut i = 0;
+    while i < z.s {
+        replace_color(pal, z.c, i, &total_color_mse, &second_color_mse);
+        i += 1;
     }
 }

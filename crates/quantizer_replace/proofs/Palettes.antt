@@ -24,7 +24,7 @@ use Rattle.quantizer_choice.specs.Choosing.{Choosing}
 use Rattle.quantizer_choice.proofs.Parts.{part_choosing, part-below, part_swap}
 use Rattle.quantizer_owner.specs.Owner.{owner_in}
 use Rattle.quantizer_color_sums.specs.Asked.{Owned}
-use Rattle.quantizer.proofs.Bounds.{colours-kept}
+use Rattle.quantizer_recolor.proofs.Lengths.{length-colours_replaced}
 use Rattle.quantizer_replace.specs.Weakest.{no_swap, weakest_of}
 
 -- ---- the sums of the subpalettes may be chosen among
@@ -68,9 +68,9 @@ module _ (J : Job) (pal : List Float) (S : Shown J pal J.S J.C) (hints : List �
         many = lt-ltb 1 J.S (above J.S S.subs f)
 
   -- ---- the hints left assign each tile to the subpalette that it goes to
-  pub left_owned : (after : List ℕ) → after ≡ replaced_hints J pal hints → Owned J pal after
+  pub left-owned : (after : List ℕ) → after ≡ replaced_hints J pal hints → Owned J pal after
   unfolding replaced_hints owner_of
-  left_owned after q =
+  left-owned after q =
       record {
         shown = S;
         each = ap length q ∙ length-replaced_hints J pal hints ∙ L;
@@ -120,7 +120,7 @@ module _ (J : Job) (pal : List Float) (S : Shown J pal J.S J.C) where
     swap_room = (room swap.from (subst⁻¹ (λ (x : Swap). x.from < J.S) W weakest_below.0), room swap.to (subst⁻¹ (λ (x : Swap). x.to < J.S) W weakest_below.1))
       where
         room : (i : ℕ) → i < J.S → i * (3 * J.C) + 3 * J.C ≤ length q
-        room i l = omega (arith, (shown-part J pal J.S J.C S i l).1, ap length Q, (colours-kept J pal S 4 S.bounded).size)
+        room i l = omega (arith, (shown-part J pal J.S J.C S i l).1, ap length Q, length-colours_replaced J pal)
 
     pub all-replaced : (after : List Float) → after ≡ sub_swapped q J.C swap → after ≡ replaced J pal
     unfolding replaced

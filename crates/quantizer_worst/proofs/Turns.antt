@@ -60,8 +60,8 @@ module _ (J : Job) (pal : List Float) (n : ℕ) (S : Shown J pal n 1) (d : List 
   part-is : take (n - 0) d ≡ sums_at d 0 n
   part-is = let all : n - 0 ≡ n = omega arith in ap (λ (k : ℕ). take k d) all
 
-  pub sums-asked : NoNan (value_at (take (n - 0) d)) (length (take (n - 0) d))
-  sums-asked =
+  pub sums_asked : NoNan (value_at (take (n - 0) d)) (length (take (n - 0) d))
+  sums_asked =
       subst⁻¹ (λ (x : List Float). NoNan (value_at x) (length x)) part-is
       (sums_no_nan d 0 n (omega (arith, sums-room)) (subst⁻¹ AllGood e (distances-good J pal n S J.T (le_refl J.T))))
 

@@ -49,9 +49,9 @@ edition_again size = by (eqb size edition2.size)
     by false = refl
 
 -- a file asks for a tile size that there is
-pub asked-sized : (s : List ℕ) → tile_sized (size_in s) ≡ true
+pub asked_sized : (s : List ℕ) → tile_sized (size_in s) ≡ true
 unfolding size_in tile_sized
-asked-sized s = by (leb 36 (length (bits s)) && eqb (num (take 4 (drop 32 (bits s)))) edition2.number)
+asked_sized s = by (leb 36 (length (bits s)) && eqb (num (take 4 (drop 32 (bits s)))) edition2.number)
   where
     by : (b : Bool) → tile_sized (cond b edition2.size edition1.size) ≡ true
     by true = refl

@@ -20,7 +20,7 @@ use Rattle.job.specs.Checks.{tile_sized}
 use Rattle.fit_lines.specs.Lines.{Stored, refused_line}
 use Rattle.sheet_format.specs.Sheet.{Sheet, edition_of, read_sheet}
 use Rattle.sheet_format.specs.Opened.{size_in}
-use Rattle.sheet.proofs.Editions.{asked-sized}
+use Rattle.sheet.proofs.Editions.{asked_sized}
 use Rattle.sheet.specs.declared.Reading.{Reading}
 use Rattle.sheet.specs.declared.Reading.TheVariants as reading
 use Rattle.sheet.specs.Sheets.{Room, read_def}
@@ -31,7 +31,7 @@ use Rattle.sheet_parts.proofs.Readings.{Lengths, refused_says, sheet_says}
 -- ---- by what the reader says: the refusal's line, or what is printed for the job in the first places
 module _ (b : List ℕ) (size : ℕ) (asked : size ≡ size_in b) (h : Room) (L : Lengths h) (r : Reading) (after : Room) (e : outcome r after ≡ read_def size b h) where
   there : tile_sized size ≡ true
-  there = ap tile_sized asked ∙ asked-sized b
+  there = ap tile_sized asked ∙ asked_sized b
 
   module _ (f : Job → List Float → List ℕ) (found out : List ℕ) (m : ℕ) where
     by_reading : (a : Answer Sheet) → read_sheet (edition_of size) b ≡ a → Stored found out 0 m (sheet_text f (edition_of size) a) → Stored found out 0 m (text_for f b)

@@ -71,7 +71,7 @@ module _ (x : Float) (g : Good binary32 x) where
     level_one h = two-same d level n e ∙ ap (least_two level) h ∙ other-few 1 (scan_two level 1) refl ∙ one
 
     pub level_more : 2 ≤ n → least_two d n ≡ tied
-    level_more h = two-same d level n e ∙ ap (least_two level) (from-two n h) ∙ more (n - 2)
+    level_more h = two-same d level n e ∙ ap (least_two level) (from_two n h) ∙ more (n - 2)
       where
-        from-two : (n : ℕ) → 2 ≤ n → n ≡ suc (suc (n - 2))
-        from-two n h = omega arith
+        from_two : (n : ℕ) → 2 ≤ n → n ≡ suc (suc (n - 2))
+        from_two n h = omega arith

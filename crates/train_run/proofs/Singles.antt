@@ -17,7 +17,7 @@ use Rattle.quantizer.specs.Sums.{zeros}
 use Rattle.quantizer.specs.Seeding.{seed_mean, seeded, duplicated, worst_of}
 use Rattle.quantizer.specs.Growing.{grown_by, grown}
 use Rattle.quantizer.specs.Replacing.{Shares, shares_of, swap_in, colour_swapped, sub_swapped, recoloured, colours_replaced, sub_replaced, replaced}
-use Rattle.quantizer.specs.Refining.{Gather, mean_at, mean_step, means_of, refined}
+use Rattle.quantizer.specs.Refining.{Gather, mean_step, means_of, refined}
 use Rattle.quantizer.specs.Drawing.{moved}
 use Rattle.run_stages.specs.State.{State, at, painted}
 use Rattle.run_stages.specs.Stages.{noticed, open_seeding, open_growing, open_replacing, error_of, keep, judged, enter_replacing, enter_growing, enter_reducing}
@@ -99,7 +99,7 @@ module _ (J : Job) where
       both Singles (ltb 1 J.S) (both Singles (swap_in (shares_of J s J.T) 0 J.S).gives (singles_sub_copied (colours_replaced J s) J.C J.C _ _ colours) colours) colours
 
   means_singles : (s : List Float) (A : Gather) (n : ℕ) → Singles s → Singles (means_of s A n)
-  unfolding means_of mean_step mean_at
+  unfolding means_of mean_step
   means_singles s A zero h = h
   means_singles s A (suc p) h =
       let before = means_singles s A p h in

@@ -1,6 +1,5 @@
 /* How many bytes of stack the library's calls need for the largest job of a tile size: stack SIZE. S = C = 16, T = 1,024, 16,384 colours
- * and samples: of tiles of 64 pixels 16 colours in each, of tiles of 256 as many in the first 64 and none in the others. Then for the same
- * job with its first 9 samples, whose run makes no draw: its start does all that comes before the first stop.
+ * and samples: of tiles of 64 pixels 16 colours in each, of tiles of 256 as many in the first 64 and none in the others.
  * Each call is made at a known depth of a thread whose stack is painted below it by the thread itself, so that whatever the thread's
  * own beginning and end touch counts for nothing and nothing has to be taken off: the figure is the distance from the frame that calls
  * to the lowest word that is no longer paint, the caller's arguments and return address included. Prints a line a call. */
@@ -14,7 +13,7 @@
 #include "../console.h"
 #include "dunkafeto.h"
 
-enum { S = 16, C = 16, T = 1024, N = 16384, FEW = 9, CELLS = 3 * S * C };
+enum { S = 16, C = 16, T = 1024, N = 16384, CELLS = 3 * S * C };
 
 /* Words of the stack; words below the caller's own variable that may be its frame's still, and are not painted. */
 enum { STACK = 1 << 17, FRAME = 32, KNOWN = 512 };
@@ -25,11 +24,11 @@ static const uint64_t paint = UINT64_C(0xd1b54a32d192ed03);
 static uint32_t tiles[2 * T], counts[N], samples[2 * N], order[N], hints[T], subpalettes[T];
 static float colours[3 * N], palette[CELLS], least[CELLS], reduced[CELLS], out[CELLS];
 static uint64_t words[DUNKAFETO_WORDS], answer;
-static size_t size, n; /* of the job: pixels of a tile, samples */
+static size_t size;
 
-#define SIZES size, S, C, T, n, 2.15f
-#define TABLES tiles, 2 * T, colours, 3 * N, counts, N, samples, 2 * n
-#define MEMORY order, n, hints, T, palette, CELLS, least, CELLS, words, DUNKAFETO_WORDS
+#define SIZES size, S, C, T, N, 2.15f
+#define TABLES tiles, 2 * T, colours, 3 * N, counts, N, samples, 2 * N
+#define MEMORY order, N, hints, T, palette, CELLS, least, CELLS, words, DUNKAFETO_WORDS
 
 /* Colours from the public SplitMix64, within -1 and 1. */
 static float next_component(uint64_t *state) {
@@ -118,26 +117,11 @@ static size_t measure(const char *name, void (*call)(void)) {
         printf("%s: refused %" PRIu32 "\n", name, dunkafeto_number(answer));
         exit(1);
     }
-    printf("%zu samples: %s %zu bytes, %" PRIu64 " draws\n", n, name, bytes, dunkafeto_draws(answer));
+    printf("%s %zu bytes, %" PRIu64 " draws\n", name, bytes, dunkafeto_draws(answer));
     return bytes;
 }
 
 static size_t larger(size_t a, size_t b) { return a > b ? a : b; }
-
-/* A whole run and assign; the most that any of its calls took. */
-static size_t measure_run(void) {
-    size_t most = measure("start", start);
-    while (words[DUNKAFETO_STAGE] != DUNKAFETO_FINISHED) {
-        if (dunkafeto_draws_in(words[DUNKAFETO_STAGE])) {
-            most = larger(most, measure("advance", advance));
-        } else {
-            console_reduce(palette, reduced, S * C);
-            most = larger(most, measure("hand_in", hand_in));
-        }
-    }
-    most = larger(most, measure("result", result));
-    return larger(most, measure("assign", assign));
-}
 
 int main(int argc, char **argv) {
     size_t most;
@@ -148,10 +132,17 @@ int main(int argc, char **argv) {
     memset((void *)stack, 0, sizeof stack);
     measure_known();
     make_job();
-    n = N;
-    most = measure_run();
-    n = FEW;
-    most = larger(most, measure_run());
+    most = measure("start", start);
+    while (words[DUNKAFETO_STAGE] != DUNKAFETO_FINISHED) {
+        if (dunkafeto_draws_in(words[DUNKAFETO_STAGE])) {
+            most = larger(most, measure("advance", advance));
+        } else {
+            console_reduce(palette, reduced, S * C);
+            most = larger(most, measure("hand_in", hand_in));
+        }
+    }
+    most = larger(most, measure("result", result));
+    most = larger(most, measure("assign", assign));
     printf("most %zu\n", most);
     return 0;
 }

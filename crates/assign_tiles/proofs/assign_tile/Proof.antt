@@ -1,14 +1,14 @@
 -- `assign_tiles::assign_tile` meets its contract: an empty tile gets 0 and keeps its hint, another its winner in both places. Assumes nothing.
 use native.Mathlib.Omega.{arith}
 use borrow.Author.Rules.{rules}
-use Rattle.palette_tile.proofs.Asks.{colours-asked}
+use Rattle.palette_tile.proofs.Asks.{colours_asked}
 use Rattle.palette_tile.proofs.Turns.{turn_fitted}
 use Rattle.assign_tiles.proofs.Fills.{turn-paired, turn-none, turn-fits, turn-some}
 use Rattle.assign_tiles.proofs.assign_tile.Statement.{statement}
 use Rattle.assign_tiles.proofs.assign_tile.Tie as tie
 
 is-empty-requires : tie.Need-is-empty-requires
-is-empty-requires c κs = (colours-asked _ _ _ _ _ _ (turn-paired _ _ _ _ _ c.before.before.before.before.before.before.requires)).listed
+is-empty-requires c κs = (colours_asked _ _ _ _ _ _ (turn-paired _ _ _ _ _ c.before.before.before.before.before.before.requires)).listed
 
 mul-out : tie.Need-overflow-mul-out
 mul-out c = search rules

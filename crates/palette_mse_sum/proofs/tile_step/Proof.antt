@@ -1,6 +1,6 @@
 -- `palette_mse_sum::tile_step` meets its contract: an empty tile is left, another is matched and summed. Assumes nothing.
 use borrow.Author.Rules.{rules}
-use Rattle.palette_tile.proofs.Asks.{colours-asked, counts-asked}
+use Rattle.palette_tile.proofs.Asks.{colours_asked, counts_asked}
 use Rattle.palette_tile.proofs.Turns.{turn_fitted, fit-part}
 use Rattle.palette_mse.proofs.Turns.{turn-none, turn_summed, turn-done}
 use Rattle.palette_mse_sum.proofs.tile_step.Statement.{statement}
@@ -26,12 +26,12 @@ part-requires c κs =
 tile-part-requires : tie.Need-tile-part-requires
 tile-part-requires c κs =
     let start = c.before.before.before.before.before.before.before.before.before.before.before.before in
-    colours-asked _ _ _ _ _ _ start.requires.paired
+    colours_asked _ _ _ _ _ _ start.requires.paired
 
 counts-part-requires : tie.Need-counts-part-requires
 counts-part-requires c κs =
     let start = c.before.before.before.before.before.before.before.before.before.before.before.before.before in
-    counts-asked _ _ _ _ _ _ start.requires.paired
+    counts_asked _ _ _ _ _ _ start.requires.paired
 
 tile-tally-requires : tie.Need-tile-tally-requires
 tile-tally-requires c κs =

@@ -1,6 +1,6 @@
 -- `quantizer_draw::draw` meets its contract: the next sample of the order nudges a colour. Assumes nothing.
 use borrow.Author.Rules.{rules}
-use Rattle.quantizer_draw.proofs.Asks.{nudge-asked, going_done}
+use Rattle.quantizer_draw.proofs.Asks.{nudge_asked, going_done}
 use Rattle.quantizer_draw.proofs.draw.Statement.{statement}
 use Rattle.quantizer_draw.proofs.draw.Tie as tie
 
@@ -14,7 +14,7 @@ nudge-requires : tie.Need-nudge-requires
 nudge-requires c κs =
     let after_next = c.before.before.before.before.before in
     let start = after_next.before.before.before.before.before.before.before.before.before in
-    nudge-asked _ _ _ _ _ _ start.requires _ _ after_next.next.ensures
+    nudge_asked _ _ _ _ _ _ start.requires _ _ after_next.next.ensures
 
 same_length : tie.Need-same-length
 same_length c = search rules

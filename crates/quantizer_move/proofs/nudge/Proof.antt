@@ -1,30 +1,30 @@
 -- `quantizer_move::nudge` meets its contract: the tile is fitted, its hint written, and the nearest colour of the winner moved. Assumes nothing.
 use native.Mathlib.Omega.{arith}
 use borrow.Author.Rules.{rules}
-use Rattle.quantizer_nudge.proofs.Asks.{sample-asked, fit-asked, part-asked, place-asked, place-small, draw-done}
+use Rattle.quantizer_nudge.proofs.Asks.{sample_asked, fit_asked, part_asked, place_asked, place-small, draw-done}
 use Rattle.quantizer_move.proofs.nudge.Statement.{statement}
 use Rattle.quantizer_move.proofs.nudge.Tie as tie
 
 sample-tile-requires : tie.Need-sample-tile-requires
 sample-tile-requires c κs =
     let z = c.before.before.before.before.before.before in
-    (sample-asked _ _ _ _ _ _ z.requires).listed
+    (sample_asked _ _ _ _ _ _ z.requires).listed
 
 sample-colour-requires : tie.Need-sample-colour-requires
 sample-colour-requires c κs =
     let z = c.before.before.before.before.before.before.before in
-    sample-asked _ _ _ _ _ _ z.requires
+    sample_asked _ _ _ _ _ _ z.requires
 
 tile-fit-requires : tie.Need-tile-fit-requires
 tile-fit-requires c κs =
     let m = c.before.before.before in let z = m.before.before.before.before.before.before.before in
-    fit-asked _ _ _ _ _ _ z.requires _ m.sample_tile_lem.ensures
+    fit_asked _ _ _ _ _ _ z.requires _ m.sample_tile_lem.ensures
 
 part-requires : tie.Need-part-requires
 part-requires c κs =
     let f = c.before.before.before in let m = f.before.before.before.before in
     let z = m.before.before.before.before.before.before.before in
-    part-asked _ _ _ _ _ _ z.requires _ m.sample_tile_lem.ensures _ f.tile-fit.ensures.0
+    part_asked _ _ _ _ _ _ z.requires _ m.sample_tile_lem.ensures _ f.tile-fit.ensures.0
 
 nearest-requires : tie.Need-nearest-requires
 nearest-requires c κs = search rules
@@ -45,7 +45,7 @@ nudge-requires : tie.Need-nudge-requires
 nudge-requires c κs =
     let v = c.before.before in let u = v.before in let f = u.before.before.before.before in let m = f.before.before.before.before in
     let z = m.before.before.before.before.before.before.before in
-    place-asked _ _ _ _ _ _ z.requires _ m.sample_tile_lem.ensures _ f.tile-fit.ensures.0 _ u.part.ensures _ _ v.nearest.ensures
+    place_asked _ _ _ _ _ _ z.requires _ m.sample_tile_lem.ensures _ f.tile-fit.ensures.0 _ u.part.ensures _ _ v.nearest.ensures
 
 same_length : tie.Need-same-length
 same_length c = search rules

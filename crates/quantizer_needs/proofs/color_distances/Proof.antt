@@ -1,37 +1,37 @@
--- `quantizer_needs::color_distances` meets its contract. The loop's invariant: the sums are those after the first i tiles. Assumes nothing.
+-- `quantizer_needs::color_distances` meets its contract. The loop's invariant: the sums and the hints are those after the first i tiles. Assumes nothing.
 use Prim.Native.Nat.{◌-◌}
-use mathlib.Core.Path.{sym, ap, ◌∙◌}
+use mathlib.Core.Path.{refl, sym, ap, ◌∙◌}
 use native.Mathlib.Omega.{arith}
 use lib.ListN.{length}
-use Rattle.job.specs.Job.{job_of, most_colours}
-use Rattle.palette.specs.Palette.{sub_of}
-use Rattle.palette_tile.proofs.Present.{shown-part}
-use Rattle.palette_tile.proofs.Walks.{Walked, walked_start, walked_more, walked_end}
-use Rattle.quantizer.specs.Sums.{zeros}
-use Rattle.quantizer.proofs.Lists.{length-zeros}
-use Rattle.quantizer_needs.specs.Rows.{row_need}
-use Rattle.quantizer_needs.proofs.Turns.{walked_length, walked_turn, walked_next}
+use Rattle.job.specs.Job.{job_of}
+use Rattle.palette_tile.specs.Tiles.{winner, hint_step}
+use Rattle.palette_tile.proofs.Walks.{Walked, walked_start, walked_more}
+use Rattle.palette_tile.proofs.Hints.{walked_hints, walked_paired}
+use Rattle.quantizer.specs.Sums.{zeros, places}
+use Rattle.quantizer.specs.Growing.{need_step}
+use Rattle.quantizer_needs.proofs.Turns.{none_fitted, needs_wide, all_fitted}
 use Rattle.quantizer_needs.proofs.color_distances.Statement.{statement}
 use Rattle.quantizer_needs.proofs.color_distances.Tie as tie
 
 abbrev invariant-loop : tie.invariant-loop
-invariant-loop z tiles colours counts pal have hints k total₀ sub i₀ total i =
+invariant-loop z tiles colours counts pal have hints₀ total₀ i₀ hints total i =
     let J = job_of z tiles colours counts in
-    Walked J.T (row_need J (sub_of pal J.C have k) hints k) (zeros most_colours) total i
+    Walked J.T (λ k. need_step J pal have (winner J pal J.S have k) k) (zeros places) total i × Walked J.T (hint_step J pal J.S have) hints₀ hints i
 
 abbrev decreases-loop : tie.decreases-loop
-decreases-loop z tiles colours counts pal have hints k total₀ sub i₀ total i = z.t - i
+decreases-loop z tiles colours counts pal have hints₀ total₀ i₀ hints total i = z.t - i
 
-part-requires : tie.Need-part-requires invariant-loop decreases-loop
-part-requires c κs = let start = c.before.before.before.before.before.before in shown-part _ _ _ _ start.requires.0.shown _ start.requires.1.0
+returns : tie.Need-returns invariant-loop decreases-loop
+returns c = none_fitted _ _ _ c.if1.true _ _ c.before.before.before.before.before.before.before.requires.1
 
 loop-holds : tie.Need-loop-init invariant-loop decreases-loop
-loop-holds c = let start = c.before.before.before.before.before.before.before in walked_start start.requires.1.1
+loop-holds c = (walked_start c.before.before.before.before.before.before.before.requires.1, walked_start refl)
 
-need-step-requires : tie.Need-need-step-requires invariant-loop decreases-loop
-need-step-requires c κs =
-    let after_if1 = c.before in let at_loop = after_if1.before.before in let after_part = at_loop.before in let start = after_part.before.before.before.before.before.before.before in
-    walked_turn _ _ _ _ start.requires.0 _ start.requires.1.0 at_loop.loop.invariant after_if1.if1.true _ after_part.part.ensures
+tile-step-requires : tie.Need-tile-step-requires invariant-loop decreases-loop
+tile-step-requires c κs =
+    let after_if2 = c.before.before in let after_loop = after_if2.before.before in
+    let start = after_loop.before.before.before.before.before.before.before.before in
+    record { paired = walked_paired _ _ _ _ after_loop.loop.invariant.1 start.requires.0.shown start.requires.0.each after_if2.if2.true; wide = needs_wide _ _ _ after_loop.loop.invariant.0 }
 
 add-i : tie.Need-overflow-add-i invariant-loop decreases-loop
 add-i c = omega arith
@@ -41,19 +41,22 @@ loop-less c = omega arith
 
 loop-again : tie.Need-loop-preserved invariant-loop decreases-loop
 loop-again c =
-    let after_need_step = c.before.before in let after_if1 = after_need_step.before.before in let at_loop = after_if1.before.before in let after_part = at_loop.before in
-    let start = after_part.before.before.before.before.before.before.before in
-    walked_more at_loop.loop.invariant after_if1.if1.true (walked_next _ _ _ _ start.requires.0 _ start.requires.1.0 _ after_part.part.ensures _ _ _ after_need_step.need-step.ensures)
+    let after_tile_step = c.before.before.before.before in let after_if2 = after_tile_step.before.before.before in
+    let after_loop = after_if2.before.before in
+    (walked_more after_loop.loop.invariant.0 after_if2.if2.true after_tile_step.tile-step.ensures.0, walked_more after_loop.loop.invariant.1 after_if2.if2.true after_tile_step.tile-step.ensures.1)
 
 same_length : tie.Need-same-length invariant-loop decreases-loop
-same_length c =
-    let at_loop = c.before.before in let start = at_loop.before.before.before.before.before.before.before.before in
-    walked_length _ _ _ _ start.requires.0 _ start.requires.1.0 at_loop.loop.invariant ∙ sym (ap length start.requires.1.1 ∙ length-zeros most_colours)
+same_length c = walked_hints _ _ _ _ c.before.before.loop.invariant.1
 
-returns : tie.Need-returns invariant-loop decreases-loop
-returns c = let at_loop = c.before.before in walked_end at_loop.loop.invariant c.if1.false
+same-length-2 : tie.Need-same-length-2 invariant-loop decreases-loop
+same-length-2 c =
+    let after_loop = c.before.before in let start = after_loop.before.before.before.before.before.before.before.before in
+    needs_wide _ _ _ after_loop.loop.invariant.0 ∙ sym (ap length start.requires.1)
+
+returns-2 : tie.Need-returns-2 invariant-loop decreases-loop
+returns-2 c = all_fitted _ _ _ c.before.before.loop.invariant.0 c.before.before.loop.invariant.1 c.before.before.before.if1.false c.if2.false
 
 pub color-distances-spec : {M : Type 1} → statement M
 color-distances-spec =
     tie.close
-    (tie.spec invariant-loop decreases-loop part-requires loop-holds need-step-requires add-i loop-less loop-again same_length returns)
+    (tie.spec invariant-loop decreases-loop returns loop-holds tile-step-requires add-i loop-less loop-again same_length same-length-2 returns-2)

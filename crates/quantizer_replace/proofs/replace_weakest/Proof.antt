@@ -1,5 +1,5 @@
 -- `quantizer_replace::replace_weakest` meets its contract: the hints left assign the tiles whose colours are summed. Assumes nothing.
-use Rattle.quantizer_replace.proofs.Palettes.{left_owned, swap_room, all-replaced}
+use Rattle.quantizer_replace.proofs.Palettes.{left-owned, swap_room, all-replaced}
 use borrow.Author.Rules.{rules}
 use Rattle.quantizer_replace.proofs.replace_weakest.Statement.{statement}
 use Rattle.quantizer_replace.proofs.replace_weakest.Tie as tie
@@ -11,7 +11,7 @@ replace-colors-requires : tie.Need-replace-colors-requires
 replace-colors-requires c κs =
     let after_weakest_palette = c.before.before.before.before in
     let start = after_weakest_palette.before.before.before.before.before.before.before.before in
-    left_owned _ _ start.requires.0 _ start.requires.1 _ after_weakest_palette.weakest-palette.ensures.1
+    left-owned _ _ start.requires.0 _ start.requires.1 _ after_weakest_palette.weakest-palette.ensures.1
 
 swap-subpalette-requires : tie.Need-swap-subpalette-requires
 swap-subpalette-requires c κs =

@@ -1,6 +1,6 @@
 -- `quantizer_sample::sample_colour` meets its contract: the colour is read from the part that is the tile's. Assumes nothing.
 use borrow.Author.Rules.{rules}
-use Rattle.quantizer_sample.proofs.Colours.{tile-asked, colour-asked, colour-done}
+use Rattle.quantizer_sample.proofs.Colours.{tile_asked, colour_asked, colour-done}
 use Rattle.quantizer_sample.proofs.sample_colour.Statement.{statement}
 use Rattle.quantizer_sample.proofs.sample_colour.Tie as tie
 
@@ -8,7 +8,7 @@ sample-tile-requires : tie.Need-sample-tile-requires
 sample-tile-requires c κs = search rules
 
 tile-part-requires : tie.Need-tile-part-requires
-tile-part-requires c κs = tile-asked _ _ _ _ c.before.before.before.before.requires _ c.sample_tile_lem.ensures
+tile-part-requires c κs = tile_asked _ _ _ _ c.before.before.before.before.requires _ c.sample_tile_lem.ensures
 
 sample-place-requires : tie.Need-sample-place-requires
 sample-place-requires c κs = search rules
@@ -16,7 +16,7 @@ sample-place-requires c κs = search rules
 colour-requires : tie.Need-colour-requires
 colour-requires c κs =
     let v = c.before.before in
-    colour-asked _ _ _ _ v.before.before.before.before.requires _ v.sample_tile_lem.ensures _ c.before.tile-part.ensures _ c.sample_place_lem.ensures
+    colour_asked _ _ _ _ v.before.before.before.before.requires _ v.sample_tile_lem.ensures _ c.before.tile-part.ensures _ c.sample_place_lem.ensures
 
 returns : tie.Need-returns
 returns c =

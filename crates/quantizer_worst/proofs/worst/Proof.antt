@@ -10,7 +10,7 @@ use Rattle.palette_tile.proofs.Walks.{Walked, walked_start, walked_more, walked_
 use Rattle.palette_tile.proofs.Hints.{walked_hints, walked_paired}
 use Rattle.quantizer.specs.Sums.{zeros}
 use Rattle.quantizer.specs.Seeding.{distance_step}
-use Rattle.quantizer_worst.proofs.Turns.{walked_sums, sums-room, sums-asked, worst_done}
+use Rattle.quantizer_worst.proofs.Turns.{walked_sums, sums-room, sums_asked, worst_done}
 use Rattle.quantizer_worst.proofs.worst.Statement.{statement}
 use Rattle.quantizer_worst.proofs.worst.Tie as tie
 
@@ -62,7 +62,7 @@ argmax-requires : tie.Need-argmax-requires invariant-loop decreases-loop
 argmax-requires c κs =
     let after_if1 = c.before.before in let after_loop = after_if1.before.before in
     let start = after_loop.before.before.before.before.before.before in
-    sums-asked _ _ _ start.requires.0 _ (walked_end after_loop.loop.invariant.0 after_if1.if1.false)
+    sums_asked _ _ _ start.requires.0 _ (walked_end after_loop.loop.invariant.0 after_if1.if1.false)
 
 same_length : tie.Need-same-length invariant-loop decreases-loop
 same_length c = walked_hints _ _ _ _ c.before.before.before.before.before.loop.invariant.1
