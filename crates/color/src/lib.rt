@@ -4,7 +4,7 @@ ghost use Rattle.std.specs.Prelude.{◌≡◌, ◌+◌, ◌*◌, ◌≤◌, ◌<
 ghost use Rattle.color.specs.Color.{colour_at, put_at, plus_of, scaled_of, plus_times, over_of, sqdist_of};
 ghost use Rattle.color.specs.Blend.{blend, nudged};
 
-#[derive(Drop)]
+#[derive(Clone, Copy)]
 pub struct Oklab {
     pub l: f32,
     pub a: f32,

@@ -92,7 +92,7 @@ pub fn put_head(out: &mut [u8], at: usize, tiles: u32, subs: u32) -> usize
 }
 
 // What the line of a tile says: its subpalette, its distance as a pattern, and the next best subpalette.
-#[derive(Drop)]
+#[derive(Clone, Copy)]
 pub struct Found {
     pub sub: u32,
     pub dist: u32,

@@ -3,7 +3,7 @@ ghost use Rattle.std.specs.Prelude.{◌≡◌, true, ◌+◌, ◌*◌, ◌<◌, 
 ghost use Rattle.group_pixels.specs.Pixel.{is_zero, kept, same_bytes, in_gamut, rgba_at, same_bits, clash, put_rgba, There, Passed, Kept};
 
 // A reduced colour: the four bytes of a pixel.
-#[derive(Drop)]
+#[derive(Clone, Copy)]
 pub struct Rgba {
     pub r: u8,
     pub g: u8,
@@ -12,7 +12,7 @@ pub struct Rgba {
 }
 
 // Colour zero, where there is one: its r, g, b.
-#[derive(Drop)]
+#[derive(Clone, Copy)]
 pub enum Zero {
     Given(u8, u8, u8),
     Absent,

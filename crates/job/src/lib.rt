@@ -8,7 +8,7 @@ use answer::Refusal;
 
 // The numbers of a call, by value: how many pixels a tile has at most, subpalettes, colours in each, tiles, samples (0 where none are
 // lent), and the weight of brightness.
-#[derive(Drop)]
+#[derive(Clone, Copy)]
 pub struct Sizes {
     pub size: usize,
     pub s: usize,

@@ -11,7 +11,7 @@ pub struct Advanced {
 
 // The record's words by name: generator state, stage, rounds finished in the stage, draws left in the round, draws made, the bits of
 // the least error, and the job's sizes.
-#[derive(Drop)]
+#[derive(Clone, Copy)]
 pub struct Record {
     pub generator: u64,
     pub stage: u64,

@@ -5,7 +5,7 @@ ghost use Rattle.sheet_format.specs.Proper.{Proper};
 ghost use Rattle.sheet_format.specs.Opened.{size_in};
 
 // What differs between editions: the number, the pixels of a tile, the bits of a tile's number of colours and of a count less one.
-#[derive(Drop)]
+#[derive(Clone, Copy)]
 pub struct Edition {
     pub number: u32,
     pub size: u32,

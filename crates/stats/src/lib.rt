@@ -11,7 +11,7 @@ pub struct Near {
 }
 
 // Indexes and values of the smallest and of the second smallest, `next` at `second`; `next` is `index` where there is no other.
-#[derive(Drop)]
+#[derive(Clone, Copy)]
 pub struct Two {
     pub index: usize,
     pub dist: f32,
