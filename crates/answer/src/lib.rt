@@ -1,4 +1,6 @@
 // What every call answers: a number with an index, and both in one word for hosts. Assumes nothing.
+#![tactic(auto)]
+
 ghost use Rattle.std.specs.Prelude.{◌≡◌, ◌≤◌};
 ghost use Rattle.answer.specs.Words.{word};
 

@@ -1,5 +1,7 @@
 // The public call `assign`, from `assign_subpalettes` of the Rust: for each tile the subpalette that fits it best.
 // It first asks for the first rule broken, over shared slices, so that a refusal writes nothing.
+#![tactic(auto)]
+
 ghost use Rattle.std.specs.Prelude.{◌≡◌};
 ghost use Rattle.job.specs.Job.{job_of};
 ghost use Rattle.assign_tiles.specs.Tiles.{tile_memory};

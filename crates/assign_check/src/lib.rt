@@ -1,4 +1,6 @@
 // What the call `assign` is answered.
+#![tactic(auto)]
+
 ghost use Rattle.std.specs.Prelude.{◌≡◌};
 ghost use Rattle.job.specs.Job.{job_of};
 ghost use Rattle.assign_check.specs.Answer.{room_for, answer_for};

@@ -1,5 +1,7 @@
 // The subpalette that fits each tile of a job best, one tile after the other.
 // Assumes a job and a palette that passed, and a place for each tile.
+#![tactic(auto)]
+
 ghost use Rattle.std.specs.Prelude.{◌≡◌};
 ghost use Rattle.job.specs.Job.{job_of};
 ghost use Rattle.assign_tiles.specs.Tiles.{tile_memory, assign_step, assigned, CanAssign, Turn};

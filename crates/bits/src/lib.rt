@@ -1,5 +1,7 @@
 // Fields of bits in a slice of bytes, most significant bit first: read and written by whole bytes.
 // What a field holds is defined bit by bit in specs/Bits.antt. Assumes nothing.
+#![tactic(auto)]
+
 ghost use Rattle.std.specs.Prelude.{◌≡◌, ◌+◌, ◌-◌, ◌*◌, ◌≤◌, ◌%◌, ◌^◌, ◌<◌, length, take, drop};
 ghost use Rattle.bits.specs.Bits.{bits, num, field_at, bits_of, written};
 ghost use Rattle.std.proofs.lemmas.List.Edits.{sets};

@@ -1,5 +1,7 @@
 // Oklab colours: places of a flat slice of three numbers a colour, sums, products and quotients; the squared distance; a colour moved towards another.
 // Each function gives what its definition in specs/ says, bit for bit.
+#![tactic(auto)]
+
 ghost use Rattle.std.specs.Prelude.{◌≡◌, ◌+◌, ◌*◌, ◌≤◌, ◌<◌, length};
 ghost use Rattle.color.specs.Color.{colour_at, put_at, plus_of, scaled_of, plus_times, over_of, sqdist_of};
 ghost use Rattle.color.specs.Blend.{blend, nudged};

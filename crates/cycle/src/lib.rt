@@ -1,5 +1,7 @@
 // The cycle of samples: an order that the caller lends, gone through from the left in rounds. Between
 // two rounds the order, as it is then, is shuffled again. How evenly samples are drawn is in proofs/. Assumes nothing.
+#![tactic(auto)]
+
 ghost use Rattle.std.specs.Prelude.{◌≡◌, ◌<◌, ◌+◌, ◌/◌, ◌^◌, ◌≤◌, length};
 ghost use Rattle.prng.specs.Shuffle.{deck};
 ghost use Rattle.lists.specs.Firsts.{up_to};

@@ -1,5 +1,7 @@
 // The calls for C and Rust hosts: forwarders only, each with the contract of what it forwards to. Assumes nothing.
 // The answer is one number, a value times 256 and the answer number (`answer::word`). A slice is a pointer and a length in C.
+#![tactic(auto)]
+
 ghost use Rattle.std.specs.Prelude.{◌≡◌};
 ghost use Rattle.job.specs.Job.{sizes_of, job_of};
 ghost use Rattle.quantizer.specs.Course.{course_of};

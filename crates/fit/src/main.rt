@@ -1,5 +1,7 @@
 // `fit`: the fits of a sheet's tiles. It reads a sheet from standard input and prints the lines that `fit_text` gives for it.
 // One byte past the largest sheet is enough to know that a sheet is too large. Assumes nothing.
+#![tactic(auto)]
+
 ghost use Rattle.std.specs.Prelude.{◌≡◌, length};
 ghost use Rattle.fit_text.specs.Fit.{most_text};
 

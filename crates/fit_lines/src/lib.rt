@@ -1,5 +1,7 @@
 // Text into lent bytes: words, numbers, and the lines that `fit` prints. Each function gives the place behind what it wrote.
 // Assumes nothing.
+#![tactic(auto)]
+
 ghost use Rattle.std.specs.Prelude.{◌≡◌, ◌+◌, ◌≤◌, ◌<◌, ◌++◌, length};
 ghost use Rattle.io.specs.Digits.{last_digits, hex_digit_ascii as Digits·glyph};
 ghost use Rattle.fit_lines.specs.Lines.{Stored, width_of, decimal, last, pair, head_line, tile_line, load_line, blank_line, refused_line};

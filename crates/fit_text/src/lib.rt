@@ -1,5 +1,7 @@
 // What `fit` prints for a sheet: a refusal's line, or those of the job that it holds. Hints start at 0.
 // Assumes nothing.
+#![tactic(auto)]
+
 ghost use Rattle.std.specs.Prelude.{◌≡◌, ◌≤◌, length};
 ghost use Rattle.answer.specs.Outcome.{outcome};
 ghost use Rattle.io.specs.Counts.{IsPrefixLen};

@@ -1,5 +1,7 @@
 // The lines that `fit` prints for a job and a palette: the sizes, each tile's fit, each subpalette's load and the empty tiles.
 // Assumes nothing.
+#![tactic(auto)]
+
 ghost use Rattle.std.specs.Prelude.{◌≡◌, ◌+◌, ◌<◌, ℕ, ◌*◌, ◌≤◌, not, eqb, length, get_or, set};
 ghost use Rattle.fit_lines.specs.Lines.{Stored};
 ghost use Rattle.lists.specs.Count.{hit};

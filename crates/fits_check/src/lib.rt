@@ -1,5 +1,7 @@
 // What a call with one tile is answered: the job's rules, one tile, a hint for it, and a colour where the call wants one.
 // Assumes nothing of the job: it is what a stranger wrote.
+#![tactic(auto)]
+
 ghost use Rattle.std.specs.Prelude.{◌≡◌};
 ghost use Rattle.job.specs.Job.{job_of};
 ghost use Rattle.fits_check.specs.One.{one_answer, single_answer};

@@ -1,4 +1,6 @@
 // What the public calls single fit and `best_two` answer; the definitions in specs/ say which answer it is.
+#![tactic(auto)]
+
 use answer::Refusal;
 
 // The best subpalette and its distance, or the refusal.

@@ -1,5 +1,7 @@
 // The public call `best_two`, over a job of one tile and its palette.
 // It first asks for the first rule broken, over shared slices, so that a refusal writes nothing.
+#![tactic(auto)]
+
 ghost use Rattle.std.specs.Prelude.{◌≡◌};
 ghost use Rattle.job.specs.Job.{job_of};
 ghost use Rattle.answer.specs.Outcome.{outcome};

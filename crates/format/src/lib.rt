@@ -1,4 +1,6 @@
 // Formats, in specs/: one description gives a reader and a writer, and the laws that they undo each other. Assumes nothing.
+#![tactic(auto)]
+
 ghost use Rattle.std.specs.Prelude.{◌≡◌, ◌≤◌};
 ghost use Rattle.format.specs.Format.{bytes_for};
 

@@ -1,5 +1,7 @@
 // Grouping, from `extract` of the Rust: the kept pixels of a tile become entries, one for each colour, with a count of their pixels.
 // What the first pass did not refuse, a second one fills into the room that the caller lends.
+#![tactic(auto)]
+
 ghost use Rattle.std.specs.Prelude.{◌≡◌, true, ◌*◌, ◌≤◌, ◌<◌, length};
 ghost use Rattle.answer.specs.Outcome.{outcome};
 ghost use Rattle.group_refusal.specs.Refusal.{entry_room, given, sized};

@@ -1,4 +1,6 @@
 // A pixel of a tile: its four bytes and its Oklab. Which pixels are kept, in range, of the same bytes; pixels of flat slices, and which two clash.
+#![tactic(auto)]
+
 ghost use Rattle.std.specs.Prelude.{◌≡◌, true, ◌+◌, ◌*◌, ◌<◌, length};
 ghost use Rattle.group_pixels.specs.Pixel.{is_zero, kept, same_bytes, in_gamut, rgba_at, same_bits, clash, put_rgba, There, Passed, Kept};
 

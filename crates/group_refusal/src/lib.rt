@@ -1,5 +1,7 @@
 // The first pass of grouping, over shared slices and the lengths of lent ones: nothing, or the refusal. So a refusal writes nothing.
 // A pixel's fault is an Oklab out of range, or another one than an earlier pixel's of the same bytes.
+#![tactic(auto)]
+
 ghost use Rattle.std.specs.Prelude.{◌≡◌, ◌*◌, ◌<◌, length};
 ghost use Rattle.group_pixels.specs.Pixel.{There, Kept};
 ghost use Rattle.group_refusal.specs.Faults.{clashes, fault, first_of, Real};

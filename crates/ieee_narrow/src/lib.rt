@@ -1,4 +1,6 @@
 // An f64 to the nearest f32 by its bits: the Rust's `as f32`.
+#![tactic(auto)]
+
 ghost use Rattle.std.specs.Prelude.{◌≡◌, not, ◌^◌, ◌≤◌, ◌<◌, T};
 ghost use Rattle.std.specs.Float.Ieee.{is_nan};
 ghost use Rattle.std.specs.Float.Ieee.Nearest.{closest};

@@ -1,4 +1,6 @@
 // A job's sizes by value, its tiles as parts of what is lent, and the test of its components. Assumes nothing.
+#![tactic(auto)]
+
 ghost use Rattle.std.specs.Prelude.{◌≡◌, [], ◌∷◌, ◌+◌, ◌*◌, ◌<◌, ◌≤◌, eqb, length};
 ghost use Rattle.answer.specs.Rules.{answer};
 ghost use Rattle.job.specs.Job.{sizes_of, first_of, size_of, colours_part, counts_part, Inside, most_subpalettes, most_colours};

@@ -1,5 +1,7 @@
 // Which number a job gets, without samples and with: its sizes, lengths, limits and tables in the order of docs/SCOPE.md.
 // Every check takes what a stranger wrote, where the groups of rules before it have passed: no sum or product in it can wrap.
+#![tactic(auto)]
+
 ghost use Rattle.std.specs.Prelude.{◌≡◌, ◌*◌, length};
 ghost use Rattle.answer.specs.Rules.{answer};
 ghost use Rattle.job.specs.Checks.{table_rules, place_rules, form_rules, plain_answer, sampled_form_rules, sampled_answer};

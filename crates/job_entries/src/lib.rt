@@ -1,5 +1,7 @@
 // One entry of each table of a job: a tile, a count, a sample.
 // They take what a stranger wrote: a sum is tested by a difference, so that none can wrap.
+#![tactic(auto)]
+
 ghost use Rattle.std.specs.Prelude.{◌≡◌, ◌*◌, ◌≤◌, length};
 ghost use Rattle.job.specs.Checks.{tile_test, count_test, sample_test};
 

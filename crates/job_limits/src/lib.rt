@@ -1,5 +1,7 @@
 // The numbers of a job that have limits of their own, and which number its sizes, its slices' lengths and its components give.
 // What a stranger wrote is taken: no product in it can wrap.
+#![tactic(auto)]
+
 ghost use Rattle.std.specs.Prelude.{◌≡◌, ◌*◌, ◌≤◌};
 ghost use Rattle.answer.specs.Rules.{answer};
 ghost use Rattle.job.specs.Checks.{among, weight_fits, size_rules, shape_rules, bound_rules};

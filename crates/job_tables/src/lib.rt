@@ -1,5 +1,7 @@
 // The tables of a job, each walked once: its tiles, the counts of each tile, the samples.
 // They take what a stranger wrote: a sum is tested by a difference, so that none can wrap.
+#![tactic(auto)]
+
 ghost use Rattle.std.specs.Prelude.{◌≡◌, true, ◌*◌, length};
 ghost use Rattle.job.specs.Checks.{tiles_fit, part_fits, counts_fit, samples_fit};
 

@@ -1,1 +1,3 @@
 // Laws of lists of numbers, in proofs/. No function.
+#![tactic(auto)]
+

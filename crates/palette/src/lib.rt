@@ -1,5 +1,7 @@
 // Parts of one flat palette, and the nearest colour of one; the lesser of two indexes.
 // Each function gives what its definition in specs/Palette.antt says; no definition reads a hint.
+#![tactic(auto)]
+
 ghost use Rattle.std.specs.Prelude.{◌≡◌, ◌+◌, ◌*◌, ◌≤◌, min, length};
 ghost use Rattle.palette.specs.Palette.{sub_of, nearest_of};
 

@@ -1,5 +1,7 @@
 // Edits of a flat palette: a colour nudged towards a target, copied, duplicated; a subpalette copied, duplicated.
 // Each function leaves what its definition in specs/Edits.antt says; places that are not written keep theirs.
+#![tactic(auto)]
+
 ghost use Rattle.std.specs.Prelude.{◌≡◌, ◌+◌, ◌*◌, ◌<◌, ◌≤◌, length};
 ghost use Rattle.palette_edit.specs.Edits.{nudged_at, colour_copied, sub_copied};
 

@@ -1,4 +1,6 @@
 // The best fit and the best two for a tile, from its hint, which then names the best.
+#![tactic(auto)]
+
 ghost use Rattle.std.specs.Prelude.{◌≡◌, ◌≤◌, length, set};
 ghost use Rattle.palette.specs.Palette.{palette_with, tile_with, best_fit, Fits, Hinted};
 ghost use Rattle.palette_two.specs.PaletteTwo.{best_two};

@@ -1,5 +1,7 @@
 // The mean squared error of a palette over a job's tiles, each matched to the subpalette that fits it best.
 // It is what the definition in specs/Mse.antt of palette_mse says; the hints then name each tile's winner.
+#![tactic(auto)]
+
 ghost use Rattle.std.specs.Prelude.{◌≡◌, ◌+◌, ◌*◌, ◌<◌, length};
 ghost use Rattle.job.specs.Job.{job_of, most_tile_size};
 ghost use Rattle.palette.specs.Palette.{tile_with};

@@ -1,5 +1,7 @@
 // A tile of a job: the subpalette that fits it best among those present, and the best two; its hint then names the best.
 // Each function gives what its definition in specs/Tiles.antt says; no definition reads a hint.
+#![tactic(auto)]
+
 ghost use Rattle.std.specs.Prelude.{◌≡◌, set};
 ghost use Rattle.job.specs.Job.{job_of};
 ghost use Rattle.palette_tile.specs.Tiles.{fit_at, two_at, Fitted, Paired};

@@ -1,4 +1,6 @@
 // The two subpalettes that fit a tile best, from any hint. The definitions are those of `palette_two`; none reads a hint.
+#![tactic(auto)]
+
 ghost use Rattle.std.specs.Prelude.{◌≡◌, ◌<◌};
 ghost use Rattle.palette.specs.Palette.{palette_with, tile_with, Fits};
 ghost use Rattle.palette_two.specs.PaletteTwo.{best_two};

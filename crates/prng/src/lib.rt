@@ -1,5 +1,7 @@
 // SplitMix64: its finalizer, a word mixed by two products and three shifts; the generator by value, and the Fisher-Yates shuffle that it drives.
 // Assumes nothing.
+#![tactic(auto)]
+
 ghost use Rattle.std.specs.Prelude.{◌≡◌, ◌*◌, ◌%◌, ◌^◌, ◌<◌, length};
 ghost use Rattle.lists.specs.Count.{swapped};
 ghost use Rattle.prng.specs.SplitMix.{mix, next_state, output};

@@ -1,5 +1,7 @@
 // The stages of training, one boundary each: what they do to a palette and to the hints stands in specs/, one file a stage.
 // The functions stand in the crates above, one a stage. Here is only what they share.
+#![tactic(auto)]
+
 
 // The place to copy, the place to copy it to, and whether to.
 #[derive(Drop)]

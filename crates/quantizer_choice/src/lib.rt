@@ -1,4 +1,6 @@
 // What gives way to what: the choice among sums, as specs/Replacing.antt of quantizer says.
+#![tactic(auto)]
+
 ghost use Rattle.std.specs.Prelude.{◌≡◌};
 ghost use Rattle.quantizer.specs.Replacing.{swap_of};
 ghost use Rattle.quantizer_choice.specs.Choosing.{Choosing};

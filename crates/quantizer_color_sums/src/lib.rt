@@ -1,5 +1,7 @@
 // The sums by colour that replacing the weakest is decided by, over all tiles of a job: what each has, and what would be added without it, from the two
 // nearest of each tile colour in the subpalette that its tile goes to. They are what specs/Replacing.antt of quantizer says.
+#![tactic(auto)]
+
 ghost use Rattle.std.specs.Prelude.{◌≡◌};
 ghost use Rattle.job.specs.Job.{job_of};
 ghost use Rattle.quantizer.specs.Sums.{zeros, places};

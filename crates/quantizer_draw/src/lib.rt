@@ -1,5 +1,7 @@
 // One draw: the next sample of the order nudges a colour.
 // It is what the definitions in cycle's specs/Cycle.antt and quantizer's specs/Drawing.antt say.
+#![tactic(auto)]
+
 ghost use Rattle.std.specs.Prelude.{◌≡◌};
 ghost use Rattle.prng.specs.Shuffle.{deck};
 ghost use Rattle.cycle.specs.Cycle.{cycle, draw_one};

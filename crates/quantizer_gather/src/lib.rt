@@ -1,5 +1,7 @@
 // The sums and the counts that one pass of refinement takes its means from: each tile colour goes to the nearest colour of the subpalette
 // that fits its tile best. They are what the definitions in quantizer's specs/Refining.antt say; the hints then name each tile's winner.
+#![tactic(auto)]
+
 ghost use Rattle.std.specs.Prelude.{◌≡◌, length};
 ghost use Rattle.job.specs.Job.{job_of};
 ghost use Rattle.palette_tile.specs.Tiles.{winner, hint_step, hints_of, Shown};

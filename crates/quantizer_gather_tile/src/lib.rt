@@ -1,5 +1,7 @@
 // One tile's part of the sums and the counts of a refinement: each of its colours goes to the nearest colour of one subpalette.
 // They are what the definitions in quantizer's specs/Refining.antt say.
+#![tactic(auto)]
+
 ghost use Rattle.std.specs.Prelude.{◌≡◌, length};
 ghost use Rattle.palette.specs.Palette.{tile_with};
 ghost use Rattle.quantizer.specs.Refining.{gather, add_at, tile_gather};

@@ -1,5 +1,7 @@
 // Grows every subpalette by one colour, splitting off each palette's currently weakest-fit colour.
 // The palette and the hints are left as specs/Growing.antt of quantizer says; the copy stands after the colours present.
+#![tactic(auto)]
+
 ghost use Rattle.std.specs.Prelude.{◌≡◌, ◌*◌};
 ghost use Rattle.job.specs.Job.{job_of};
 ghost use Rattle.palette_edit.specs.Edits.{colour_copied};

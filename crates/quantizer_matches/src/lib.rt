@@ -1,5 +1,7 @@
 // The matches between one tile and one subpalette, each added to the sum of the colour that it goes to.
 // The sums of the subpalette's colours begin at `base`; colour by colour of the tile, in order, as in specs of quantizer.
+#![tactic(auto)]
+
 ghost use Rattle.std.specs.Prelude.{◌≡◌, length};
 ghost use Rattle.palette.specs.Palette.{tile_with};
 ghost use Rattle.quantizer.specs.Growing.{tile_needs};

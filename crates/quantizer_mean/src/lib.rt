@@ -1,4 +1,6 @@
 // One colour in a pass of refinement: it becomes the mean of its sum, where pixels were counted.
+#![tactic(auto)]
+
 ghost use Rattle.std.specs.Prelude.{◌≡◌, ◌+◌};
 ghost use Rattle.quantizer.specs.Refining.{gather, mean_step};
 ghost use Rattle.quantizer_mean.specs.Means.{Meaning};

@@ -1,5 +1,7 @@
 // Sample i of a course nudges a colour: the nearest one, in the subpalette that fits the sample's tile best, moves towards it; the tile's hint names that subpalette.
 // It is what the definitions in quantizer's specs/Drawing.antt say.
+#![tactic(auto)]
+
 ghost use Rattle.std.specs.Prelude.{◌≡◌};
 ghost use Rattle.quantizer.specs.Course.{course_of};
 ghost use Rattle.quantizer_nudge.specs.Nudges.{moved_by, hints_by, Drawing};

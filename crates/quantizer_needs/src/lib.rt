@@ -1,5 +1,7 @@
 // The summed distance of each colour over a job's tiles, each in the subpalette that fits it best: what growing splits a colour by.
 // The sums and the hints are what specs/Growing.antt of quantizer says.
+#![tactic(auto)]
+
 ghost use Rattle.std.specs.Prelude.{◌≡◌};
 ghost use Rattle.job.specs.Job.{job_of};
 ghost use Rattle.palette_tile.specs.Tiles.{winner, hint_step};

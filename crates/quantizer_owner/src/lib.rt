@@ -1,4 +1,6 @@
 // The subpalette that a tile goes to, by its hint. Assumes nothing.
+#![tactic(auto)]
+
 ghost use Rattle.std.specs.Prelude.{◌≡◌, ◌<◌, length};
 ghost use Rattle.quantizer_owner.specs.Owner.{owner_in};
 

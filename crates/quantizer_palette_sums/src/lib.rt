@@ -1,5 +1,7 @@
 // The sums by subpalette that replacing the weakest is decided by, over all tiles of a job, the empty ones too: what each has, and what would be added
 // without it, from the best two of each tile. They are what specs/Replacing.antt of quantizer says; the hints then name each tile's best.
+#![tactic(auto)]
+
 ghost use Rattle.std.specs.Prelude.{◌≡◌, ◌<◌, length};
 ghost use Rattle.job.specs.Job.{job_of, most_subpalettes};
 ghost use Rattle.palette_tile.specs.Tiles.{Shown};

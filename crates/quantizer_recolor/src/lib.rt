@@ -1,5 +1,7 @@
 // In each subpalette the weakest-fit colour gives way to a copy of the best one, from the sums over all tiles.
 // The palette is left as specs/Replacing.antt of quantizer says.
+#![tactic(auto)]
+
 ghost use Rattle.std.specs.Prelude.{◌≡◌, ◌*◌};
 ghost use Rattle.job.specs.Job.{job_of};
 ghost use Rattle.quantizer.specs.Replacing.{shares, swap_in, colour_swapped, colours_replaced};

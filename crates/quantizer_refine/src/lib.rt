@@ -1,5 +1,7 @@
 // One pass of refinement: each colour becomes the mean of the tile colours that are nearest to it, where there are any.
 // It is what the definitions in quantizer's specs/Refining.antt say. A mean is written only after all sums are complete, so into the palette itself.
+#![tactic(auto)]
+
 ghost use Rattle.std.specs.Prelude.{◌≡◌, length};
 ghost use Rattle.job.specs.Job.{job_of};
 ghost use Rattle.palette_tile.specs.Tiles.{hints_of, Shown};

@@ -1,5 +1,7 @@
 // Finds the weakest-fit colour of each subpalette and the weakest whole subpalette, and replaces them with a copy of the best one.
 // The palette and the hints are left as specs/Replacing.antt of quantizer says; only present colours move.
+#![tactic(auto)]
+
 ghost use Rattle.std.specs.Prelude.{◌≡◌, length};
 ghost use Rattle.job.specs.Job.{job_of};
 ghost use Rattle.palette_tile.specs.Tiles.{Shown};

@@ -1,4 +1,6 @@
 // The samples of a course: the tile that each names, its place in that tile, and the colour there.
+#![tactic(auto)]
+
 ghost use Rattle.std.specs.Prelude.{◌≡◌, ◌+◌, ◌*◌, ◌<◌, get_or, length};
 ghost use Rattle.color.specs.Color.{colour_at};
 ghost use Rattle.job.specs.Job.{colours_part};

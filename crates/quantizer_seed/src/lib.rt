@@ -1,4 +1,6 @@
 // Seeding: the mean of the samples becomes the first colour, as the definitions in quantizer's specs/Seeding.antt say. Assumes nothing.
+#![tactic(auto)]
+
 ghost use Rattle.std.specs.Prelude.{◌≡◌, ◌/◌, length};
 ghost use Rattle.color.specs.Color.{mean_of};
 ghost use Rattle.quantizer.specs.Course.{course_of};

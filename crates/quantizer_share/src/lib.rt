@@ -1,4 +1,6 @@
 // One match added to both sums of the colour that it goes to, as in specs of quantizer.
+#![tactic(auto)]
+
 ghost use Rattle.std.specs.Prelude.{◌≡◌, ◌<◌, ◌≤◌, length};
 ghost use Rattle.quantizer.specs.Replacing.{shares, add_shares};
 

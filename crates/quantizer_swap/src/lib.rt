@@ -1,4 +1,6 @@
 // The palette after the choice of what gives way to what. Only present colours move. Assumes nothing.
+#![tactic(auto)]
+
 ghost use Rattle.std.specs.Prelude.{◌≡◌, ◌+◌, ◌*◌, ◌≤◌, ◌<◌, length};
 ghost use Rattle.quantizer.specs.Replacing.{colour_swapped, sub_swapped};
 

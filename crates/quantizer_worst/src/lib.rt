@@ -1,5 +1,7 @@
 // Seeding: the subpalette of greatest summed distance is to be split next, as the definitions in quantizer's specs/Seeding.antt say.
 // Duplicating is palette_edit's. Assumes nothing.
+#![tactic(auto)]
+
 ghost use Rattle.std.specs.Prelude.{◌≡◌, length};
 ghost use Rattle.job.specs.Job.{job_of};
 ghost use Rattle.palette_tile.specs.Tiles.{hint_step, hints_of, Shown};

@@ -1,4 +1,6 @@
 // The public call that makes a run's draws: at most an allotment, none past a stop.
+#![tactic(auto)]
+
 ghost use Rattle.std.specs.Prelude.{◌≡◌};
 ghost use Rattle.answer.specs.Outcome.{outcome};
 ghost use Rattle.quantizer.specs.Course.{course_of};

@@ -1,4 +1,6 @@
 // What a start writes before its first round: both palettes nought but for the samples' mean, and the first order.
+#![tactic(auto)]
+
 ghost use Rattle.std.specs.Prelude.{◌≡◌, [], ◌*◌, ◌^◌, ◌≤◌, length};
 ghost use Rattle.quantizer.specs.Course.{course_of};
 ghost use Rattle.quantizer.specs.Sums.{zeros};

@@ -1,5 +1,7 @@
 // What a call of a run is answered: the job's, the record's, the working colours', the order's, the moment's, the reduced colours'.
 // Every check takes what a stranger wrote: no sum or product in it can wrap.
+#![tactic(auto)]
+
 ghost use Rattle.std.specs.Prelude.{◌≡◌, true, ◌&&◌, ◌*◌, eqb, length};
 ghost use Rattle.quantizer.specs.Course.{course_of};
 ghost use Rattle.run_stages.specs.Calls.{memory, record_words, memory_room, colours_room, start_answer, advance_answer, hand_in_answer, result_answer};

@@ -1,5 +1,7 @@
 // What a record's stage says: whether the run is finished; of a draw, what is present and how far a colour moves.
 // And the cycle that the record drives, and the record after a draw.
+#![tactic(auto)]
+
 ghost use Rattle.std.specs.Prelude.{◌≡◌, [], ◌≤◌, eqb};
 ghost use Rattle.prng.specs.Shuffle.{deck};
 ghost use Rattle.cycle.specs.Cycle.{cycle};

@@ -1,4 +1,6 @@
 // One draw on the lent memory: the record's generator and draws made drive the cycle of samples, its stage and rounds say what is present.
+#![tactic(auto)]
+
 ghost use Rattle.std.specs.Prelude.{◌≡◌, []};
 ghost use Rattle.quantizer.specs.Course.{course_of};
 ghost use Rattle.run_stages.specs.State.{state_with};

@@ -1,5 +1,7 @@
 // The public call that hands in reduced colours at a stop: they become the palette, and what follows that needs no draw is done.
 // The order, the second palette and the samples are not read; they are there to be checked, and named in what is promised.
+#![tactic(auto)]
+
 ghost use Rattle.std.specs.Prelude.{◌≡◌};
 ghost use Rattle.answer.specs.Outcome.{outcome};
 ghost use Rattle.quantizer.specs.Course.{course_of};

@@ -1,5 +1,7 @@
 // The second palette keeps the first one of least error: the first of its stage at once, a later one where its error is below the one kept.
 // The stop for reduction gives it back. The order of the samples is not touched, so it is left out.
+#![tactic(auto)]
+
 ghost use Rattle.std.specs.Prelude.{◌≡◌, ◌≢◌, [], ◌<◌};
 ghost use Rattle.job.specs.Job.{job_of};
 ghost use Rattle.quantizer.specs.Course.{course_of};

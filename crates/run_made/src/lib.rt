@@ -1,5 +1,7 @@
 // The record's rules: the job's sizes, its place, the draws made that the place implies, its error.
 // They take what a stranger wrote: no sum or product in them can wrap.
+#![tactic(auto)]
+
 ghost use Rattle.std.specs.Prelude.{◌≡◌, true};
 ghost use Rattle.answer.specs.Rules.{answer};
 ghost use Rattle.run_stages.specs.Record.{place_fits, made_by, record_rules};

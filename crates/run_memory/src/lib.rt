@@ -1,4 +1,6 @@
 // Writing of lent memory as a whole: a palette copied, a palette zeroed, the record's words.
+#![tactic(auto)]
+
 ghost use Rattle.std.specs.Prelude.{◌≡◌, length};
 ghost use Rattle.quantizer.specs.Sums.{zeros};
 ghost use Rattle.run_stages.specs.Calls.{record_words, words_of};

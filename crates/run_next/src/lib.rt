@@ -1,4 +1,6 @@
 // What follows in the record of a run: whether a round is to be closed, a round opened, the final draws ended.
+#![tactic(auto)]
+
 ghost use Rattle.std.specs.Prelude.{◌≡◌, ◌&&◌, ◌/◌, eqb};
 ghost use Rattle.run_stages.specs.State.{placed, draws};
 

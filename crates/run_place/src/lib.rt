@@ -1,5 +1,7 @@
 // The record's words that a rule holds to their stage: its place, words 1 to 3, and the error, word 5.
 // They take what a stranger wrote.
+#![tactic(auto)]
+
 ghost use Rattle.std.specs.Prelude.{◌≡◌};
 ghost use Rattle.run_stages.specs.Record.{error_fits, place_fits};
 ghost use Rattle.run_record.specs.Sized.{plain, Sized};

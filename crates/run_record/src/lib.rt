@@ -1,4 +1,6 @@
 // What the words of a record say by themselves: their names, what a stage does, its rounds and their draws.
+#![tactic(auto)]
+
 ghost use Rattle.std.specs.Prelude.{◌≡◌, ◌&&◌, ltb, length};
 ghost use Rattle.run_stages.specs.State.{placed, noted, draws, stops};
 ghost use Rattle.run_stages.specs.Record.{stage_with, stage_of, sizes_word};

@@ -1,4 +1,6 @@
 // What a hand-in does after a stop, by itself: the final draws begin, or the palette is refined four times.
+#![tactic(auto)]
+
 ghost use Rattle.std.specs.Prelude.{◌≡◌, ◌≤◌};
 ghost use Rattle.job.specs.Job.{job_of};
 ghost use Rattle.run_refine.specs.Refines.{refined_times, hints_times, final_draws, Refinable};

@@ -1,5 +1,7 @@
 // What closes a round, whatever its stage, and the settling of a run: all that needs no draw.
 // The order and the samples are not read: a round's end leaves them out, and settling names them in what it promises.
+#![tactic(auto)]
+
 use job::Sizes;
 
 pub mod first;

@@ -1,5 +1,7 @@
 // The run, stage by stage, its record and its four calls, as definitions: specs/ holds them. The functions stand in the crates above.
 // Here is only what they share.
+#![tactic(auto)]
+
 use answer::Refusal;
 
 // What an advance answers: the refusal, or nothing and the draws made.

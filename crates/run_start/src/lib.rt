@@ -1,4 +1,6 @@
 // The public call that starts a run: both palettes nought but for the samples' mean, the first order, and all that needs no draw.
+#![tactic(auto)]
+
 ghost use Rattle.std.specs.Prelude.{◌≡◌};
 ghost use Rattle.answer.specs.Outcome.{outcome};
 ghost use Rattle.quantizer.specs.Course.{course_of};

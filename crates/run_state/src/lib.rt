@@ -1,5 +1,7 @@
 // What a run holds is answered: its record, its working colours, its order.
 // Assumes nothing of them but sizes within their limits: they are what a stranger wrote.
+#![tactic(auto)]
+
 ghost use Rattle.std.specs.Prelude.{◌≡◌, []};
 ghost use Rattle.answer.specs.Rules.{answer};
 ghost use Rattle.run_stages.specs.State.{state_with};

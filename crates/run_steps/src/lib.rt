@@ -1,4 +1,6 @@
 // The draws of a run that was accepted: each makes all that is then due, and none is made past a stop or past an allotment.
+#![tactic(auto)]
+
 ghost use Rattle.std.specs.Prelude.{◌≡◌, length};
 ghost use Rattle.answer.specs.Outcome.{outcome};
 ghost use Rattle.quantizer.specs.Course.{course_of};

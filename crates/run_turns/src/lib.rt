@@ -1,6 +1,8 @@
 // The rounds of a run up to the stop for reduction, counted in one: of seeding, until all subpalettes are there; of growing, where each gets
 // a colour more, until it has all of its own; of replacing.
 // The order of the samples is not touched, so it is left out.
+#![tactic(auto)]
+
 use job::Sizes;
 
 mod replacing;

@@ -1,4 +1,6 @@
 // The working colours and the order of a run, held to their limits: they are what a stranger wrote.
+#![tactic(auto)]
+
 ghost use Rattle.std.specs.Prelude.{◌≡◌, ◌*◌, ◌≤◌};
 ghost use Rattle.answer.specs.Rules.{answer};
 ghost use Rattle.job.specs.Job.{most_subpalettes, most_colours};

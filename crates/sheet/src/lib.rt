@@ -1,5 +1,7 @@
 // The fit sheet's public calls: the reader and the writer. Neither asks anything of its caller, and a refusal writes nothing.
 // Assumes nothing.
+#![tactic(auto)]
+
 ghost use Rattle.std.specs.Prelude.{◌≡◌};
 ghost use Rattle.job.specs.Job.{job_of};
 ghost use Rattle.answer.specs.Outcome.{outcome};

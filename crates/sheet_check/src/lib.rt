@@ -1,5 +1,7 @@
 // The sheet reader's first pass: it tests a whole sheet and writes nothing, so that a refusal leaves all as it was.
 // Each function answers what the format in crate sheet_format says. Assumes nothing.
+#![tactic(auto)]
+
 ghost use Rattle.std.specs.Prelude.{◌≡◌, ◌*◌, ◌≤◌, length, drop, ◌&&◌, ltb};
 ghost use Rattle.bits.specs.Bits.{bits};
 ghost use Rattle.sheet_format.specs.Sheet.{fault_of, header, read_sheet};

@@ -1,5 +1,7 @@
 // The sheet reader's second pass: it fills lent slices from a sheet that the first pass accepted, so every field is known to be sound.
 // Assumes nothing.
+#![tactic(auto)]
+
 ghost use Rattle.std.specs.Prelude.{◌≡◌, ◌+◌, ◌*◌, ◌≤◌, length};
 ghost use Rattle.std.proofs.lemmas.List.Edits.{sets};
 ghost use Rattle.format.specs.Format.{times};

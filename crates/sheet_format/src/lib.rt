@@ -1,4 +1,6 @@
 // The fit sheet as a format, in specs/: described once, over its edition, for its readers and its writer. Assumes nothing.
+#![tactic(auto)]
+
 ghost use Rattle.std.specs.Prelude.{◌≡◌, ◌*◌, ◌≤◌};
 ghost use Rattle.sheet_format.specs.Sheet.{edition_of, size_of};
 ghost use Rattle.sheet_format.specs.Proper.{Proper};

@@ -1,5 +1,7 @@
 // Room for any sheet, the job that a reading leaves in its first places, and the sheet of a job that can be written. What a program prints
 // for the bytes of a sheet is defined in specs/, with its laws in proofs/. Assumes nothing.
+#![tactic(auto)]
+
 ghost use Rattle.std.specs.Prelude.{◌≡◌, ℕ, ◌*◌, ◌≤◌, length, get_or};
 ghost use Rattle.job.specs.Job.{job_of};
 ghost use Rattle.sheet.specs.Sheets.{file_of};

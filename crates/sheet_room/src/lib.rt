@@ -1,4 +1,6 @@
 // Room for the fit sheet: whether lent slices hold the lists of any sheet, and whether a file has its place.
+#![tactic(auto)]
+
 ghost use Rattle.std.specs.Prelude.{◌≡◌};
 ghost use Rattle.sheet_room.specs.Room.{roomy, place_for};
 

@@ -1,5 +1,7 @@
 // The parts of a sheet behind its head, tested bit by bit: tiles, and the palette before them. Nothing is written.
 // Each function answers what the format in crate sheet_format says. Assumes nothing.
+#![tactic(auto)]
+
 ghost use Rattle.std.specs.Prelude.{◌≡◌, ◌*◌, ◌≤◌, length};
 ghost use Rattle.format.specs.Format.{times};
 ghost use Rattle.sheet_format.specs.Sheet.{tile, rest};

@@ -1,5 +1,7 @@
 // Selection helpers: the least and the least two of any values. Each function gives what its definition in specs/Stats.antt says.
 // The choice of the least from any hint is laws only, over any distance on indexes. Assumes nothing.
+#![tactic(auto)]
+
 ghost use Rattle.std.specs.Prelude.{◌≡◌};
 ghost use Rattle.stats.specs.Stats.{step_near, step_two, with_other};
 

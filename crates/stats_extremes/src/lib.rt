@@ -1,5 +1,7 @@
 // Selection helpers: the greatest and the least by IEEE 754's total order of f32, which goes by their bits, as specs/Extremes.antt says.
 // No value may be a NaN: it is placed by its bits, which the language keeps to itself.
+#![tactic(auto)]
+
 ghost use Rattle.std.specs.Prelude.{◌≡◌, cond, not, T, length};
 ghost use Rattle.std.specs.Float.{binary32};
 ghost use Rattle.std.specs.Float.Ieee.{is_nan, to_bits};

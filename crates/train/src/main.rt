@@ -1,5 +1,7 @@
 // `train`: a palette for a sheet's tiles. It reads a sheet from standard input and writes what `train_text` gives for it: the sheet with
 // the trained palette, or a refusal's line. One byte past the largest sheet is enough to know that a sheet is too large. Assumes nothing.
+#![tactic(auto)]
+
 ghost use Rattle.std.specs.Prelude.{◌≡◌, length};
 
 // Room for the largest sheet and one byte more. The contract gives only the length.

@@ -1,4 +1,6 @@
 // What `train` takes beside a run: room for the memory of a run over any sheet, and colours cut to -2..2. Assumes nothing.
+#![tactic(auto)]
+
 ghost use Rattle.std.specs.Prelude.{◌≡◌, ◌≤◌, length, take};
 ghost use Rattle.train_run.specs.Training.{cut_one, cut};
 

@@ -1,5 +1,7 @@
 // The samples that `train` draws, one for each unit of count, tile by tile, colour by colour: how many they are, which refusal that number
 // gets, and the samples in lent memory, where each function gives the place behind what it wrote. Assumes nothing.
+#![tactic(auto)]
+
 ghost use Rattle.std.specs.Prelude.{◌+◌, ◌*◌, ◌≤◌, length, ◌≡◌};
 ghost use Rattle.fit_lines.specs.Lines.{Stored};
 ghost use Rattle.train_samples.specs.Samples.{alike, tile_samples, units, units_to, samples_to, Countable};

@@ -1,4 +1,6 @@
 // What `train` writes for a sheet: a refusal's line, or the sheet with the palette that its tiles train. Assumes nothing.
+#![tactic(auto)]
+
 use job::Sizes;
 
 mod run;

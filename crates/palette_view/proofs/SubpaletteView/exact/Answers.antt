@@ -1,0 +1,85 @@
+-- `palette_view::exact` meets its contract: a walk of its MIR, by hand. A `SubpaletteView` is made of the slice passed, in the result's local.
+-- A `&[f32]` is Copy, so what it owns is had twice: once for colors at exit, and once inside the result.
+-- Assumes nothing.
+use mathlib.Core.Path.{refl}
+use mathlib.Core.List.{List, ◌∷◌}
+use lib.Ieee.{Float}
+use lib.ListN.{length}
+use seplogic.Ra.Ura.{Ura}
+use mir.Syntax.{named}
+use mir.Val.{Val}
+use base.Logic.{SProp, ent, emp, via, fst∗}
+use base.Fml.{Lft, Share, Fml, ftrue, flft}
+use prog.Memory.{Memory}
+use prog.Routine.{Routine}
+use prog.Wp.{Calls, Loops, WpFn}
+use types.Logic.{Logic}
+use contract.Monad.{Fun}
+use types.Kit.{‵, raw, ◌⊛◌, ◌$◌, ◌∵◌, !, qed, by, move, use1, split, fsplit, fjoin, suffices, frame}
+use types.Part.{agg}
+use types.Run.{look, init, forget, stop, from, load, and_then, no_more, assigns, returns, enter, alloc1, alloc0, params1, pass1, pass0, free1, free0}
+use denote.RattleType.{owns}
+use denote.Laws.{Is}
+use denote.Builtin.{f32}
+use denote.Ref.{Bor, NamedLft}
+use denote.Signature.{plain, named_lft}
+use denote.Slice.{slice_val, ShrSlice, shr_slice_vals, shr_slice_Tells, shr_slice_Lawful, shr_slice_copy}
+use denote.Steps.{nothing}
+use denote.Struct.Rest.{own_shut}
+use denote.Triple.Entry.{on_entry}
+use denote.Triple.Walked.{says, Stays, stay_none_slice, walk_of, Walks, ends_at, walked}
+use denote.Exit.{yes}
+use Rattle.palette_view.specs.declared.SubpaletteView.{SubpaletteView}
+use Rattle.palette_view.specs.contracts.SubpaletteView as T
+use Rattle.palette_view.proofs.SubpaletteView.TheLaws as T'
+use Rattle.palette_view.specs.contracts.SubpaletteView.exact as exact
+use Rattle.palette_view.proofs.SubpaletteView.exact.Code as code
+use Rattle.palette_view.proofs.SubpaletteView.exact.Goals as goal
+
+abbrev stayed : Stays (exact.ended).signature.params (exact.ended).kept
+stayed = (stay_none_slice (0 ∷ []) tt (plain (λ _. f32)) yes, tt)
+
+module _ {M : Type 1} {𝓤 : Ura M} (𝓛 : Logic 𝓤) (mem : Memory → SProp 𝓤) (run : Routine → Fun 𝓤) (κ : Lft) (q : Share) (s : Bor (List Float)) where
+  open 𝓛 use {H}
+
+  abbrev α : NamedLft
+  α = named_lft 1 0 tt (κ, tt)
+
+  -- the machine value that s has
+  abbrev v : Val
+  v = slice_val s.ref_ptr (length s.now)
+
+  abbrev made : SubpaletteView
+  made = record { colors = s }
+
+  abbrev at : List Val × Unit {0}
+  at = (v ∷ [], tt)
+
+  abbrev Post : Val → SProp 𝓤
+  Post = (walk_of 𝓛 exact.ended stayed (exact.clauses 𝓛 mem run)).post (((κ, tt), (q, tt), tt, (s, tt), at), tt)
+
+  abbrev Own : Fml
+  Own = (ShrSlice (named 0) κ f32).own_val s (v ∷ [])
+
+  exits : ent 𝓤 (on_entry 𝓛 exact.signature (κ, tt) (q, tt) (s, tt) at) (Post (T'.lowered made))
+  exits =
+      qed 𝓛 ((‵ (flft κ q) ⊛ ‵ ftrue) ∷ ‵ (owns (ShrSlice (named 0) κ f32 ∷ []) (s, tt) at) ∷ []) ∵
+      suffices ! _ (ends_at 𝓛 exact.ended stayed (exact.clauses 𝓛 mem run) (((κ, tt), (q, tt), tt, (s, tt), at), tt) (T'.lowered made) made (tt, tt) (tt, tt)) $ says ! refl $
+      frame ! $ fsplit ! $ use1 𝓛 (‵ Own ⊛ ‵ Own) ((shr_slice_copy 𝓛 (named 0) κ f32).twice s (v ∷ [])) $ split ! $ move ! (0 ∷ 2 ∷ []) $ fjoin ! $ frame ! $
+      -- [what colors owns]: what the one field owns, with nothing after it, is what the struct owns
+      nothing ! $ move ! (1 ∷ 0 ∷ []) $ fjoin ! $ by ! (own_shut 𝓛 (T.the_type α) (T'.the_laws α) (s, tt))
+
+  module _ (C : Calls 𝓤 H) (Λ : Loops 𝓤 H) where
+    walk : Is (ShrSlice (named 0) κ f32) s (v ∷ []) → ent 𝓤 (on_entry 𝓛 exact.signature (κ, tt) (q, tt) (s, tt) at) (WpFn 𝓤 H C Λ code.function (v ∷ []) Post)
+    walk p =
+        qed 𝓛 (raw (on_entry 𝓛 exact.signature (κ, tt) (q, tt) (s, tt) at) ∷ []) ∵ enter ! C Λ code.function (v ∷ []) _ $
+        alloc1 ! (λ l₀. alloc1 ! (λ l₁. alloc0 ! $ params1 ! $ pass1 ! (init ! 0 refl ((shr_slice_Lawful 𝓛 (named 0) κ f32).typed s (v ∷ []) p).0) $ pass0 ! $
+        assigns ! (agg ! (and_then ! (load ! (from ! (stop !)) (look ! 0 refl)) (no_more !))) (from ! (stop !)) (init ! 2 refl (tt, (((shr_slice_Lawful 𝓛 (named 0) κ f32).typed s (v ∷ []) p).0.1, tt))) $
+        returns ! (look ! 2 refl) $ forget ! 0 refl $ forget ! 2 refl $ move ! (2 ∷ 3 ∷ []) $ free1 ! $ free1 ! $ free0 ! $ by ! exits))
+
+module _ {M : Type 1} {𝓤 : Ura M} (𝓛 : Logic 𝓤) (mem : Memory → SProp 𝓤) (run : Routine → Fun 𝓤) where
+  open 𝓛 use {H}
+
+  exact-walks : (C : Calls 𝓤 H) (Λ : Loops 𝓤 H) → Walks 𝓛 exact.ended stayed (WpFn 𝓤 H C Λ code.function) (exact.clauses 𝓛 mem run)
+  exact-walks C Λ = walked 𝓛 exact.ended stayed (exact.clauses 𝓛 mem run) (WpFn 𝓤 H C Λ code.function) (λ κs. (shr_slice_vals, tt)) (λ κs. (shr_slice_Tells (named 0) κs.0 f32, tt))
+      (λ κs qs bounds a g are. via 𝓤 _ (fst∗ 𝓤 _ (emp 𝓤)) (walk 𝓛 mem run κs.0 qs.0 a.0 C Λ are.0))

@@ -1,0 +1,18 @@
+-- `run_check::memory_room` meets its contract, return by return. Assumes nothing.
+use Rattle.run_check.proofs.Rooms.{order_unlike, hints_unlike, palette_unlike, least_unlike, words_last}
+use Rattle.run_check.proofs.memory_room.Goals as goal
+
+pub returns-then-order-z : goal.returns-then-order-z
+returns-then-order-z c = order_unlike _ _ _ _ _ _ c.if-order-z.true
+
+pub returns-then-hints-z : goal.returns-then-hints-z
+returns-then-hints-z c = hints_unlike _ _ _ _ _ _ c.if-order-z.false c.if-hints-z.true
+
+pub returns-then-not-colours_room : goal.returns-then-not-colours_room
+returns-then-not-colours_room c = palette_unlike _ _ _ _ _ _ c.if-order-z.false c.if-hints-z.false _ c.colours_room.ensures c.if-not-colours_room.true
+
+pub returns-then-not-colours_room-2 : goal.returns-then-not-colours_room-2
+returns-then-not-colours_room-2 c = least_unlike _ _ _ _ _ _ c.if-order-z.false c.if-hints-z.false _ c.colours_room.ensures c.if-not-colours_room.false _ c.colours_room-2.ensures c.if-not-colours_room-2.true
+
+pub returns : goal.returns
+returns c = words_last _ _ _ _ _ _ c.if-order-z.false c.if-hints-z.false _ c.colours_room.ensures c.if-not-colours_room.false _ c.colours_room-2.ensures c.if-not-colours_room-2.false

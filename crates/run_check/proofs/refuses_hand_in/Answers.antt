@@ -1,0 +1,26 @@
+-- `run_check::refuses_hand_in` meets its contract, return by return. Assumes nothing.
+use native.Mathlib.Omega.{arith}
+use Rattle.run_stages.specs.Calls.{state_of, memory_room, colours_room, hand_in_answer}
+use Rattle.answer.proofs.Passing.{refuses, passes}
+use Rattle.run_check.proofs.Answers.{run_room, run-stops, run_goes}
+use Rattle.run_check.proofs.refuses_hand_in.Goals as goal
+
+pub check_run-a-requires : goal.check_run-a-requires
+check_run-a-requires c = c.wider_room-room.ensures.recorded
+
+pub returns-then-a-ne0 : goal.returns-then-a-ne0
+unfolding hand_in_answer memory_room colours_room
+returns-then-a-ne0 c = run-stops _ _ _ _ _ _ c.check_run-a.ensures _ c.wider_room-room.ensures.same _ c.if-a-ne0.true
+
+pub bounds-words-1 : goal.bounds-words-1
+bounds-words-1 c = let recorded = c.wider_room-room.ensures.recorded (run_room _ _ _ _ _ _ c.check_run-a.ensures c.if-a-ne0.false) in omega arith
+
+pub returns-then-not-is_stop : goal.returns-then-not-is_stop
+unfolding hand_in_answer memory_room colours_room state_of
+returns-then-not-is_stop c = run_goes _ _ _ _ _ _ c.check_run-a.ensures _ c.wider_room-room.ensures.same _ c.if-a-ne0.false _ (refuses _ _ _ c.is_stop.ensures c.if-not-is_stop.true)
+
+pub returns : goal.returns
+unfolding hand_in_answer memory_room colours_room state_of
+returns c =
+    run_goes _ _ _ _ _ _ c.check_run-a.ensures _ c.wider_room-room.ensures.same _ c.if-a-ne0.false _
+    (passes _ _ _ _ c.is_stop.ensures c.if-not-is_stop.false c.check_colours.ensures)

@@ -1,0 +1,35 @@
+-- `stats_extremes::extreme` meets its contract. The loop's invariant: best is the chosen of the first i. Assumes nothing.
+use Prim.Native.Nat.{◌-◌}
+use mathlib.Core.Path.{◌≡◌, refl, ap, ◌∙◌}
+use mathlib.Core.Bool.{true, false}
+use mathlib.Core.Logic.{⊎_elim}
+use native.Mathlib.Omega.{arith}
+use lib.ListN.{length}
+use Rattle.stats.specs.Stats.{value_at}
+use Rattle.stats_extremes.proofs.Choices.{chosen, none}
+use Rattle.stats_extremes.proofs.Turns.{turn}
+use Rattle.stats_extremes.proofs.extreme.Goals as goal
+
+pub loop-i-init : goal.loop-i-init
+loop-i-init c = (omega arith, omega arith, none _ _)
+
+pub total_key-requires : goal.total_key-requires
+total_key-requires c = c.requires c.loop-i.best (omega arith)
+
+pub total_key-requires-in-loop-i : goal.total_key-requires-in-loop-i
+total_key-requires-in-loop-i c = c.requires c.loop-i.i (omega arith)
+
+pub loop-i-preserved : goal.loop-i-preserved
+loop-i-preserved c =
+    let fit = c.type_inv.values in
+    let step = turn _ _ fit _ c.requires _ _ (omega arith) (omega arith) _ _ c.total_key.ensures c.total_key-in-loop-i.ensures c.loop-i.invariant.2 in
+    ⊎_elim
+    (λ v. (omega arith, omega (arith, v.1), v.1 ∙ step true v.0.taken))
+    (λ v. (omega arith, omega (arith, v.1), v.1 ∙ step false v.0.left))
+    c.if-rises-greatest.branch
+
+pub returns : goal.returns
+returns c =
+    let a = c.args in
+    let all : c.loop-i.i ≡ length a.values.now = omega arith in
+    c.loop-i.invariant.2 ∙ ap (chosen a.greatest (value_at a.values.now)) all ∙ (unfold chosen in refl)
