@@ -1,3 +1,2 @@
 // Laws of lists of numbers, in proofs/. No function.
 #![tactic(auto)]
-

@@ -2,7 +2,6 @@
 // The code stands in palette_mse_sum. Here is only what it sums into.
 #![tactic(auto)]
 
-
 // A sum of distances times counts, and the pixels counted.
 #[derive(Drop)]
 pub struct Tally {

@@ -2,7 +2,6 @@
 // The functions stand in the crates above, one a stage. Here is only what they share.
 #![tactic(auto)]
 
-
 // The place to copy, the place to copy it to, and whether to.
 #[derive(Drop)]
 pub struct Swap {

@@ -95,7 +95,7 @@ module _ (d : ℕ → Float) (n : ℕ) (G : (j : ℕ) → j < n → Good binary3
     lower = behind i b.index s R.seen
 
     lower_next : b.next < i
-    lower_next = behind i b.next s R.Seen-next
+    lower_next = behind i b.next s R.seen_next
 
     loses : lt (d i) b.dist ≡ false → rank (d b.index) b.index ≤ rank (d i) i
     loses p = omega (arith, lower, same, lt_no (d i) b.dist (G i l) best_good p)

@@ -32,8 +32,7 @@ overflow_add-v c =
     )
 
 pub loop-j-preserved : goal.loop-j-preserved
-loop-j-preserved c =
-    (
+loop-j-preserved c = (
   omega arith,
   omega arith,
   ap (λ (v : ℕ). v * 256 + get_or c.args.s.now c.loop-j.j 0) c.loop-j.invariant.2

@@ -11,8 +11,7 @@ pub returns-then-same_bytes : goal.returns-then-same_bytes
 returns-then-same_bytes c = seek_found _ _ _ _ c.loop-e.invariant.1 c.loop-e-test.true c.rgba_at.ensures c.same_bytes.ensures c.if-same_bytes.true
 
 pub loop-e-preserved : goal.loop-e-preserved
-loop-e-preserved c =
-    (
+loop-e-preserved c = (
   search rules,
   seek_on _ _ _ _ c.loop-e.invariant.1 c.loop-e-test.true
       c.rgba_at.ensures c.same_bytes.ensures c.if-same_bytes.false,

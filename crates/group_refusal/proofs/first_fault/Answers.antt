@@ -15,8 +15,7 @@ pub returns-then-e-ne0 : goal.returns-then-e-ne0
 returns-then-e-ne0 c = first_found _ _ _ _ c.loop-k.invariant.1 c.loop-k-test.true c.fault-e.ensures c.if-e-ne0.true
 
 pub loop-k-preserved : goal.loop-k-preserved
-loop-k-preserved c =
-    (
+loop-k-preserved c = (
   search rules,
   first_on _ _ _ _ c.loop-k.invariant.1 c.loop-k-test.true c.fault-e.ensures c.if-e-ne0.false,
   real_on _ _ _ _ _ c.loop-k.invariant.2 c.fault-e.ensures c.if-e-ne0.false,

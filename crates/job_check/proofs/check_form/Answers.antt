@@ -1,4 +1,6 @@
 -- `job_check::check_form` meets its contract, return by return: each is a law of proofs/Answers.antt. Assumes nothing.
+use mathlib.Core.Bool.{not}
+use mathlib.Core.Path.{ap}
 use Rattle.job.specs.Job.{job_of}
 use native.Mathlib.Omega.{arith}
 use Rattle.job.proofs.Ready.{sizes_of_lem}
@@ -36,11 +38,11 @@ returns-then-not-room c =
     let a = c.args in let J = job_of a.z a.tiles.now a.colours.now a.counts.now in
     form_room J a.room _
     c.check_sizes-a.ensures c.if-a-ne0.false _ c.check_shapes-b.ensures c.if-b-ne0.false a.palette
-    c.if-palette-z.false c.if-not-room.true
+    c.if-palette-z.false (ap not c.if-not-room.true)
 
 pub returns : goal.returns
 returns c =
     let a = c.args in let J = job_of a.z a.tiles.now a.colours.now a.counts.now in
     form_passes J a.room _
     c.check_sizes-a.ensures c.if-a-ne0.false _ c.check_shapes-b.ensures c.if-b-ne0.false a.palette
-    c.if-palette-z.false c.if-not-room.false
+    c.if-palette-z.false (ap not c.if-not-room.false)

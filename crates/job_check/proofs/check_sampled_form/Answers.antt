@@ -1,4 +1,6 @@
 -- `job_check::check_sampled_form` meets its contract, return by return: each is a law of proofs/Answers.antt. Assumes nothing.
+use mathlib.Core.Bool.{not}
+use mathlib.Core.Path.{ap}
 use Rattle.job.specs.Job.{job_of}
 use Rattle.job.proofs.Ready.{sizes_of_lem}
 use Rattle.job_check.proofs.Answers.{sampled-sizes, sampled-many, sampled_shapes, sampled_unpaired, sampled-room, sampled-none, sampled_passes}
@@ -34,16 +36,16 @@ pub returns-then-not-room : goal.returns-then-not-room
 returns-then-not-room c =
     let a = c.args in
     sampled-room (job_of a.z a.tiles.now a.colours.now a.counts.now) a.room a.z.n a.samples _ c.check_sizes-a.ensures
-    c.if-a-ne0.false c.if-z-gt-MOST_SAMPLES.false _ c.check_shapes-b.ensures c.if-b-ne0.false c.if-samples-z.false c.if-not-room.true
+    c.if-a-ne0.false c.if-z-gt-MOST_SAMPLES.false _ c.check_shapes-b.ensures c.if-b-ne0.false c.if-samples-z.false (ap not c.if-not-room.true)
 
 pub returns-then-z-eq0 : goal.returns-then-z-eq0
 returns-then-z-eq0 c =
     let a = c.args in
     sampled-none (job_of a.z a.tiles.now a.colours.now a.counts.now) a.room a.z.n a.samples _ c.check_sizes-a.ensures
-    c.if-a-ne0.false c.if-z-gt-MOST_SAMPLES.false _ c.check_shapes-b.ensures c.if-b-ne0.false c.if-samples-z.false c.if-not-room.false c.if-z-eq0.true
+    c.if-a-ne0.false c.if-z-gt-MOST_SAMPLES.false _ c.check_shapes-b.ensures c.if-b-ne0.false c.if-samples-z.false (ap not c.if-not-room.false) c.if-z-eq0.true
 
 pub returns : goal.returns
 returns c =
     let a = c.args in
     sampled_passes (job_of a.z a.tiles.now a.colours.now a.counts.now) a.room a.z.n a.samples _ c.check_sizes-a.ensures
-    c.if-a-ne0.false c.if-z-gt-MOST_SAMPLES.false _ c.check_shapes-b.ensures c.if-b-ne0.false c.if-samples-z.false c.if-not-room.false c.if-z-eq0.false
+    c.if-a-ne0.false c.if-z-gt-MOST_SAMPLES.false _ c.check_shapes-b.ensures c.if-b-ne0.false c.if-samples-z.false (ap not c.if-not-room.false) c.if-z-eq0.false

@@ -1,7 +1,7 @@
 -- `job_tables::counts_fit` meets its contract. The invariant: the counts of every tile before i pass. Assumes nothing.
 use Prim.Native.Nat.{◌-◌}
-use mathlib.Core.Path.{refl}
-use mathlib.Core.Bool.{true}
+use mathlib.Core.Path.{refl, ap}
+use mathlib.Core.Bool.{true, not}
 use native.Mathlib.Omega.{arith}
 use borrow.Author.Rules.{rules}
 use Rattle.lists.specs.Every.{every}
@@ -19,10 +19,10 @@ pub counts_part-part-requires : goal.counts_part-part-requires
 counts_part-part-requires c = record { listed = omega arith; inside = omega (arith, tile-inside _ _ _ _ c.requires.1 _ c.loop-i-test.true) }
 
 pub returns-then-not-part_fits : goal.returns-then-not-part_fits
-returns-then-not-part_fits c = all-counted_fails _ _ _ _ _ _ c.counts_part-part.ensures c.part_fits.ensures _ c.if-not-part_fits.true c.loop-i-test.true
+returns-then-not-part_fits c = all-counted_fails _ _ _ _ _ _ c.counts_part-part.ensures c.part_fits.ensures _ (ap not c.if-not-part_fits.true) c.loop-i-test.true
 
 pub loop-i-preserved : goal.loop-i-preserved
-loop-i-preserved c = (search rules, all-counted-more _ _ _ _ _ _ c.counts_part-part.ensures c.part_fits.ensures c.loop-i.invariant.1 c.if-not-part_fits.false)
+loop-i-preserved c = (search rules, all-counted-more _ _ _ _ _ _ c.counts_part-part.ensures c.part_fits.ensures c.loop-i.invariant.1 (ap not c.if-not-part_fits.false))
 
 pub returns : goal.returns
 unfolding counts_fit

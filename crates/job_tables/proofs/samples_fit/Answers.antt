@@ -1,8 +1,8 @@
 -- `job_tables::samples_fit` meets its contract. The invariant: every sample before i passes. Assumes nothing.
 use Rattle.job_tables.proofs.Walks.{sampled_fails, sampled-more}
 use Prim.Native.Nat.{◌-◌}
-use mathlib.Core.Path.{refl}
-use mathlib.Core.Bool.{true}
+use mathlib.Core.Path.{refl, ap}
+use mathlib.Core.Bool.{true, not}
 use Rattle.job.specs.Checks.{sample_fits, samples_fit}
 use Rattle.lists.specs.Every.{every}
 use Rattle.lists.proofs.Loops.{every_end}
@@ -16,14 +16,13 @@ loop-i-init c = (search rules, refl)
 pub returns-then-not-sample_fits : goal.returns-then-not-sample_fits
 returns-then-not-sample_fits c =
     sampled_fails _ _ _ _ _ _ _ _ c.sample_fits.ensures c.wide.ensures c.wide-in-loop-i.ensures
-    c.if-not-sample_fits.true c.loop-i-test.true
+    (ap not c.if-not-sample_fits.true) c.loop-i-test.true
 
 pub loop-i-preserved : goal.loop-i-preserved
-loop-i-preserved c =
-    (
+loop-i-preserved c = (
   search rules,
   sampled-more _ _ _ _ _ _ _ c.sample_fits.ensures c.wide.ensures
-      c.wide-in-loop-i.ensures c.loop-i.invariant.1 c.if-not-sample_fits.false,
+      c.wide-in-loop-i.ensures c.loop-i.invariant.1 (ap not c.if-not-sample_fits.false),
 )
 
 pub returns : goal.returns

@@ -1,4 +1,6 @@
 -- `job_tables::tiles_fit` meets its contract. The invariant: the tiles before i pass, and end at `at`. Assumes nothing.
+use mathlib.Core.Bool.{not}
+use mathlib.Core.Path.{ap}
 use Prim.Native.Nat.{◌-◌}
 use native.Mathlib.Omega.{arith}
 use borrow.Author.Rules.{rules}
@@ -11,22 +13,21 @@ loop-i-init c = (search rules, tiled-start _ _ _)
 pub returns-then-not-tile_fits : goal.returns-then-not-tile_fits
 returns-then-not-tile_fits c =
     tiled_fails _ _ _ _ _ c.loop-i.invariant.1 _ _ _ c.first_of.ensures
-    c.size_of-n.ensures c.tile_fits.ensures _ c.if-not-tile_fits.true c.loop-i-test.true
+    c.size_of-n.ensures c.tile_fits.ensures _ (ap not c.if-not-tile_fits.true) c.loop-i-test.true
 
 pub overflow_add-at : goal.overflow_add-at
 overflow_add-at c =
     omega (
-  arith,
-  tiled-room _ _ _ _ _ c.loop-i.invariant.1 _ _ _ c.first_of.ensures
-      c.size_of-n.ensures c.tile_fits.ensures c.if-not-tile_fits.false,
-)
+      arith,
+      tiled-room _ _ _ _ _ c.loop-i.invariant.1 _ _ _ c.first_of.ensures
+          c.size_of-n.ensures c.tile_fits.ensures (ap not c.if-not-tile_fits.false),
+    )
 
 pub loop-i-preserved : goal.loop-i-preserved
-loop-i-preserved c =
-    (
+loop-i-preserved c = (
   search rules,
   tiled-more _ _ _ _ _ c.loop-i.invariant.1 _ _ _ c.first_of.ensures
-      c.size_of-n.ensures c.tile_fits.ensures c.if-not-tile_fits.false,
+      c.size_of-n.ensures c.tile_fits.ensures (ap not c.if-not-tile_fits.false),
 )
 
 pub returns : goal.returns

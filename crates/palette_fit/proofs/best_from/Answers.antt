@@ -44,7 +44,7 @@ pub quartet_ahead-head-requires : goal.quartet_ahead-head-requires
 quartet_ahead-head-requires c = c.requires.0.tile
 
 pub subs-init : goal.subs-init
-subs-init c = ((omega arith, c.well-formed.1.1.1.1.1.0.0), turn-start _ _ _ c.requires.0 _ c.requires.1.1 _ c.part-hinted.ensures _ c.tile_distance-least.ensures)
+subs-init c = ((omega arith, c.well_formed.1.1.1.1.1.0.0), turn-start _ _ _ c.requires.0 _ c.requires.1.1 _ c.part-hinted.ensures _ c.tile_distance-least.ensures)
 
 pub subs-preserved-then-i-hint : goal.subs-preserved-then-i-hint
 subs-preserved-then-i-hint c = let o = c.subs in ((omega arith, o.invariant.0.1), lead_skips _ _ _ _ _ o.invariant.1 c.if-i-hint.true)

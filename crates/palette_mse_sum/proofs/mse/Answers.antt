@@ -15,8 +15,7 @@ tile_step-sum-requires c =
     c.loop-i.invariant.0 c.requires.1 c.loop-i.invariant.1 c.loop-i-test.true
 
 pub loop-i-preserved : goal.loop-i-preserved
-loop-i-preserved c =
-    (
+loop-i-preserved c = (
   walked_more c.loop-i.invariant.0 c.loop-i-test.true
       c.tile_step-sum.ensures.0,
   walked_more c.loop-i.invariant.1

@@ -27,22 +27,20 @@ pub distance_within-requires : goal.distance_within-requires
 distance_within-requires c = turn_walks _ _ _ c.requires.0 _ c.requires.1 (omega (arith, c.ranges.n)) c.loop-i.i _ c.loop-i.invariant.1 (omega arith) _ c.part-sub.ensures
 
 pub loop-i-preserved-in_default : goal.loop-i-preserved-in_default
-loop-i-preserved-in_default c =
-    (
-      omega arith,
-      turn-over _ _ _ c.requires.0 _ c.requires.1 (omega (arith, c.ranges.n)) c.loop-i.i _ c.loop-i.invariant.1 (omega arith) _
-          c.part-sub.ensures (sym c.enum_told-1.given.1 ∙ c.distance_within.ensures),
-    )
+loop-i-preserved-in_default c = (
+  omega arith,
+  turn-over _ _ _ c.requires.0 _ c.requires.1 (omega (arith, c.ranges.n)) c.loop-i.i _ c.loop-i.invariant.1 (omega arith) _
+      c.part-sub.ensures (sym c.enum_told-1.given.1 ∙ c.distance_within.ensures),
+)
 
 pub loop-i-preserved : goal.loop-i-preserved
-loop-i-preserved c =
-    (
-      omega (arith, c.loop-i-test),
-      turn-weighs _ _ _ c.requires.0 _ c.requires.1 (omega (arith, c.ranges.n))
-          c.loop-i.i _ c.loop-i.invariant.1 (omega (arith, c.loop-i-test)) _
-          c.part-sub.ensures c.if-i-hint.false _ _
-          (sym c.d-1.given.1 ∙ c.distance_within.ensures) c.weigh-b.ensures,
-    )
+loop-i-preserved c = (
+  omega (arith, c.loop-i-test),
+  turn-weighs _ _ _ c.requires.0 _ c.requires.1 (omega (arith, c.ranges.n))
+      c.loop-i.i _ c.loop-i.invariant.1 (omega (arith, c.loop-i-test)) _
+      c.part-sub.ensures c.if-i-hint.false _ _
+      (sym c.d-1.given.1 ∙ c.distance_within.ensures) c.weigh-b.ensures,
+)
 
 pub returns : goal.returns
 returns c = turn_end _ _ _ c.requires.0 _ c.requires.1 (omega (arith, c.ranges.n)) c.loop-i.i _ (omega arith) (omega arith) c.loop-i.invariant.1

@@ -9,9 +9,8 @@ pub swap_subpalette-requires : goal.swap_subpalette-requires
 swap_subpalette-requires c = swap_room _ _ c.requires.0 _ c.weakest_palette-weakest.ensures.0 _ c.replace_colors.ensures
 
 pub returns : goal.returns
-returns c =
-    (
-      all-replaced _ _ c.requires.0 _ c.weakest_palette-weakest.ensures.0 _ c.replace_colors.ensures _
-          c.swap_subpalette.ensures,
-      c.weakest_palette-weakest.ensures.1,
-    )
+returns c = (
+  all-replaced _ _ c.requires.0 _ c.weakest_palette-weakest.ensures.0 _ c.replace_colors.ensures _
+      c.swap_subpalette.ensures,
+  c.weakest_palette-weakest.ensures.1,
+)

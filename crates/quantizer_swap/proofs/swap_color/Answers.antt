@@ -1,9 +1,11 @@
 -- `quantizer_swap::swap_color` meets its contract, return by return: laws of proofs/Swaps.antt. Assumes nothing.
+use mathlib.Core.Bool.{not}
+use mathlib.Core.Path.{ap}
 use Rattle.quantizer_swap.proofs.Swaps.{colour-stays, colour_gives}
 use Rattle.quantizer_swap.proofs.swap_color.Goals as goal
 
 pub returns-then-not-gives : goal.returns-then-not-gives
-returns-then-not-gives c = let a = c.args in colour-stays a.pal.now a.c a.i a.s c.if-not-gives.true
+returns-then-not-gives c = let a = c.args in colour-stays a.pal.now a.c a.i a.s (ap not c.if-not-gives.true)
 
 pub returns : goal.returns
-returns c = let a = c.args in colour_gives a.pal.now a.c a.i a.s c.if-not-gives.false _ c.copy_color.ensures
+returns c = let a = c.args in colour_gives a.pal.now a.c a.i a.s (ap not c.if-not-gives.false) _ c.copy_color.ensures

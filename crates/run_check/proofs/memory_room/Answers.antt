@@ -1,4 +1,6 @@
 -- `run_check::memory_room` meets its contract, return by return. Assumes nothing.
+use mathlib.Core.Bool.{not}
+use mathlib.Core.Path.{ap}
 use Rattle.run_check.proofs.Rooms.{order_unlike, hints_unlike, palette_unlike, least_unlike, words_last}
 use Rattle.run_check.proofs.memory_room.Goals as goal
 
@@ -9,10 +11,10 @@ pub returns-then-hints-z : goal.returns-then-hints-z
 returns-then-hints-z c = hints_unlike _ _ _ _ _ _ c.if-order-z.false c.if-hints-z.true
 
 pub returns-then-not-colours_room : goal.returns-then-not-colours_room
-returns-then-not-colours_room c = palette_unlike _ _ _ _ _ _ c.if-order-z.false c.if-hints-z.false _ c.colours_room.ensures c.if-not-colours_room.true
+returns-then-not-colours_room c = palette_unlike _ _ _ _ _ _ c.if-order-z.false c.if-hints-z.false _ c.colours_room.ensures (ap not c.if-not-colours_room.true)
 
 pub returns-then-not-colours_room-2 : goal.returns-then-not-colours_room-2
-returns-then-not-colours_room-2 c = least_unlike _ _ _ _ _ _ c.if-order-z.false c.if-hints-z.false _ c.colours_room.ensures c.if-not-colours_room.false _ c.colours_room-2.ensures c.if-not-colours_room-2.true
+returns-then-not-colours_room-2 c = least_unlike _ _ _ _ _ _ c.if-order-z.false c.if-hints-z.false _ c.colours_room.ensures (ap not c.if-not-colours_room.false) _ c.colours_room-2.ensures (ap not c.if-not-colours_room-2.true)
 
 pub returns : goal.returns
-returns c = words_last _ _ _ _ _ _ c.if-order-z.false c.if-hints-z.false _ c.colours_room.ensures c.if-not-colours_room.false _ c.colours_room-2.ensures c.if-not-colours_room-2.false
+returns c = words_last _ _ _ _ _ _ c.if-order-z.false c.if-hints-z.false _ c.colours_room.ensures (ap not c.if-not-colours_room.false) _ c.colours_room-2.ensures (ap not c.if-not-colours_room-2.false)

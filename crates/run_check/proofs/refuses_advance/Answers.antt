@@ -1,4 +1,6 @@
 -- `run_check::refuses_advance` meets its contract, return by return. Assumes nothing.
+use mathlib.Core.Bool.{not}
+use mathlib.Core.Path.{ap}
 use native.Mathlib.Omega.{arith}
 use Rattle.run_stages.specs.Calls.{state_of, memory_room, colours_room, advance_answer}
 use Rattle.answer.proofs.Passing.{refuses, passes, none}
@@ -17,8 +19,8 @@ bounds-words-1 c = let recorded = c.memory_room-room.ensures.recorded (run_room 
 
 pub returns-then-not-makes_draws : goal.returns-then-not-makes_draws
 unfolding advance_answer memory_room colours_room state_of
-returns-then-not-makes_draws c = run_goes _ _ _ _ _ _ c.check_run-a.ensures _ c.memory_room-room.ensures.same _ c.if-a-ne0.false _ (refuses _ _ _ c.makes_draws.ensures c.if-not-makes_draws.true)
+returns-then-not-makes_draws c = run_goes _ _ _ _ _ _ c.check_run-a.ensures _ c.memory_room-room.ensures.same _ c.if-a-ne0.false _ (refuses _ _ _ c.makes_draws.ensures (ap not c.if-not-makes_draws.true))
 
 pub returns : goal.returns
 unfolding advance_answer memory_room colours_room state_of
-returns c = run_goes _ _ _ _ _ _ c.check_run-a.ensures _ c.memory_room-room.ensures.same _ c.if-a-ne0.false _ (passes _ _ _ _ c.makes_draws.ensures c.if-not-makes_draws.false none)
+returns c = run_goes _ _ _ _ _ _ c.check_run-a.ensures _ c.memory_room-room.ensures.same _ c.if-a-ne0.false _ (passes _ _ _ _ c.makes_draws.ensures (ap not c.if-not-makes_draws.false) none)

@@ -1,4 +1,6 @@
 -- `run_check::refuses_hand_in` meets its contract, return by return. Assumes nothing.
+use mathlib.Core.Bool.{not}
+use mathlib.Core.Path.{ap}
 use native.Mathlib.Omega.{arith}
 use Rattle.run_stages.specs.Calls.{state_of, memory_room, colours_room, hand_in_answer}
 use Rattle.answer.proofs.Passing.{refuses, passes}
@@ -17,10 +19,10 @@ bounds-words-1 c = let recorded = c.wider_room-room.ensures.recorded (run_room _
 
 pub returns-then-not-is_stop : goal.returns-then-not-is_stop
 unfolding hand_in_answer memory_room colours_room state_of
-returns-then-not-is_stop c = run_goes _ _ _ _ _ _ c.check_run-a.ensures _ c.wider_room-room.ensures.same _ c.if-a-ne0.false _ (refuses _ _ _ c.is_stop.ensures c.if-not-is_stop.true)
+returns-then-not-is_stop c = run_goes _ _ _ _ _ _ c.check_run-a.ensures _ c.wider_room-room.ensures.same _ c.if-a-ne0.false _ (refuses _ _ _ c.is_stop.ensures (ap not c.if-not-is_stop.true))
 
 pub returns : goal.returns
 unfolding hand_in_answer memory_room colours_room state_of
 returns c =
     run_goes _ _ _ _ _ _ c.check_run-a.ensures _ c.wider_room-room.ensures.same _ c.if-a-ne0.false _
-    (passes _ _ _ _ c.is_stop.ensures c.if-not-is_stop.false c.check_colours.ensures)
+    (passes _ _ _ _ c.is_stop.ensures (ap not c.if-not-is_stop.false) c.check_colours.ensures)

@@ -1,4 +1,6 @@
 -- `run_check::refuses_result` meets its contract, return by return. Assumes nothing.
+use mathlib.Core.Bool.{not}
+use mathlib.Core.Path.{ap}
 use native.Mathlib.Omega.{arith}
 use Rattle.run_stages.specs.Calls.{state_of, memory_room, colours_room, result_answer}
 use Rattle.answer.proofs.Passing.{refuses, passes, none}
@@ -20,8 +22,8 @@ is_finished-requires c = tt
 
 pub returns-then-not-is_finished : goal.returns-then-not-is_finished
 unfolding result_answer memory_room colours_room state_of
-returns-then-not-is_finished c = run_goes _ _ _ _ _ _ c.check_run-a.ensures _ c.wider_room-room.ensures.same _ c.if-a-ne0.false _ (refuses _ _ _ c.is_finished.ensures c.if-not-is_finished.true)
+returns-then-not-is_finished c = run_goes _ _ _ _ _ _ c.check_run-a.ensures _ c.wider_room-room.ensures.same _ c.if-a-ne0.false _ (refuses _ _ _ c.is_finished.ensures (ap not c.if-not-is_finished.true))
 
 pub returns : goal.returns
 unfolding result_answer memory_room colours_room state_of
-returns c = run_goes _ _ _ _ _ _ c.check_run-a.ensures _ c.wider_room-room.ensures.same _ c.if-a-ne0.false _ (passes _ _ _ _ c.is_finished.ensures c.if-not-is_finished.false none)
+returns c = run_goes _ _ _ _ _ _ c.check_run-a.ensures _ c.wider_room-room.ensures.same _ c.if-a-ne0.false _ (passes _ _ _ _ c.is_finished.ensures (ap not c.if-not-is_finished.false) none)

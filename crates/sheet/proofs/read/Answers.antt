@@ -1,4 +1,5 @@
 -- `read` meets its contract: what the first pass found decides, and a sheet that it accepts fits the room. Assumes nothing.
+use mathlib.Core.Bool.{not}
 use mathlib.Core.Path.{sym, ap, ◌∙◌, subst⁻¹}
 use native.Mathlib.Omega.{arith}
 use lib.ListN.{length}
@@ -10,10 +11,10 @@ use Rattle.sheet.proofs.Outcomes.{SheetRoom, roomy_says, no_size, no_room, refus
 use Rattle.sheet.proofs.read.Goals as goal
 
 pub returns-then-not-is_tile_size : goal.returns-then-not-is_tile_size
-returns-then-not-is_tile_size c = no_size _ _ _ _ c.is_tile_size.ensures c.if-not-is_tile_size.true
+returns-then-not-is_tile_size c = no_size _ _ _ _ c.is_tile_size.ensures (ap not c.if-not-is_tile_size.true)
 
 pub returns-then-not-has_room : goal.returns-then-not-has_room
-returns-then-not-has_room c = no_room _ _ _ _ c.is_tile_size.ensures c.if-not-is_tile_size.false _ c.has_room.ensures c.if-not-has_room.true
+returns-then-not-has_room c = no_room _ _ _ _ c.is_tile_size.ensures (ap not c.if-not-is_tile_size.false) _ c.has_room.ensures (ap not c.if-not-has_room.true)
 
 -- the edition, as the code has it
 -- ?? tie
@@ -35,7 +36,7 @@ there : (c : tie.After-known-told2) →
     let a = c.args in
     SheetRoom (length a.tiles.now) (length a.colours.now) (length a.counts.now) (length a.palette.now)
 there c =
-    roomy_says _ _ _ _ _ c.has_room.ensures c.if-not-has_room.false
+    roomy_says _ _ _ _ _ c.has_room.ensures (ap not c.if-not-has_room.false)
 
 pub overflow_mul-n : goal.overflow_mul-n
 overflow_mul-n c = omega (arith, (says c).few)
@@ -68,13 +69,13 @@ weight-heavy-requires c = (says (c)).weight
 
 pub returns-in-Refused : goal.returns-in-Refused
 returns-in-Refused c =
-    refused-out _ _ _ _ c.is_tile_size.ensures c.if-not-is_tile_size.false _ c.has_room.ensures c.if-not-has_room.false
+    refused-out _ _ _ _ c.is_tile_size.ensures (ap not c.if-not-is_tile_size.false) _ c.has_room.ensures (ap not c.if-not-has_room.false)
     _ c.edition_of-e.ensures c.refusal-1.given.0.0 (sym c.refusal-1.given.1 ∙ c.check.ensures)
 
 pub returns-in-Sound : goal.returns-in-Sound
 returns-in-Sound c =
     let found = c.subs-1.given in
-    accepted-out _ _ _ _ c.is_tile_size.ensures c.if-not-is_tile_size.false _ c.has_room.ensures c.if-not-has_room.false
+    accepted-out _ _ _ _ c.is_tile_size.ensures (ap not c.if-not-is_tile_size.false) _ c.has_room.ensures (ap not c.if-not-has_room.false)
     _ c.edition_of-e.ensures found.0.0 found.0.1.0 found.0.1.1.0 found.0.1.1.1.0 _ _ _ _ _
     (says (c))
     (c.sizes_of.ensures ∙ ap (sizes_of c.args.size found.0.0 found.0.1.0 found.0.1.1.0 0) c.weight-heavy.ensures.0)

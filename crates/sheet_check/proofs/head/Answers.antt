@@ -1,4 +1,5 @@
 -- `head` meets its contract, by each of its tests. Assumes nothing.
+use mathlib.Core.Bool.{not}
 use mathlib.Core.Path.{sym, ap, ◌∙◌}
 use native.Mathlib.Omega.{arith}
 use borrow.Author.Tests.{not-true, not-false}
@@ -32,7 +33,7 @@ pub returns-then-not-is_weight : goal.returns-then-not-is_weight
 returns-then-not-is_weight c =
     sym (ap head_of (weight_wrong c.args.e c.args.s.now c.get.result c.get.ensures c.if-get-ne-OPENING.false c.get-2.result
     c.get-2.ensures c.if-get-e.false c.get-weight.result (omega arith) c.get-weight.ensures
-    (sym c.is_weight.ensures ∙ not-true c.is_weight.result c.if-not-is_weight.true)))
+    (sym c.is_weight.ensures ∙ not-true c.is_weight.result (ap not c.if-not-is_weight.true))))
 
 pub overflow_add-result : goal.overflow_add-result
 overflow_add-result c = omega (arith, c.get-3.ensures, field_lt (bits c.args.s.now) 36 4 4 (rw length-bits (omega arith)) (omega arith))
@@ -47,5 +48,5 @@ pub returns : goal.returns
 returns c =
     sym (ap head_of (head_read c.args.e c.args.s.now c.get.result c.get.ensures c.if-get-ne-OPENING.false c.get-2.result
     c.get-2.ensures c.if-get-e.false c.get-weight.result (omega arith) c.get-weight.ensures
-    (sym c.is_weight.ensures ∙ not-false c.is_weight.result c.if-not-is_weight.false)
+    (sym c.is_weight.ensures ∙ not-false c.is_weight.result (ap not c.if-not-is_weight.false))
     c.get-3.result c.get-4.result c.get-5.result c.get-3.ensures c.get-4.ensures c.get-5.ensures))

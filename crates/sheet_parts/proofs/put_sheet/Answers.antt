@@ -6,9 +6,8 @@ pub returns-in-Refused : goal.returns-in-Refused
 returns-in-Refused c = absurd (never _ _ _ c.requires.0 c.requires.1 _ _ c.write.ensures _ c.enum_told-1.given.1)
 
 pub returns-in-Bytes : goal.returns-in-Bytes
-returns-in-Bytes c =
-    (
-      file_stored _ _ _ c.requires.0 c.requires.1 _ _ c.write.ensures _ c.n-1.given.1,
-      file_short _ _ _ c.requires.0 c.requires.1 _ _
-          c.write.ensures _ c.n-1.given.1,
-    )
+returns-in-Bytes c = (
+  file_stored _ _ _ c.requires.0 c.requires.1 _ _ c.write.ensures _ c.n-1.given.1,
+  file_short _ _ _ c.requires.0 c.requires.1 _ _
+      c.write.ensures _ c.n-1.given.1,
+)

@@ -22,13 +22,12 @@ put_tile-q-requires c =
     (omega (arith, c.loop-i.invariant.1, c.requires.1))
 
 pub loop-i-preserved : goal.loop-i-preserved
-loop-i-preserved c =
-    (
-      omega arith,
-      c.put_tile-q.auto.samples ∙ c.loop-i.invariant.1,
-      samples-more _ _ _ _ _ _ _ _ _ c.loop-i.invariant.2
-          (rw c.counts_part-part.ensures at c.put_tile-q.ensures),
-    )
+loop-i-preserved c = (
+  omega arith,
+  c.put_tile-q.auto.samples ∙ c.loop-i.invariant.1,
+  samples-more _ _ _ _ _ _ _ _ _ c.loop-i.invariant.2
+      (rw c.counts_part-part.ensures at c.put_tile-q.ensures),
+)
 
 pub returns : goal.returns
 returns c = let e : c.loop-i.i ≡ c.args.t = omega arith in rw e at c.loop-i.invariant.2

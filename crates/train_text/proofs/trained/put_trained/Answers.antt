@@ -16,23 +16,21 @@ pub shape_of-out-then-number-ne0 : goal.shape_of-out-then-number-ne0
 shape_of-out-then-number-ne0 c = c.put_refused.auto.out
 
 pub returns-then-number-ne0 : goal.returns-then-number-ne0
-returns-then-number-ne0 c =
-    (
-      refused-text _ _ c.requires.0 _ c.count_samples-n.ensures _ _ _ _ c.refusal-number.ensures c.if-number-ne0.true
-          c.put_refused.ensures,
-      omega (arith, c.put_refused.ensures.place, refused-most c.refusal-number.result),
-    )
+returns-then-number-ne0 c = (
+  refused-text _ _ c.requires.0 _ c.count_samples-n.ensures _ _ _ _ c.refusal-number.ensures c.if-number-ne0.true
+      c.put_refused.ensures,
+  omega (arith, c.put_refused.ensures.place, refused-most c.refusal-number.result),
+)
 
 pub samples_room-samples-requires : goal.samples_room-samples-requires
 samples_room-samples-requires c = tt
 
 pub put_samples-m-requires : goal.put_samples-m-requires
-put_samples-m-requires c =
-    (
-      countable _ _ c.requires.0.passed,
-      place_for-all _ _ c.requires.0 _ c.count_samples-n.ensures _ c.refusal-number.ensures c.if-number-ne0.false
-          c.samples_room-samples.result c.samples_room-samples.ensures,
-    )
+put_samples-m-requires c = (
+  countable _ _ c.requires.0.passed,
+  place_for-all _ _ c.requires.0 _ c.count_samples-n.ensures _ c.refusal-number.ensures c.if-number-ne0.false
+      c.samples_room-samples.result c.samples_room-samples.ensures,
+)
 
 pub slice_bounds-samples-end : goal.slice_bounds-samples-end
 slice_bounds-samples-end c =
@@ -61,12 +59,11 @@ train_palette-requires c =
     c.samples_room-samples.ensures _ c.put_samples-m.ensures
 
 pub put_sheet-requires : goal.put_sheet-requires
-put_sheet-requires c =
-    (
-      trained-writable _ _ c.requires.0 _ c.count_samples-n.ensures _ c.refusal-number.ensures c.if-number-ne0.false _ _
-          c.samples_room-samples.ensures _ c.put_samples-m.ensures _ c.train_palette.ensures,
-      c.requires.1,
-    )
+put_sheet-requires c = (
+  trained-writable _ _ c.requires.0 _ c.count_samples-n.ensures _ c.refusal-number.ensures c.if-number-ne0.false _ _
+      c.samples_room-samples.ensures _ c.put_samples-m.ensures _ c.train_palette.ensures,
+  c.requires.1,
+)
 
 pub shape_of-palette : goal.shape_of-palette
 shape_of-palette c = c.train_palette.auto.palette
@@ -75,10 +72,9 @@ pub shape_of-out : goal.shape_of-out
 shape_of-out c = c.put_sheet.auto.out
 
 pub returns : goal.returns
-returns c =
-    (
-      trained-text _ _ c.requires.0 _ c.count_samples-n.ensures _ c.refusal-number.ensures c.if-number-ne0.false _ _
-          c.samples_room-samples.ensures _ c.put_samples-m.ensures _ c.train_palette.ensures _ _ _
-          c.put_sheet.ensures.0,
-      c.put_sheet.ensures.1,
-    )
+returns c = (
+  trained-text _ _ c.requires.0 _ c.count_samples-n.ensures _ c.refusal-number.ensures c.if-number-ne0.false _ _
+      c.samples_room-samples.ensures _ c.put_samples-m.ensures _ c.train_palette.ensures _ _ _
+      c.put_sheet.ensures.0,
+  c.put_sheet.ensures.1,
+)
