@@ -1,10 +1,9 @@
 -- `palette_distance::distance_within` meets its contract. The loops' invariant: the sum is that over the first 4·j colours, then over the first k,
 -- and it is not over the limit. Assumes nothing.
-use Prim.Native.Nat.{◌+◌, ◌*◌, ◌-◌}
-use mathlib.Core.Path.{refl, ap, sym, subst, ◌∙◌}
-use mathlib.Core.Bool.{false}
+use Prim.Native.Nat.{◌+◌, ◌*◌}
+use mathlib.Core.Path.{refl, ap, ◌∙◌}
 use native.Mathlib.Omega.{arith}
-use lib.Dec.{T}
+use Rattle.ieee.proofs.Order.{of_true}
 use Rattle.palette.specs.Palette.{total_of}
 use Rattle.palette_distance.proofs.Walks.{total-step, quartet_step, none_over, over_already, not-over}
 use Rattle.palette_distance.proofs.distance_within.Goals as goal
@@ -19,7 +18,7 @@ quartet_at-requires c = (c.requires.tile, omega arith)
 pub returns-then-sum-limit : goal.returns-then-sum-limit
 returns-then-sum-limit c =
     let v = c.loop-j in
-    over_already _ _ _ _ c.pre (subst T (sym c.good.1.1.1.1.0.1) tt) (4 * (v.j + 1)) (omega arith) _
+    over_already _ _ _ _ c.requires (of_true c.well_formed.1.1.1.1.0.1) (4 * (v.j + 1)) (omega arith) _
     (quartet_step _ _ _ _ _ (omega arith) _ c.quartet_at.ensures _ _ v.invariant.1.0 c.add_quartet-sum.ensures) c.if-sum-limit.true
 
 pub loop-j-preserved : goal.loop-j-preserved
@@ -31,12 +30,12 @@ pub loop-k-init : goal.loop-k-init
 loop-k-init c = (omega arith, (c.loop-j.invariant.1.0 ∙ ap (total_of _ _ _) (omega arith), c.loop-j.invariant.1.1))
 
 pub term-sum-requires : goal.term-sum-requires
-term-sum-requires c = let pre = c.pre in (record { sub = pre.sub; tile = pre.tile; weight = pre.weight }, omega arith)
+term-sum-requires c = let pre = c.requires in (record { sub = pre.sub; tile = pre.tile; weight = pre.weight }, omega arith)
 
 pub returns-then-sum-limit-2 : goal.returns-then-sum-limit-2
 returns-then-sum-limit-2 c =
     let v = c.loop-k in
-    over_already _ _ _ _ c.pre (subst T (sym c.good.1.1.1.1.0.1) tt) (v.k + 1) (omega arith) _
+    over_already _ _ _ _ c.requires (of_true c.well_formed.1.1.1.1.0.1) (v.k + 1) (omega arith) _
     (total-step _ _ _ _ _ _ v.invariant.1.0 c.term-sum.ensures) c.if-sum-limit-2.true
 
 pub loop-k-preserved : goal.loop-k-preserved

@@ -1,5 +1,4 @@
 -- `palette_distance::tile_distance` meets its contract. The loops' invariant: the sum is that over the first 4·j colours, then over the first k. Assumes nothing.
-use Prim.Native.Nat.{◌-◌}
 use mathlib.Core.Path.{refl, ap, ◌∙◌}
 use native.Mathlib.Omega.{arith}
 use Rattle.palette.specs.Palette.{total_of}

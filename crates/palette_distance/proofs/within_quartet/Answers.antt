@@ -1,6 +1,6 @@
 -- `palette_distance::within_quartet` meets its contract: each way out is a case of its definition, for distances that are those of the
 -- four colours. Assumes nothing.
-use mathlib.Core.Path.{◌≡◌, sym, ap, ◌∙◌}
+use mathlib.Core.Path.{sym, ap, ◌∙◌}
 use mathlib.Core.Bool.{Bool}
 use Rattle.palette_distance.specs.declared.Within.TheVariants.{Over, Sum}
 use Rattle.palette_distance.specs.Distance.{pick_within, four_within, with_four}
@@ -22,34 +22,21 @@ returns-then-two-limit c =
 pub returns-then-three-limit : goal.returns-then-three-limit
 returns-then-three-limit c =
     let a = c.args in
-    over-at-three a.four.counts a.sum a.limit a.tie c.nearest_four-d.result c.if-one-limit.left c.if-two-limit.false c.if-three-limit.true
+    over-at-three a.four.counts a.sum a.limit a.tie c.nearest_four-d.result c.if-one-limit.false c.if-two-limit.false c.if-three-limit.true
     ∙ ap (four_within a.four.counts a.sum a.limit a.tie) c.nearest_four-d.ensures
-
--- what the last test says of the sum over all four
--- ?? tie
-last : (told : tie.After-loses) → let three = told in
-    let found = first (second three) in
-    let a = found.args in
-    pick_within told.loses.result Over (Sum (with_four a.four.counts a.sum found.nearest-four.result))
-    ≡ four_within a.four.counts a.sum a.limit a.tie found.nearest-four.result
-last told =
-    let three = told in
-    let two = three in
-    let one = two in
-    let found = one in
-    let a = found.args in
-    at-four a.four.counts a.sum a.limit a.tie found.nearest-four.result one.if1.left two.if2.left three.if3.false told.loses.result told.loses.ensures
 
 pub returns-then-loses : goal.returns-then-loses
 returns-then-loses c =
-    let found = first (second c) in
-    let a = found.args in
-    sym (ap (λ (t : Bool). pick_within t Over (Sum (with_four a.four.counts a.sum found.nearest-four.result))) c.if-loses.true) ∙ last c
-    ∙ ap (four_within a.four.counts a.sum a.limit a.tie) found.nearest-four.ensures
+    let a = c.args in
+    let d = c.nearest_four-d.result in
+    sym (ap (λ (t : Bool). pick_within t Over (Sum (with_four a.four.counts a.sum d))) c.if-loses.true)
+    ∙ at-four a.four.counts a.sum a.limit a.tie d c.if-one-limit.false c.if-two-limit.false c.if-three-limit.false c.loses.result c.loses.ensures
+    ∙ ap (four_within a.four.counts a.sum a.limit a.tie) c.nearest_four-d.ensures
 
 pub returns : goal.returns
 returns c =
-    let found = first (second c) in
-    let a = found.args in
-    sym (ap (λ (t : Bool). pick_within t Over (Sum (with_four a.four.counts a.sum found.nearest-four.result))) c.if-loses.false) ∙ last c
-    ∙ ap (four_within a.four.counts a.sum a.limit a.tie) found.nearest-four.ensures
+    let a = c.args in
+    let d = c.nearest_four-d.result in
+    sym (ap (λ (t : Bool). pick_within t Over (Sum (with_four a.four.counts a.sum d))) c.if-loses.false)
+    ∙ at-four a.four.counts a.sum a.limit a.tie d c.if-one-limit.false c.if-two-limit.false c.if-three-limit.false c.loses.result c.loses.ensures
+    ∙ ap (four_within a.four.counts a.sum a.limit a.tie) c.nearest_four-d.ensures

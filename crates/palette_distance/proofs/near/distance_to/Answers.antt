@@ -1,16 +1,18 @@
 -- `palette_distance::distance_to` meets its contract. The loop's invariant: `least` is the least of the first i gaps. Assumes nothing.
-use Prim.Native.Nat.{◌-◌}
-use mathlib.Core.Logic.{⊎_elim}
 use native.Mathlib.Omega.{arith}
 use lib.Ieee.{of_bits, div}
 use Rattle.stats.specs.Stats.{least_of}
-use Rattle.palette.specs.Palette.{gap}
 use Rattle.palette_distance.proofs.Lanes.{after_lanes, before_any, least_step, least_end}
 use Rattle.palette_distance.proofs.near.distance_to.Goals as goal
+use Rattle.palette_distance.proofs.near.distance_to.Goals.{then-s-ge12, else-s-ge12}
 
 pub loop-i-init : goal.loop-i-init
 unfolding least_of of_bits div
-loop-i-init c = ⊎_elim (λ lanes. after_lanes _ _ _ _ _ lanes.1.ensures lanes.2 lanes.3) (λ few. before_any _ _ _ _ few.1 few.2) c.if-s-ge12.branch
+loop-i-init c =
+    elim c.if-s-ge12.branch [
+      | then-s-ge12 w ↦ after_lanes _ _ _ _ _ w.least_by_fours-least.ensures w.least-is w.i-is
+      | else-s-ge12 w ↦ before_any _ _ _ _ w.least-is w.i-is
+    ]
 
 pub loop-i-preserved : goal.loop-i-preserved
 loop-i-preserved c = (omega arith, least_step _ _ _ _ _ _ _ c.loop-i.invariant.1 c.gap.ensures c.lesser-least.ensures)

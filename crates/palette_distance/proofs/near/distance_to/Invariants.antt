@@ -1,7 +1,6 @@
 -- `palette_distance::distance_to` meets its contract. The loop's invariant: `least` is the least of the first i gaps. Assumes nothing.
 use Prim.Native.Nat.{◌≤◌, ◌-◌}
 use mathlib.Core.Path.{◌≡◌}
-use mathlib.Core.Logic.{⊎_elim}
 use Rattle.stats.specs.Stats.{least_of}
 use Rattle.palette.specs.Palette.{gap}
 use Rattle.palette_distance.proofs.near.distance_to.Given as goal

@@ -1,10 +1,8 @@
 -- `palette_distance::least_by_fours` meets its contract. The loop's invariant: the least of the four lanes is that of the first 4·k gaps.
 -- Assumes nothing.
-use Prim.Native.Nat.{◌-◌}
 use native.Mathlib.Omega.{arith}
 use lib.Ieee.{of_bits, div}
 use Rattle.stats.proofs.Lesser.{lanes_start, lanes_end}
-use Rattle.palette.specs.Palette.{gap}
 use Rattle.palette_distance.proofs.Lanes.{fours_step, least_end}
 use Rattle.palette_distance.proofs.near.least_by_fours.Goals as goal
 

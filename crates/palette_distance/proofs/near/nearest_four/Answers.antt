@@ -1,5 +1,4 @@
 -- `palette_distance::nearest_four` meets its contract. The loop's invariant: each lane is the least of its colour's first i gaps. Assumes nothing.
-use Prim.Native.Nat.{◌-◌}
 use mathlib.Core.Path.{refl}
 use native.Mathlib.Omega.{arith}
 use lib.Ieee.{of_bits, div}
