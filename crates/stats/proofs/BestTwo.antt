@@ -44,6 +44,7 @@ next-step b n x i j = by (lt x b.dist) (lt x b.second)
 
 scan_next-below : (d : ℕ → Float) (n : ℕ) → 1 ≤ n → (scan_two d n).next < n
 unfolding scan_two
+scan_next-below d zero h = elim h [ ]
 scan_next-below d (suc zero) h = next-step (scan_two d 0) 0 (d 0) (omega arith) (omega arith)
 scan_next-below d (suc (suc m)) h = next-step (scan_two d (suc m)) (suc m) (d (suc m)) (omega (arith, scan_below d (suc m) (omega arith))) (omega (arith, scan_next-below d (suc m) (omega arith)))
 

@@ -19,17 +19,13 @@ unit-small m j r h g l e = (omega arith, (subst (λ (x : ℕ). 0 < x) (sym e) (p
 pub half_even-requires : goal.half_even-requires
 half_even-requires c = unit-small c.args.m c.args.j c.power_of_two.result c.requires.0 (omega arith) (omega arith) c.power_of_two.ensures
 
--- ?? tie
-kept : (c : tie.After-half-even) → c.half_even.result ≡ closest c.args.m (2 ^ (925 - c.args.j))
-kept c = c.half_even.ensures ∙ ap (closest _) c.power_of_two.ensures
-
 pub overflow_cast-result : goal.overflow_cast-result
 overflow_cast-result c =
     let h = low-le c.args.m c.args.j c.requires.0 (omega arith) in
-    omega (arith, kept c)
+    omega (arith, c.half_even.ensures ∙ ap (closest _) c.power_of_two.ensures)
 
 pub returns-then-j-lt896 : goal.returns-then-j-lt896
-returns-then-j-lt896 c = rounds-low _ _ _ c.requires.0 (omega arith) (omega arith) (kept c)
+returns-then-j-lt896 c = rounds-low _ _ _ c.requires.0 (omega arith) (omega arith) (c.half_even.ensures ∙ ap (closest _) c.power_of_two.ensures)
 
 pub overflow_add-n : goal.overflow_add-n
 overflow_add-n c = omega (arith, high_le c.args.m c.requires.0, c.half_even-2.ensures)

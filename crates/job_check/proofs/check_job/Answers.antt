@@ -18,18 +18,15 @@ pub returns-then-b-ne0 : goal.returns-then-b-ne0
 returns-then-b-ne0 c = plain-tables _ _ _ _ c.check_form-a.ensures c.if-a-ne0.false _ c.check_tables-b.ensures c.if-b-ne0.true
 
 -- the sizes are in their ranges by then
--- ?? tie
-few-cells : (c : tie.After-struct-known3) →
-    let a = c.args in a.z.s * a.z.c ≤ 256
-few-cells c =
-    let a = c.args in let J = job_of a.z a.tiles.now a.colours.now a.counts.now in
-    form_cells J a.room _ c.if-a-ne0.false (length a.palette.now) c.check_form-a.ensures
-
 pub overflow_mul-z : goal.overflow_mul-z
-overflow_mul-z c = omega (arith, few-cells c)
+overflow_mul-z c =
+    let a = c.args in let J = job_of a.z a.tiles.now a.colours.now a.counts.now in
+    omega (arith, form_cells J a.room _ c.if-a-ne0.false (length a.palette.now) c.check_form-a.ensures)
 
 pub check_bounds-requires : goal.check_bounds-requires
-check_bounds-requires c = few-cells c
+check_bounds-requires c =
+    let a = c.args in let J = job_of a.z a.tiles.now a.colours.now a.counts.now in
+    form_cells J a.room _ c.if-a-ne0.false (length a.palette.now) c.check_form-a.ensures
 
 pub returns : goal.returns
 returns c = plain_bounds _ _ _ _ c.check_form-a.ensures c.if-a-ne0.false _ c.check_tables-b.ensures c.if-b-ne0.false _ c.check_bounds.ensures

@@ -2,6 +2,7 @@
 use mathlib.Core.Path.{sym}
 use mathlib.Core.Logic.{⊎_elim}
 use borrow.Author.Rules.{rules}
+use borrow.Author.Tests.{le-ltb}
 use Rattle.stats.proofs.Steps.{other_apart, other-few, other_named}
 use Rattle.stats.proofs.with_other.Goals as goal
 
@@ -11,4 +12,4 @@ returns-then-n-gt1 c = let a = c.args in sym (other_named a.n a.b (search rules)
 pub returns : goal.returns
 returns c =
     let a = c.args in
-    sym (⊎_elim (λ y. other-few a.n a.b y.1.left) (λ y. other_apart a.n a.b y.left) c.if-b.branch)
+    sym (⊎_elim (λ y. other-few a.n a.b (le-ltb 1 a.n y.1)) (λ y. other_apart a.n a.b y) c.else-b.either)

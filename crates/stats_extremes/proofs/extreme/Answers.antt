@@ -2,13 +2,13 @@
 use Prim.Native.Nat.{◌-◌}
 use mathlib.Core.Path.{◌≡◌, refl, ap, ◌∙◌}
 use mathlib.Core.Bool.{true, false}
-use mathlib.Core.Logic.{⊎_elim}
 use native.Mathlib.Omega.{arith}
 use lib.ListN.{length}
 use Rattle.stats.specs.Stats.{value_at}
 use Rattle.stats_extremes.proofs.Choices.{chosen, none}
 use Rattle.stats_extremes.proofs.Turns.{turn}
 use Rattle.stats_extremes.proofs.extreme.Goals as goal
+use Rattle.stats_extremes.proofs.extreme.Goals.{then-rises-greatest, else-rises-greatest}
 
 pub loop-i-init : goal.loop-i-init
 loop-i-init c = (omega arith, omega arith, none _ _)
@@ -23,10 +23,10 @@ pub loop-i-preserved : goal.loop-i-preserved
 loop-i-preserved c =
     let fit = c.type_inv.values in
     let step = turn _ _ fit _ c.requires _ _ (omega arith) (omega arith) _ _ c.total_key.ensures c.total_key-in-loop-i.ensures c.loop-i.invariant.2 in
-    ⊎_elim
-    (λ v. (omega arith, omega (arith, v.1), v.1 ∙ step true v.0.taken))
-    (λ v. (omega arith, omega (arith, v.1), v.1 ∙ step false v.0.left))
-    c.if-rises-greatest.branch
+    elim c.if-rises-greatest.branch [
+      | then-rises-greatest w ↦ (omega arith, omega (arith, w.best-is), w.best-is ∙ step true w.if-rises-greatest.true)
+      | else-rises-greatest w ↦ (omega arith, omega (arith, w.best-is), w.best-is ∙ step false w.if-rises-greatest.false)
+    ]
 
 pub returns : goal.returns
 returns c =
