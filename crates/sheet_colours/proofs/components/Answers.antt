@@ -1,6 +1,6 @@
 -- `components` meets its contract. The loop's invariant: what is left to read, behind the components so far, gives the whole answer.
 -- Assumes nothing.
-use Prim.Native.Nat.{◌-◌, ◌+◌}
+use Prim.Native.Nat.{◌+◌}
 use mathlib.Core.Path.{refl, sym, ◌∙◌}
 use mathlib.Core.Bool.{true, false}
 use native.Mathlib.Omega.{arith}
