@@ -1,5 +1,4 @@
 -- `one_tile` meets its contract, by each answer to the number of colours. Assumes nothing.
-use Prim.Native.Nat.{◌-◌}
 use mathlib.Core.Path.{sym, ◌∙◌}
 use native.Mathlib.Omega.{arith}
 use Rattle.sheet_tiles.proofs.Tiles.{tile-short, tile-many, tile-read}
