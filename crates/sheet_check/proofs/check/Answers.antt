@@ -5,68 +5,70 @@ use mathlib.Core.Bool.{true, false}
 use native.Mathlib.Omega.{arith}
 use Rattle.sheet_colours.proofs.Turns.{step-fault}
 use Rattle.sheet_check.specs.declared.Checked.TheVariants.{Refused}
-use Rattle.sheet_check.proofs.Whole.{Headed, headed_of, Parted, parted_of, read-long, read_head, read-rest, read_end}
+use Rattle.sheet_check.proofs.Whole.{headed_of, parted_of, read-long, read_head, read-rest, read_end}
 use Rattle.sheet_check.proofs.check.Goals as goal
 
 pub returns-then-s-gt65536 : goal.returns-then-s-gt65536
 returns-then-s-gt65536 c = read-long c.args.e c.args.s.now c.if-s-gt65536.true
 
--- the head that was read
--- ?? tie
-headed : (c : tie.After-known-told2) →
-    let found = c.subs-1.given.0 in
-    let a = c.args in
-    Headed a.e a.s.now found.0 found.1.0 found.1.1.0 found.1.1.1.0
-headed c =
-    let found = c.subs-1.given in
-    headed_of _ _ found.0.0 found.0.1.0 found.0.1.1.0 found.0.1.1.1.0 (sym found.1 ∙ c.head.ensures)
-
--- and the palette and the tiles behind it
--- ?? tie
-parted : (c : tie.After-known-told4) →
-    let found = c.subs-1.given.0 in let a = c.args in
-    Parted a.e a.s.now (3 * (found.0 * found.1.0)) found.1.1.0 c.z-1.given.0.0
-parted c =
-    let z = c.z-1.given in
-    let found = c.subs-1.given.0 in
-    parted_of _ _ (3 * (found.0 * found.1.0)) found.1.1.0 z.0.0 z.0.1.0 (headed c).long
-    (sym z.1 ∙ c.palette_then_tiles.ensures)
-
+-- the head that was read sizes the palette
 pub overflow_mul-n : goal.overflow_mul-n
-overflow_mul-n c = omega (arith, (headed c).cells)
+overflow_mul-n c =
+    let a = c.args in let x = c.in-Sound in
+    let h = headed_of a.e a.s.now x.subs x.each x.tiles x.weight x.ensures in
+    omega (arith, h.cells)
 
 pub overflow_mul-n-in-Sound : goal.overflow_mul-n-in-Sound
-overflow_mul-n-in-Sound c = omega (arith, (headed c).cells)
+overflow_mul-n-in-Sound c =
+    let a = c.args in let x = c.in-Sound in
+    let h = headed_of a.e a.s.now x.subs x.each x.tiles x.weight x.ensures in
+    omega (arith, h.cells)
 
 pub overflow_cast-n : goal.overflow_cast-n
-overflow_cast-n c = omega (arith, (headed c).cells)
+overflow_cast-n c =
+    let a = c.args in let x = c.in-Sound in
+    let h = headed_of a.e a.s.now x.subs x.each x.tiles x.weight x.ensures in
+    omega (arith, h.cells)
 
 pub palette_then_tiles-requires : goal.palette_then_tiles-requires
-palette_then_tiles-requires c = (c.requires, omega arith, (headed c).long)
+palette_then_tiles-requires c =
+    let a = c.args in let x = c.in-Sound in
+    let h = headed_of a.e a.s.now x.subs x.each x.tiles x.weight x.ensures in
+    (c.requires, omega arith, h.long)
 
+-- and the palette and the tiles stand behind it
 pub only_spare-requires : goal.only_spare-requires
-only_spare-requires c = (omega arith, (parted c).reach)
+only_spare-requires c =
+    let a = c.args in let x = c.in-Sound in
+    let h = headed_of a.e a.s.now x.subs x.each x.tiles x.weight x.ensures in
+    let z = c.in-At in
+    let parts = parted_of a.e a.s.now (3 * (x.subs * x.each)) x.tiles z.z z.field-1 h.long z.ensures in
+    (omega arith, parts.reach)
 
 pub returns-in-Refused : goal.returns-in-Refused
-returns-in-Refused c = read_head c.args.e c.args.s.now (omega arith) c.refusal-1.given.0.0 (sym c.refusal-1.given.1 ∙ c.head.ensures)
+returns-in-Refused c = read_head c.args.e c.args.s.now (omega arith) c.in-Refused.refusal c.in-Refused.ensures
 
 pub returns-in-Fault : goal.returns-in-Fault
 returns-in-Fault c =
-    let a = c.args in
-    let found = c.f-1.given in
+    let a = c.args in let x = c.in-Sound in
+    let h = headed_of a.e a.s.now x.subs x.each x.tiles x.weight x.ensures in
     ap Refused c.fault_of.ensures
-    ∙ read-rest a.e a.s.now (omega arith) c.subs-1.given.0.0 c.subs-1.given.0.1.0 c.subs-1.given.0.1.1.0
-    c.subs-1.given.0.1.1.1.0 _ (headed c).reads found.0.0 found.0.1.0
-    (step-fault _ _ _ _ _ (sym found.1 ∙ c.palette_then_tiles.ensures))
+    ∙ read-rest a.e a.s.now (omega arith) x.subs x.each x.tiles x.weight _ h.reads c.in-Fault.f c.in-Fault.k (step-fault _ _ _ _ _ c.in-Fault.ensures)
 
 pub returns-then-only_spare : goal.returns-then-only_spare
 returns-then-only_spare c =
-    read_end c.args.e c.args.s.now (omega arith) c.subs-1.given.0.0 c.subs-1.given.0.1.0 c.subs-1.given.0.1.1.0
-    c.subs-1.given.0.1.1.1.0 _ (headed c).reads (parted c).parts _ true (parted c).reads
+    let a = c.args in let x = c.in-Sound in
+    let h = headed_of a.e a.s.now x.subs x.each x.tiles x.weight x.ensures in
+    let z = c.in-At in
+    let parts = parted_of a.e a.s.now (3 * (x.subs * x.each)) x.tiles z.z z.field-1 h.long z.ensures in
+    read_end a.e a.s.now (omega arith) x.subs x.each x.tiles x.weight _ h.reads parts.parts _ true parts.reads
     (sym c.only_spare.ensures ∙ c.if-only_spare.true)
 
 pub returns-else-only_spare : goal.returns-else-only_spare
 returns-else-only_spare c =
-    read_end c.args.e c.args.s.now (omega arith) c.subs-1.given.0.0 c.subs-1.given.0.1.0 c.subs-1.given.0.1.1.0
-    c.subs-1.given.0.1.1.1.0 _ (headed c).reads (parted c).parts _ false (parted c).reads
+    let a = c.args in let x = c.in-Sound in
+    let h = headed_of a.e a.s.now x.subs x.each x.tiles x.weight x.ensures in
+    let z = c.in-At in
+    let parts = parted_of a.e a.s.now (3 * (x.subs * x.each)) x.tiles z.z z.field-1 h.long z.ensures in
+    read_end a.e a.s.now (omega arith) x.subs x.each x.tiles x.weight _ h.reads parts.parts _ false parts.reads
     (sym c.only_spare.ensures ∙ c.if-only_spare.false)

@@ -1,5 +1,4 @@
 -- `only_spare` meets its contract: bits are clear where they spell 0. Assumes nothing.
-use Prim.Native.Nat.{◌-◌}
 use native.Mathlib.Omega.{arith}
 use Rattle.sheet_check.proofs.Spare.{spare_some, spare_bytes}
 use Rattle.sheet_check.proofs.only_spare.Goals as goal
