@@ -1,7 +1,7 @@
 -- `palette_fit::best_from` meets its contract. The outer invariant: `best` leads among the hint and the subpalettes before i.
 -- The inner ones: the sum is that over the first 4·j colours, then over the first k, and it has not lost yet; the four ahead are the
--- tile's, where it has four more. That a tile's size is below 2^64 is carried along. Assumes nothing.
-use Prim.Native.Nat.{◌+◌, ◌*◌, ◌≤◌, ◌<◌, ◌-◌}
+-- tile's, where it has four more. Assumes nothing.
+use Prim.Native.Nat.{◌+◌, ◌*◌, ◌≤◌, ◌<◌}
 use mathlib.Core.Path.{◌≡◌}
 use mathlib.Core.Bool.{false}
 use Rattle.ieee.specs.Terms.{over}
@@ -11,22 +11,17 @@ use Rattle.palette_distance.specs.Distance.{quartet_of}
 use Rattle.palette_fit.proofs.best_from.Given as goal
 
 abbrev pub invariant-loop-j : goal.invariant-loop-j
-invariant-loop-j l =
-    (l.i ≡ l.initial.i)
-    × (((l.j ≤ l.fours) × (l.size < 18446744073709551616))
-    × ((l.sum ≡ total_of l.sub (tile_with l.tile l.counts) l.w (4 * l.j)) × ((0 < l.j → over l.sum l.least l.later ≡ false) × (4 * l.j + 4 ≤ l.size → l.ahead ≡ quartet_of (tile_with l.tile l.counts) (4 * l.j)))))
-
-abbrev pub decreases-loop-j : goal.decreases-loop-j
-decreases-loop-j l = l.fours - l.j
+invariant-loop-j l = record {
+  total : l.sum ≡ total_of l.sub (tile_with l.tile l.counts) l.w (4 * l.j);
+  unlost : 0 < l.j → over l.sum l.least l.later ≡ false;
+  next : 4 * l.j + 4 ≤ l.size → l.ahead ≡ quartet_of (tile_with l.tile l.counts) (4 * l.j);
+}
 
 abbrev pub invariant-loop-k : goal.invariant-loop-k
-invariant-loop-k l = (l.i ≡ l.initial.i) × (((l.k ≤ l.size) × (l.size < 18446744073709551616)) × ((l.sum ≡ total_of l.sub (tile_with l.tile l.counts) l.w l.k) × (0 < l.k → over l.sum l.least l.later ≡ false)))
-
-abbrev pub decreases-loop-k : goal.decreases-loop-k
-decreases-loop-k l = l.size - l.k
+invariant-loop-k l = record {
+  total : l.sum ≡ total_of l.sub (tile_with l.tile l.counts) l.w l.k;
+  unlost : 0 < l.k → over l.sum l.least l.later ≡ false;
+}
 
 abbrev pub invariant-subs : goal.invariant-subs
-invariant-subs l = ((l.i ≤ l.n) × (l.size < 18446744073709551616)) × Leading (dist_at (palette_with l.pal l.c l.have l.n) (tile_with l.tile l.counts) l.w) l.n l.hint l.i (record { index = l.best; dist = l.least })
-
-abbrev pub decreases-subs : goal.decreases-subs
-decreases-subs l = l.n - l.i
+invariant-subs l = Leading (dist_at (palette_with l.pal l.c l.have l.n) (tile_with l.tile l.counts) l.w) l.n l.hint l.i (record { index = l.best; dist = l.least })
