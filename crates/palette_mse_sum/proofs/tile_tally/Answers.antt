@@ -1,5 +1,4 @@
 -- `palette_mse_sum::tile_tally` meets its contract. The loop's invariant: the sum and the count are those with the first k colours. Assumes nothing.
-use Prim.Native.Nat.{◌-◌}
 use mathlib.Core.Path.{refl, ap, ◌∙◌}
 use native.Mathlib.Omega.{arith}
 use Rattle.palette_mse.specs.Mse.{tile_tally}

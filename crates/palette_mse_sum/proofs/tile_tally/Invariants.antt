@@ -7,7 +7,7 @@ use Rattle.palette_mse.specs.Mse.{tile_tally}
 use Rattle.palette_mse_sum.proofs.tile_tally.Given as goal
 
 abbrev pub invariant-loop-k : goal.invariant-loop-k
-invariant-loop-k l = (l.k ≤ l.n) × ((l.count ≤ l.initial.count + most_tile_size * l.k) × (record { l.total = l.total; l.count = l.count } ≡ tile_tally l.s (tile_with l.tile l.counts) l.w (record { l.total = l.initial.total; l.count = l.initial.count }) l.k))
+invariant-loop-k l = (l.k ≤ l.n) × ((l.count ≤ l.initial.count + most_tile_size * l.k) × (record { total = l.total; count = l.count } ≡ tile_tally l.s (tile_with l.tile l.counts) l.w (record { total = l.initial.total; count = l.initial.count }) l.k))
 
 abbrev pub decreases-loop-k : goal.decreases-loop-k
 decreases-loop-k l = l.n - l.k

@@ -1,6 +1,5 @@
 -- `palette_two_fit::best_two_from` meets its contract. The loop's invariant: b is where the walk from the hint stands before i. Assumes nothing.
-use Prim.Native.Nat.{◌-◌}
-use mathlib.Core.Path.{refl, sym, ◌∙◌}
+use mathlib.Core.Path.{refl}
 use native.Mathlib.Omega.{arith}
 use lib.Ieee.{of_bits, div}
 use Rattle.palette.proofs.Parts.{part_asks, sub_measured}
@@ -30,7 +29,7 @@ pub loop-i-preserved-in_default : goal.loop-i-preserved-in_default
 loop-i-preserved-in_default c = (
   omega arith,
   turn-over _ _ _ c.requires.0 _ c.requires.1 (omega (arith, c.ranges.n)) c.loop-i.i _ c.loop-i.invariant.1 (omega arith) _
-      c.part-sub.ensures (sym c.enum_told-1.given.1 ∙ c.distance_within.ensures),
+      c.part-sub.ensures c.in_default.ensures,
 )
 
 pub loop-i-preserved : goal.loop-i-preserved
@@ -39,7 +38,7 @@ loop-i-preserved c = (
   turn-weighs _ _ _ c.requires.0 _ c.requires.1 (omega (arith, c.ranges.n))
       c.loop-i.i _ c.loop-i.invariant.1 (omega (arith, c.loop-i-test)) _
       c.part-sub.ensures c.if-i-hint.false _ _
-      (sym c.d-1.given.1 ∙ c.distance_within.ensures) c.weigh-b.ensures,
+      c.in-Sum.ensures c.weigh-b.ensures,
 )
 
 pub returns : goal.returns
