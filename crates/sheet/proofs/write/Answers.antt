@@ -1,7 +1,11 @@
 -- `write` meets its contract: the job's refusals first, then the size, then the room. Assumes nothing.
-use mathlib.Core.Path.{subst⁻¹}
+use Prim.Native.Nat.{ℕ}
+use mathlib.Core.Path.{◌≡◌, subst⁻¹}
 use native.Mathlib.Omega.{arith}
+use borrow.Author.Rules.{rules}
 use lib.ListN.{length}
+use Rattle.sheet_format.specs.declared.Edition.{Edition}
+use Rattle.sheet_format.specs.Sheet.{edition_of}
 use Rattle.sheet_format.specs.Proper.{Proper}
 use Rattle.sheet_format.proofs.Editions.{proper, tiles-most}
 use Rattle.sheet_room.proofs.Places.{placed}
@@ -12,20 +16,19 @@ pub returns-then-refusal-ne0 : goal.returns-then-refusal-ne0
 returns-then-refusal-ne0 c = job-refused _ _ c.args.dst.now _ c.check_job-refusal.ensures c.if-refusal-ne0.true
 
 -- the edition, as the code has it
--- ?? tie
-is-proper : (c : tie.After-edition-of) → Proper c.edition_of-e.result
-is-proper c = subst⁻¹ Proper c.edition_of-e.ensures (proper _)
+is-proper : {E : Edition} (size : ℕ) → E ≡ edition_of size → Proper E
+is-proper size e = subst⁻¹ Proper e (proper size)
 
 pub size_of-size-requires : goal.size_of-size-requires
 size_of-size-requires c =
     let R = (passed _ _ c.args.dst.now _ c.check_job-refusal.ensures c.if-refusal-ne0.false).ready in
-    (is-proper c, R.sizes.cells, R.sizes.tiles, R.total)
+    (is-proper _ c.edition_of-e.ensures, R.sizes.cells, R.sizes.tiles, R.total)
 
 pub bytes_for-n-requires : goal.bytes_for-n-requires
 bytes_for-n-requires c =
     let a = c.args in
     let R = (passed _ _ c.args.dst.now _ c.check_job-refusal.ensures c.if-refusal-ne0.false).ready in
-    let most = tiles-most c.edition_of-e.result (is-proper c) a.z.t (length a.counts.now) in
+    let most = tiles-most c.edition_of-e.result (is-proper _ c.edition_of-e.ensures) a.z.t (length a.counts.now) in
     omega (arith, c.size_of-size.ensures, most, R.sizes.cells, R.sizes.tiles, R.total)
 
 pub returns-then-fault-ne0 : goal.returns-then-fault-ne0
@@ -38,12 +41,12 @@ pub pack_sheet-requires : goal.pack_sheet-requires
 pack_sheet-requires c =
     let P = passed _ _ c.args.dst.now _ c.check_job-refusal.ensures c.if-refusal-ne0.false in
     let k = placed c.bytes_for-n.result _ c.place_for-fault.result c.place_for-fault.ensures c.if-fault-ne0.false in
-    (is-proper c, P.ready, P.lent, c.size_of-size.ensures, omega (arith, c.bytes_for-n.ensures), omega (arith, c.bytes_for-n.ensures))
+    (is-proper _ c.edition_of-e.ensures, P.ready, P.lent, c.size_of-size.ensures, omega (arith, c.bytes_for-n.ensures), omega (arith, c.bytes_for-n.ensures))
 
 pub returns : goal.returns
 returns c =
     let k = placed c.bytes_for-n.result _ c.place_for-fault.result c.place_for-fault.ensures c.if-fault-ne0.false in
     file_written _ _ c.args.dst.now _ c.check_job-refusal.ensures c.if-refusal-ne0.false _ c.edition_of-e.ensures c.size_of-size.result
     c.bytes_for-n.result c.size_of-size.ensures c.bytes_for-n.ensures _ k.0 k.1
-    (λ i. omega (arith, c.type_inv.dst i)) (λ i. omega (arith, c.type_inv.dst i))
+    (λ i. search rules) (λ i. search rules)
     c.pack_sheet.auto.dst c.pack_sheet.ensures
