@@ -29,9 +29,9 @@ use Rattle.contracts.specs.Group as grouping
 use Rattle.contracts.specs.Read as read
 use Rattle.contracts.specs.Write as write
 use Rattle.contracts.specs.Answers.{Tells}
-use Rattle.contracts.specs.Contracts.{FirstKept, FirstTold}
+use Rattle.contracts.specs.Calls.{FirstKept, FirstTold}
 use Rattle.contracts.proofs.Keeps.{keeps, answers, tells}
-use Rattle.contracts.proofs.Contracts.{contracts, exports}
+use Rattle.contracts.proofs.Calls.{contracts, exports}
 
 pub first-kept : FirstKept
 first-kept =

@@ -1,5 +1,5 @@
 pub mod Keeps
-pub mod Contracts
+pub mod Calls
 pub mod First
 pub mod Second
 pub mod Third

@@ -20,9 +20,9 @@ use Rattle.contracts.specs.Advance as advance
 use Rattle.contracts.specs.SingleFit as single_fit
 use Rattle.contracts.specs.BestTwo as best_two
 use Rattle.contracts.specs.Assign as assign
-use Rattle.contracts.specs.Contracts.{SecondKept}
+use Rattle.contracts.specs.Calls.{SecondKept}
 use Rattle.contracts.proofs.Keeps.{keeps}
-use Rattle.contracts.proofs.Contracts.{contracts}
+use Rattle.contracts.proofs.Calls.{contracts}
 
 -- a number that is 0 is an answer that is 0
 module _ (J : Job) (palette : List Float) where

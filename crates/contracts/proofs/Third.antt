@@ -12,9 +12,9 @@ use Rattle.dunkafeto.specs.Told.{told_advance}
 use Rattle.demands.proofs.First.{first_demand}
 use Rattle.demands.proofs.Third.{third_demand}
 use Rattle.contracts.specs.Advance as advance
-use Rattle.contracts.specs.Contracts.{Reported}
+use Rattle.contracts.specs.Calls.{Reported}
 use Rattle.contracts.proofs.Keeps.{keeps}
-use Rattle.contracts.proofs.Contracts.{contracts, exports}
+use Rattle.contracts.proofs.Calls.{contracts, exports}
 
 module _ (K : Course) (m : Memory) (a : ℕ) where
   drawn : get_or (advance_call K m a).after.words 4 0 ≡ get_or m.words 4 0 + (advance_call K m a).answer.draws

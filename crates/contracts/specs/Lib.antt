@@ -13,4 +13,4 @@ pub mod Read
 pub mod Write
 pub mod FitText
 pub mod TrainText
-pub mod Contracts
+pub mod Calls

@@ -16,7 +16,7 @@ use Rattle.dunkafeto.proofs.dunkafeto_result.Met as result-export
 use Rattle.dunkafeto.proofs.dunkafeto_assign.Met as assign-export
 use Rattle.fit_text.proofs.fit.Met as fit
 use Rattle.train_text.proofs.train.Met as train
-use Rattle.contracts.specs.Contracts.{Contracts, Exports, Texts}
+use Rattle.contracts.specs.Calls.{Contracts, Exports, Texts}
 
 pub contracts : Contracts
 contracts =
