@@ -1,20 +1,19 @@
 -- `quantizer_matches_two::for_each_match_two` meets its contract. The loops' invariant: the sums are those after the first 4·j colours, then
--- after the first k. The second loop knows what it began with, not what the function did: whatever sums those are after k₀ colours of,
--- its own are after k of the same. Assumes nothing.
+-- after the first k. Assumes nothing.
 use Prim.Native.Nat.{◌*◌, ◌≤◌, ◌-◌}
 use mathlib.Core.Path.{◌≡◌}
 use Rattle.palette.specs.Palette.{tile_with}
-use Rattle.quantizer.specs.Replacing.{Shares, shares, tile_shares}
+use Rattle.quantizer.specs.Replacing.{shares, tile_shares}
 use Rattle.quantizer_matches_two.proofs.for_each_match_two.Given as goal
 
 abbrev pub invariant-loop-j : goal.invariant-loop-j
-invariant-loop-j l = (l.j ≤ l.fours) × (shares l.total l.second ≡ tile_shares l.sub (tile_with l.tile l.counts) l.w l.base (shares l.initial.total l.initial.second) (4 * l.j))
+invariant-loop-j l = (l.j ≤ l.fours) × (shares l.total l.second ≡ tile_shares l.sub (tile_with l.tile l.counts) l.w l.base (shares l.fn.total l.fn.second) (4 * l.j))
 
 abbrev pub decreases-loop-j : goal.decreases-loop-j
 decreases-loop-j l = l.fours - l.j
 
 abbrev pub invariant-loop-k : goal.invariant-loop-k
-invariant-loop-k l = (l.k ≤ l.n) × ((A : Shares) → shares l.initial.total l.initial.second ≡ tile_shares l.sub (tile_with l.tile l.counts) l.w l.base A l.initial.k → shares l.total l.second ≡ tile_shares l.sub (tile_with l.tile l.counts) l.w l.base A l.k)
+invariant-loop-k l = (l.k ≤ l.n) × (shares l.total l.second ≡ tile_shares l.sub (tile_with l.tile l.counts) l.w l.base (shares l.fn.total l.fn.second) l.k)
 
 abbrev pub decreases-loop-k : goal.decreases-loop-k
 decreases-loop-k l = l.n - l.k
