@@ -1,7 +1,6 @@
 -- `count_blanks` meets its contract. The loop's invariant: n counts the empty ones of the tiles passed. Assumes nothing.
-use Prim.Native.Nat.{ℕ, ◌-◌}
+use Prim.Native.Nat.{ℕ}
 use mathlib.Core.Path.{◌≡◌, refl, sym, ap, ◌∙◌}
-use mathlib.Core.Logic.{⊎_elim}
 use native.Mathlib.Omega.{arith}
 use lib.Dec.{eqb}
 use Rattle.lists.specs.Count.{hit}
@@ -11,6 +10,7 @@ use Rattle.job.specs.Job.{size_of}
 use Rattle.fit_tiles.specs.Text.{blanks_of}
 use Rattle.fit_tiles.proofs.Loads.{blanks-few}
 use Rattle.fit_tiles.proofs.count_blanks.Goals as goal
+use Rattle.fit_tiles.proofs.count_blanks.Goals.{then-is_empty, else-is_empty}
 
 pub loop-i-init : goal.loop-i-init
 unfolding blanks_of sum
@@ -19,14 +19,18 @@ loop-i-init c = (omega arith, refl)
 pub overflow_add-n : goal.overflow_add-n
 overflow_add-n c =
     let few = blanks-few c.args.tiles.now c.loop-i.i in
-    ⊎_elim (λ y. omega (arith, y.1)) (λ y. omega (arith, y.1)) c.if-is_empty.branch
+    elim c.if-is_empty.branch [ then-is_empty w ↦ omega arith | else-is_empty w ↦ omega arith ]
 
 pub loop-i-preserved : goal.loop-i-preserved
 unfolding blanks_of hit
 loop-i-preserved c =
     let turn = c.loop-i in
     let blank : ℕ → ℕ = λ t. hit (eqb (size_of c.args.tiles.now t) 0) in let is = c.is_empty.ensures in
-    let one = ⊎_elim (λ y. y.1 ∙ ap hit (sym y.0.taken ∙ is)) (λ y. y.1 ∙ ap hit (sym y.0.left ∙ is)) c.if-is_empty.branch in
+    let one : c.if-is_empty.n ≡ blank turn.i =
+    elim c.if-is_empty.branch [
+      | then-is_empty w ↦ w.n-is ∙ ap hit (sym w.if-is_empty.true ∙ is)
+      | else-is_empty w ↦ w.n-is ∙ ap hit (sym w.if-is_empty.false ∙ is)
+    ] in
     (omega arith, sum_more blank turn.i turn.n c.if-is_empty.n turn.invariant.1 one)
 
 pub returns : goal.returns

@@ -1,7 +1,6 @@
 -- `count_blanks` meets its contract. The loop's invariant: n counts the empty ones of the tiles passed. Assumes nothing.
 use Prim.Native.Nat.{◌≤◌, ◌-◌}
 use mathlib.Core.Path.{◌≡◌}
-use mathlib.Core.Logic.{⊎_elim}
 use Rattle.fit_tiles.specs.Text.{blanks_of}
 use Rattle.fit_tiles.proofs.count_blanks.Given as goal
 
