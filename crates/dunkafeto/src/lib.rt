@@ -1,5 +1,5 @@
-// The calls for C and Rust hosts: forwarders only, each with the contract of what it forwards to. Assumes nothing.
-// The answer is one number, a value times 256 and the answer number (`answer::word`). A slice is a pointer and a length in C.
+// The calls as C and Rust hosts have them: forwarders only, each with the contract of what it forwards to. Assumes nothing.
+// The answer is one number, a value times 256 and the answer number (`answer::word`). `dunkafeto_c` exports them.
 #![tactic(auto)]
 
 ghost use Rattle.std.specs.Prelude.{◌≡◌};
@@ -13,8 +13,7 @@ ghost use Rattle.answer.specs.Words.{told};
 ghost use Rattle.dunkafeto.specs.Told.{told_advance};
 
 // Starts a run, as `run_start::start`. It makes no draw.
-#[unsafe(no_mangle)]
-pub extern "C" fn dunkafeto_start(
+pub fn dunkafeto_start(
     size: usize,
     s: usize,
     c: usize,
@@ -45,8 +44,7 @@ pub extern "C" fn dunkafeto_start(
 }
 
 // Makes the draws of a run, at most `allotment`, as `run_advance::advance`.
-#[unsafe(no_mangle)]
-pub extern "C" fn dunkafeto_advance(
+pub fn dunkafeto_advance(
     size: usize,
     s: usize,
     c: usize,
@@ -78,8 +76,7 @@ pub extern "C" fn dunkafeto_advance(
 }
 
 // Hands in reduced colours at a stop, as `run_hand_in::hand_in`. It makes no draw.
-#[unsafe(no_mangle)]
-pub extern "C" fn dunkafeto_hand_in(
+pub fn dunkafeto_hand_in(
     size: usize,
     s: usize,
     c: usize,
@@ -111,8 +108,7 @@ pub extern "C" fn dunkafeto_hand_in(
 }
 
 // Copies the colours of a finished run to `out`, as `run_result::result`.
-#[unsafe(no_mangle)]
-pub extern "C" fn dunkafeto_result(
+pub fn dunkafeto_result(
     size: usize,
     s: usize,
     c: usize,
@@ -143,8 +139,7 @@ pub extern "C" fn dunkafeto_result(
 }
 
 // For each tile the subpalette that fits it best, as `assign::assign`. It belongs to no run.
-#[unsafe(no_mangle)]
-pub extern "C" fn dunkafeto_assign(
+pub fn dunkafeto_assign(
     size: usize,
     s: usize,
     c: usize,

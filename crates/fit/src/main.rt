@@ -5,6 +5,8 @@
 ghost use Rattle.std.specs.Prelude.{◌≡◌, length};
 ghost use Rattle.fit_text.specs.Fit.{most_text};
 
+use std::io;
+
 // Room for the largest sheet and one byte more. The contract gives only the length.
 fn sheet_room() -> [u8; 65537]
     ensures { 65537 ≡ length result }
@@ -19,10 +21,10 @@ fn text_room() -> [u8; fit_text::MOST_TEXT]
     [0; fit_text::MOST_TEXT]
 }
 
-fn main() {
+fn main(rt: HostRuntime) -> io::Result<()> {
     let mut sheet = sheet_room();
-    let n = io::read_full(libc::STDIN_FILENO, &mut sheet);
+    let n = whole_input::read_full(&mut rt.stdin(), &mut sheet)?;
     let mut out = text_room();
     let k = fit_text::fit(&sheet[..n], &mut out);
-    io::write_all(libc::STDOUT_FILENO, &out[..k]);
+    rt.write_all(&out[..k])
 }

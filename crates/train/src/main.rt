@@ -4,6 +4,8 @@
 
 ghost use Rattle.std.specs.Prelude.{◌≡◌, length};
 
+use std::io;
+
 // Room for the largest sheet and one byte more. The contract gives only the length.
 fn sheet_room() -> [u8; 65537]
     ensures { 65537 ≡ length result }
@@ -18,10 +20,10 @@ fn text_room() -> [u8; 65536]
     [0; 65536]
 }
 
-fn main() {
+fn main(rt: HostRuntime) -> io::Result<()> {
     let mut sheet = sheet_room();
-    let n = io::read_full(libc::STDIN_FILENO, &mut sheet);
+    let n = whole_input::read_full(&mut rt.stdin(), &mut sheet)?;
     let mut out = text_room();
     let k = train_text::train(&sheet[..n], &mut out);
-    io::write_all(libc::STDOUT_FILENO, &out[..k]);
+    rt.write_all(&out[..k])
 }

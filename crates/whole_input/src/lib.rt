@@ -1,0 +1,23 @@
+// Input into lent bytes, in as many reads as that takes. Assumes nothing.
+#![tactic(auto)]
+
+ghost use Rattle.std.specs.Prelude.{IfOk};
+ghost use Rattle.io.specs.Counts.{IsPrefixLen};
+
+use std::io;
+use std::io::Read;
+
+// Reads until `out` is full or the input ends, and gives how many bytes it put at the start of `out`. A read that fails ends it.
+pub fn read_full<R: Read>(input: &mut R, out: &mut [u8]) -> io::Result<usize>
+    ensures { IfOk result (λ n. IsPrefixLen n out.new) }
+{
+    let mut done = 0;
+    while done < out.len() {
+        let n = input.read(&mut out[done..])?;
+        if n == 0 {
+            break;
+        }
+        done += n;
+    }
+    Ok(done)
+}
