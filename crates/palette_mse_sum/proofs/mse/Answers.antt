@@ -1,5 +1,4 @@
 -- `palette_mse_sum::mse` meets its contract. The loop's invariant: the sum and the hints are those after the first i tiles. Assumes nothing.
-use Prim.Native.Nat.{◌-◌}
 use mathlib.Core.Path.{refl}
 use Rattle.palette_tile.proofs.Walks.{walked_start, walked_more, walked_end}
 use Rattle.palette_tile.proofs.Hints.{walked_hints}

@@ -1,5 +1,4 @@
 -- `palette_two::nearest_two` meets its contract. The loop's invariant: `best` is a scan of the first i gaps. Assumes nothing.
-use Prim.Native.Nat.{◌-◌}
 use mathlib.Core.Path.{refl}
 use native.Mathlib.Omega.{arith}
 use lib.Ieee.{of_bits, div}

@@ -1,5 +1,5 @@
 -- `palette_two::nearest_two_four` meets its contract. The loop's invariant: each lane is a scan of its colour's first i gaps. Assumes nothing.
-use Prim.Native.Nat.{◌-◌, ◌/◌}
+use Prim.Native.Nat.{◌/◌}
 use mathlib.Core.Path.{◌≡◌, refl}
 use native.Mathlib.Omega.{arith}
 use lib.ListN.{length}
