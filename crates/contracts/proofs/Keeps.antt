@@ -19,12 +19,12 @@ use Rattle.contracts.specs.Keeps.{Compiled, Defined, Law, promising, Keeps, Sees
 
 module _ {O : Type 0} (f : Compiled O) (defined : Defined f) (P : Law f) where
   pub keeps : ((κs : Lfts f.ended.signature.lifetimes) (a : Args f.ended.signature κs) → P κs a (defined κs a)) → Sees f defined → Keeps f P
-  keeps law met M 𝓤 𝓛 𝓜 𝓡 =
+  keeps law met M 𝓤 𝓛 𝓜 𝓡 wired =
       weaken 𝓛 f.ended (promising f 𝓤 (λ κs a x. x ≡ defined κs a)) (λ κs a. (promising f 𝓤 P κs a).ensures)
       (λ κs a g r ws.
       let x = f.seen κs a r (at_exit f.ended κs a ws) in
       fact_mono 𝓤 (x ≡ defined κs a) (P κs a x) (λ e. subst⁻¹ (P κs a) e (law κs a)))
-      (𝓡.run f.code) (λ vs. fm→mono 𝓤 (𝓡.run f.code vs) (run_framed 𝓤 𝓛.H 𝓜 𝓡 f.code vs)) (met M 𝓤 𝓛 𝓜 𝓡)
+      (𝓡.run (𝓡.env f.name)) (λ vs. fm→mono 𝓤 (𝓡.run (𝓡.env f.name) vs) (run_framed 𝓤 𝓛.H 𝓜 𝓡 (𝓡.env f.name) vs)) (met M 𝓤 𝓛 𝓜 𝓡 wired)
 
 -- the first demand of a definition is one of what its caller sees
 module _ {A M : Type 0} {definition : Outcome A M} {refusal_of : A → Refusal} {table : Refusal} {refused : Refusal → A} {lent : M} (c : Call definition refusal_of table refused lent) where

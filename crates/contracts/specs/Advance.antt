@@ -75,7 +75,7 @@ module _ (κs : Lfts (export.signature).lifetimes) (a : Args export.signature κ
   ExportReports x = x.answer % 256 ≡ 0 → get_or x.after.words 4 0 ≡ get_or (memory_lent κs forwarded).words 4 0 + x.answer / 256
 
 abbrev pub compiled : Compiled (Outcome Advanced Memory)
-compiled = record { ended = function.ended; seen = seen; code = symbol.routine }
+compiled = record { ended = function.ended; seen = seen; name = symbol.name; code = symbol.code }
 
 abbrev pub exported : Compiled (Outcome ℕ Memory)
-exported = record { ended = export.ended; seen = export_seen; code = export-symbol.routine }
+exported = record { ended = export.ended; seen = export_seen; name = export-symbol.name; code = export-symbol.code }

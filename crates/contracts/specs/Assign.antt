@@ -78,7 +78,7 @@ module _ (κs : Lfts (export.signature).lifetimes) (a : Args export.signature κ
   ExportAnswers = Tells (answer (rules κs forwarded)) (tiles_lent κs forwarded)
 
 abbrev pub compiled : Compiled (Outcome Refusal TileMemory)
-compiled = record { ended = function.ended; seen = seen; code = symbol.routine }
+compiled = record { ended = function.ended; seen = seen; name = symbol.name; code = symbol.code }
 
 abbrev pub exported : Compiled (Outcome ℕ TileMemory)
-exported = record { ended = export.ended; seen = export_seen; code = export-symbol.routine }
+exported = record { ended = export.ended; seen = export_seen; name = export-symbol.name; code = export-symbol.code }

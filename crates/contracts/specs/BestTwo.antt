@@ -50,4 +50,4 @@ module _ (κs : Lfts (function.signature).lifetimes) (a : Args function.signatur
       × (x ≡ outcome (pair.Best (two_at job_given palette_given s c 0)) (set hints_lent 0 (winner job_given palette_given s c 0)))
 
 abbrev pub compiled : Compiled (Outcome Pair (List ℕ))
-compiled = record { ended = function.ended; seen = seen; code = symbol.routine }
+compiled = record { ended = function.ended; seen = seen; name = symbol.name; code = symbol.code }

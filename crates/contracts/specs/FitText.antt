@@ -20,4 +20,4 @@ module _ (κs : Lfts (function.signature).lifetimes) (a : Args function.signatur
   writes x = (x ≡ fit_def a.0.now a.1.0.now) × IsPrefixLen x.answer x.after
 
 abbrev pub compiled : Compiled (Outcome ℕ (List ℕ))
-compiled = record { ended = function.ended; seen = seen; code = symbol.routine }
+compiled = record { ended = function.ended; seen = seen; name = symbol.name; code = symbol.code }

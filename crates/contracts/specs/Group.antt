@@ -37,4 +37,4 @@ module _ (κs : Lfts (function.signature).lifetimes) (a : Args function.signatur
   answers = Answers refusal_of (group_answer size_given pixels_given room_lent) grouped.Refused room_lent
 
 abbrev pub compiled : Compiled (Outcome Grouped EntryRoom)
-compiled = record { ended = function.ended; seen = seen; code = symbol.routine }
+compiled = record { ended = function.ended; seen = seen; name = symbol.name; code = symbol.code }

@@ -33,4 +33,4 @@ module _ (κs : Lfts (function.signature).lifetimes) (a : Args function.signatur
   answers = Answers refusal_of_reading (refusal_in (found size_given bytes_given room_lent)) reading.Refused room_lent
 
 abbrev pub compiled : Compiled (Outcome Reading Room)
-compiled = record { ended = function.ended; seen = seen; code = symbol.routine }
+compiled = record { ended = function.ended; seen = seen; name = symbol.name; code = symbol.code }

@@ -60,7 +60,7 @@ module _ (κs : Lfts (export.signature).lifetimes) (a : Args export.signature κ
   ExportAnswers = Tells (answer (result_rules (course_given κs forwarded) (memory_lent κs forwarded) (out_lent κs forwarded))) (out_lent κs forwarded)
 
 abbrev pub compiled : Compiled (Outcome Refusal (List Float))
-compiled = record { ended = function.ended; seen = seen; code = symbol.routine }
+compiled = record { ended = function.ended; seen = seen; name = symbol.name; code = symbol.code }
 
 abbrev pub exported : Compiled (Outcome ℕ (List Float))
-exported = record { ended = export.ended; seen = export_seen; code = export-symbol.routine }
+exported = record { ended = export.ended; seen = export_seen; name = export-symbol.name; code = export-symbol.code }

@@ -38,4 +38,4 @@ module _ (κs : Lfts (function.signature).lifetimes) (a : Args function.signatur
   answers = Answers refusal_of_writing (answer (write_rules job_given palette_given bytes_lent)) writing.Refused bytes_lent
 
 abbrev pub compiled : Compiled (Outcome Writing (List ℕ))
-compiled = record { ended = function.ended; seen = seen; code = symbol.routine }
+compiled = record { ended = function.ended; seen = seen; name = symbol.name; code = symbol.code }
