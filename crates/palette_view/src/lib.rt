@@ -1,6 +1,5 @@
 // A view of a subpalette: a struct that refers to the caller's colours, three numbers each, and thin functions over it.
-// The borrow checker covers no function over such a struct, so each is proved by hand: it takes the struct apart and calls
-// a covered function on the slice. The functions at the end have plain parameters: whoever calls them needs no such proof.
+// The functions at the end have plain parameters. Assumes nothing.
 #![tactic(auto)]
 
 ghost use Rattle.std.specs.Prelude.{◌≡◌};
