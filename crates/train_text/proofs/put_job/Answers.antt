@@ -33,7 +33,7 @@ pub returns : goal.returns
 returns c =
     let a = c.args in
     let text = c.put_trained in (
-      front_holds a.z _ _ _ _ c.colours_to-n.ensures (λ (J : Job). Stored a.out.now text.new.1.1.1.1.1.0 0 text.result (job_text J))
+      front_holds a.z _ _ _ _ c.colours_to-n.ensures (λ (J : Job). Stored a.out.now text.new.out 0 text.result (job_text J))
           text.ensures.0,
       text.ensures.1,
     )

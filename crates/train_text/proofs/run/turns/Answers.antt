@@ -1,5 +1,4 @@
 -- `turns` meets its contract. The loop's invariant: the memory is what so many turns leave. Assumes nothing.
-use Prim.Native.Nat.{◌-◌}
 use native.Mathlib.Omega.{arith}
 use Rattle.sheet_parts.proofs.Parts.{front_long}
 use Rattle.train_text.proofs.Joined.{none_turned, one_more, next_fits, nearer, all_turned}
