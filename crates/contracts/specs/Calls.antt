@@ -1,4 +1,4 @@
--- The ten public functions, their five exports and the text functions of both programs, as the prover has them. Assumes nothing.
+-- The ten public functions, the five for hosts (`dunkafeto`) and the text functions of both programs, as the prover has them. Assumes nothing.
 use Rattle.contracts.specs.Keeps.{Keeps, Sees}
 use Rattle.contracts.specs.Start as start
 use Rattle.contracts.specs.Advance as advance
@@ -26,7 +26,7 @@ pub record Contracts : Type 2 where
   pub read : Sees read.compiled read.defined
   pub write : Sees write.compiled write.defined
 
--- that of each export: the answer word and the memory are what is told of the definition's outcome
+-- that of each that `dunkafeto_c` exports: the answer word and the memory are what is told of the definition's outcome
 pub record Exports : Type 2 where
   pub start : Sees start.exported start.export_defined
   pub advance : Sees advance.exported advance.export_defined

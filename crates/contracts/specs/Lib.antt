@@ -1,4 +1,4 @@
--- Contracts is what a customer reads; a file for each function says what it is given and what its caller sees. Assumes nothing.
+-- Calls is what a customer reads; a file for each function says what it is given and what its caller sees. Assumes nothing.
 pub mod Keeps
 pub mod Answers
 pub mod Start

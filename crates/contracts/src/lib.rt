@@ -1,3 +1,3 @@
-// The contracts of the ten public calls, of their exports and of what both programs write, as the prover has them: each says that its caller sees the
+// The contracts of the ten public calls, of the five for hosts and of what both programs write, as the prover has them: each says that its caller sees the
 // outcome of a definition, so what is proved of the definition is proved of the function. No function.
 #![tactic(auto)]
