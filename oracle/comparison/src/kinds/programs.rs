@@ -26,14 +26,9 @@ pub const KINDS: &[Kind] = &[
     whole("program train, edges", 10, train::edges).bringing(TILES),
 ];
 
-/// Runs a program of ours, seen from the folder that the comparison runs in: itself where it can be, which saves the shell in front of it.
+/// Runs a program of ours, seen from the folder that the comparison runs in.
 fn command(program: &str) -> Command {
-    if cfg!(target_arch = "x86_64") {
-        return Command::new(format!("../target/bin/{program}"));
-    }
-    let mut command = Command::new("../program");
-    command.arg(program);
-    command
+    Command::new(format!("../target/bin/{program}"))
 }
 
 /// A sheet of either edition, small or near the limit, damaged or not.
