@@ -3,7 +3,8 @@
  * Link with libdunkafeto.a (`./build dunkafeto`; for Linux on x86-64 and on aarch64, with the same bits on both). Nothing is
  * allocated, nothing is kept between calls, no call reads or writes a file, a clock or memory that it was not lent. Every call answers
  * every input that keeps to "What the caller owes" below: each checks all its arguments itself. 8 KiB of stack are enough (5,128 bytes
- * measured for the largest job of either tile size); the one function that is called from outside is memset.
+ * were measured for the largest job of either tile size, with the older kit; hosts/c/test measures again); the one function that is
+ * called from outside is memset.
  *
  * A job is S subpalettes of C colours, and T tiles, each with its colours and how often each occurs. Colours are Oklab: three
  * floats, l, a, b. Training draws n samples in an order of its own, and stops three times for the host to reduce the colours to
