@@ -3,7 +3,7 @@
 #![tactic(auto)]
 
 ghost use Rattle.std.specs.Prelude.{◌≡◌, ◌+◌, ◌≤◌, ◌<◌, ◌++◌, length};
-ghost use Rattle.io.specs.Digits.{last_digits, hex_digit_ascii as Digits·glyph};
+ghost use Rattle.io.specs.Digits.{last_digits, hex_digit_ascii};
 ghost use Rattle.fit_lines.specs.Lines.{Stored, width_of, decimal, last, pair, head_line, tile_line, load_line, blank_line, refused_line};
 
 // A word from place `at` on.
@@ -22,7 +22,7 @@ fn put_word(out: &mut [u8], at: usize, word: &[u8]) -> usize
 
 fn glyph(d: u32) -> u8
     requires { d < 16 }
-    ensures { result ≡ Digits·glyph d }
+    ensures { result ≡ hex_digit_ascii d }
 {
     if d < 10 { 48 + d as u8 } else { 87 + d as u8 }
 }

@@ -1,5 +1,5 @@
 -- `put_digits` meets its contract. The loop's invariant: the digits that are left, stored, give the whole. Assumes nothing.
-use Prim.Native.Nat.{◌≤◌, ◌-◌}
+use Prim.Native.Nat.{◌≤◌}
 use mathlib.Core.Path.{◌≡◌}
 use lib.ListN.{length}
 use lib.Seq.{sets}

@@ -1,5 +1,4 @@
 -- `put_word` meets its contract. The loop's invariant: what is left to store gives the whole. Assumes nothing.
-use Prim.Native.Nat.{◌-◌}
 use mathlib.Core.Path.{refl, ◌∙◌}
 use native.Mathlib.Omega.{arith}
 use native.Mathlib.Nat.{add-zero}
