@@ -34,13 +34,13 @@ module _ (size : ℕ) (q : Pixels) (fits : Bool) where
 both : (a b : Bool) → a && b ≡ true → (a ≡ true) × (b ≡ true)
 both a b e = (and_l a b e, and_r a b e)
 
-module _ (p bytes oklab entryBytes entryOklab counts index : ℕ) where
-  pub sizes : lengths_fit p bytes oklab entryBytes entryOklab counts index ≡ true → (bytes ≡ 4 * p) × (oklab ≡ 3 * p) × (entryBytes ≡ 4 * p) × (entryOklab ≡ 3 * p) × (counts ≡ p) × (index ≡ p)
+module _ (p bytes oklab entry_bytes entry_oklab counts index : ℕ) where
+  pub sizes : lengths_fit p bytes oklab entry_bytes entry_oklab counts index ≡ true → (bytes ≡ 4 * p) × (oklab ≡ 3 * p) × (entry_bytes ≡ 4 * p) × (entry_oklab ≡ 3 * p) × (counts ≡ p) × (index ≡ p)
   unfolding lengths_fit
   sizes e =
       let a = both (eqb bytes (4 * p)) _ e in
       let b = both (eqb oklab (3 * p)) _ a.1 in
-      let c = both (eqb entryBytes (4 * p)) _ b.1 in
-      let d = both (eqb entryOklab (3 * p)) _ c.1 in
+      let c = both (eqb entry_bytes (4 * p)) _ b.1 in
+      let d = both (eqb entry_oklab (3 * p)) _ c.1 in
       let f = both (eqb counts p) _ d.1 in
       (eqb-true _ _ a.0, eqb-true _ _ b.0, eqb-true _ _ c.0, eqb-true _ _ d.0, eqb-true _ _ f.0, eqb-true _ _ f.1)

@@ -33,8 +33,8 @@ entry_room bytes oklab counts index = record { bytes = bytes; oklab = oklab; cou
 -- ---- the refusal
 -- the lengths that p implies: of the bytes and Oklab given, of the bytes, Oklab, counts and indexes lent
 unfoldable pub lengths_fit : ℕ → ℕ → ℕ → ℕ → ℕ → ℕ → ℕ → Bool
-lengths_fit p bytes oklab entryBytes entryOklab counts index =
-    eqb bytes (4 * p) && (eqb oklab (3 * p) && (eqb entryBytes (4 * p) && (eqb entryOklab (3 * p) && (eqb counts p && eqb index p))))
+lengths_fit p bytes oklab entry_bytes entry_oklab counts index =
+    eqb bytes (4 * p) && (eqb oklab (3 * p) && (eqb entry_bytes (4 * p) && (eqb entry_oklab (3 * p) && (eqb counts p && eqb index p))))
 
 -- every slice has the length that p implies
 abbrev pub sized : Pixels → EntryRoom → Bool

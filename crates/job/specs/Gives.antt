@@ -32,7 +32,7 @@ pub record Ready (J : Job) : Type 0 where
   pub high : (t k : ℕ) → t < J.T → k < length (counts_of J t) → get_or (counts_of J t) k 0 ≤ J.size
   pub full : (t : ℕ) → t < J.T → sum (λ k. get_or (counts_of J t) k 0) (length (counts_of J t)) ≤ J.size
 
--- a palette of S-as-C colours lent beside a job
+-- a palette of S·C colours lent beside a job
 pub record Lent (s c : ℕ) (palette : List Float) : Type 0 where
   pub room : length palette ≡ 3 * (s * c)
   pub bounded : Bounded palette 2

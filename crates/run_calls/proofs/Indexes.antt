@@ -40,7 +40,7 @@ module _ (K : Course) where
   abbrev cells : ℕ
   cells = K.job.S * K.job.C
 
-  -- a list of S-as-C colours has a small index
+  -- a list of S·C colours has a small index
   few_of : (room : Bool) → Passed (job_rules K room) → (base : ℕ) → base ≤ cells → (m : Float) (xs : List Float) → length xs ≡ 3 * cells → components_fit m xs ≡ false → base + first_bad m xs / 3 ≤ most_index
   few_of room p base b m xs l h = omega (arith, named_few m xs h cells l, (job-passed K room p).ready.sizes.cells)
 

@@ -8,7 +8,7 @@ use Rattle.run_stages.specs.State.{State}
 use Rattle.run_stages.specs.Record.{four, looked_at}
 use Rattle.run_stages.specs.Calls.{Memory, state_of}
 
--- the first bad working colour: one of the palette, or where all of that is good one of what is looked at of the second, counted from S-as-C
+-- the first bad working colour: one of the palette, or where all of that is good one of what is looked at of the second, counted from S·C
 abbrev pub FirstWorking : Course → State → ℕ → Type 0
 FirstWorking K s = FirstOfBoth four (K.job.S * K.job.C) s.palette (looked_at s.rec.stage s.least)
 
