@@ -6,7 +6,7 @@ use native.Mathlib.Omega.{arith}
 use mathlib.Core.Bool.{Bool}
 use mathlib.Core.List.{List, [], ◌∷◌, ◌++◌}
 use lib.Dec.{lit<}
-use lib.Pow.{pow_mono, pow_pos, shl_exact}
+use lib.Pow.{pow_mono, shl_exact}
 use lib.ListN.{length, get_or, take, drop, length-drop}
 use lib.Seq.{take-suc, get_or-drop, drop-drop, take-take, length-take-le}
 use Rattle.bits.specs.Bits.{num, bits, field_at}
@@ -63,6 +63,3 @@ module _ (s : List ℕ) (p k g : ℕ) (narrow : k ≤ 32) (room : p + k ≤ 8 * 
       ap (λ (m : ℕ). g / 2 ^ (8 * ((p + k + 7) / 8) - (p + k)) % m) (one_shl k narrow)
       ∙ ap (λ (n : ℕ). n / 2 ^ (8 * ((p + k + 7) / 8) - (p + k)) % 2 ^ k) is
       ∙ gathered-field s p k ((p + k + 7) / 8) (omega arith) (omega arith) (omega arith)
-
-pub shl_some : (k : ℕ) → k ≤ 32 → 0 < (1 * 2 ^ k) % 2 ^ 64
-shl_some k h = omega (arith, one_shl k h, pow_pos k)

@@ -30,11 +30,6 @@ spell_step s t x j e g h l stored whole =
     ∙ ap (sets (bits s) (8 * j)) (sym (bits_of_append 8 n x) ∙ ap (λ (i : ℕ). bits_of i x) all)
     ∙ whole
 
-pub spell_end : (s : List ℕ) (x j e : ℕ) (g : List Bool) → e ≤ j → sets (bits s) (8 * j) (bits_of (8 * (e - j)) x) ≡ g → bits s ≡ g
-spell_end s x j e g h whole =
-    let none : 8 * (e - j) ≡ 0 = omega arith in
-    sym (ap (λ (i : ℕ). sets (bits s) (8 * j) (bits_of i x)) none) ∙ whole
-
 -- ---- a head, the low k bits of v, a tail
 module _ (head k v spare tail : ℕ) (h : head < 2 ^ 7) (narrow : k ≤ 32) (few : spare ≤ 7) (t : tail < 2 ^ spare) where
   low-lt : v % 2 ^ k < 2 ^ k
@@ -48,9 +43,6 @@ module _ (head k v spare tail : ℕ) (h : head < 2 ^ 7) (narrow : k ≤ 32) (few
 
   high_lt : head * 2 ^ k + v % 2 ^ k < 2 ^ 40
   high_lt = omega (arith, lt_of_lt_of_le (shl_lt 7 k h) (pow_mono {j = 39} (omega arith)), lt_of_lt_of_le low-lt (pow_mono {j = 32} narrow))
-
-  pub high_fits : (head * 2 ^ k) % 2 ^ 64 + v % ((1 * 2 ^ k) % 2 ^ 64) < 2 ^ 40
-  high_fits = subst (λ (n : ℕ). n < 2 ^ 40) (sym high_is) high_lt
 
   pub joined_is : (((head * 2 ^ k) % 2 ^ 64 + v % ((1 * 2 ^ k) % 2 ^ 64)) * 2 ^ spare) % 2 ^ 64 + tail ≡ (head * 2 ^ k + v % 2 ^ k) * 2 ^ spare + tail
   joined_is =

