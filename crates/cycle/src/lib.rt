@@ -9,19 +9,14 @@ ghost use Rattle.cycle.specs.Cycle.{cycle, ready, drawn, draw_one, after};
 
 use prng::Prng;
 
-// Shuffles the present order again where, after `made` draws, a round is over and another begins; gives the generator.
-pub fn reshuffle(prng: Prng, made: u64, order: &mut [u32]) -> Prng
+// Shuffles the present order again where, after `made` draws, a round is over and another begins.
+pub fn reshuffle(prng: &mut Prng, made: u64, order: &mut [u32])
     requires { 0 < length order.old }
-    ensures { deck order.new result.state ≡ ready (cycle (deck order.old prng.state) made) }
+    ensures { deck order.new prng.new.state ≡ ready (cycle (deck order.old prng.old.state) made) }
 {
-    if made == 0 {
-        return prng;
+    if 0 < made && made % order.len() as u64 == 0 {
+        prng.shuffle(order);
     }
-    let at = made % order.len() as u64;
-    if 0 < at {
-        return prng;
-    }
-    prng.shuffle(order)
 }
 
 // b, the draws of a round: a tenth of n samples, rounded down. That the Rust's f32 tenth, cut to a whole number, is the same for every
@@ -39,22 +34,13 @@ pub struct SampleCycle {
     pub made: u64,
 }
 
-// What a draw gives: a sample, and the cycle after it.
-#[derive(Drop)]
-pub struct Drawn {
-    pub sample: u32,
-    pub after: SampleCycle,
-}
-
 // Fills order with 0, 1 ..
 fn fill(order: &mut [u32])
     requires { length order.old ≤ 2 ^ 32 }
     ensures { order.new ≡ up_to (length order.old) }
 {
-    let mut i = 0;
-    while i < order.len() {
-        order[i] = i as u32;
-        i += 1;
+    for (i, place) in order.iter_mut().enumerate() {
+        *place = i as u32;
     }
 }
 
@@ -65,23 +51,19 @@ impl SampleCycle {
         ensures { cycle (deck order.new result.prng.state) result.made ≡ after (length order.old) seed 0 }
     {
         fill(order);
-        let prng = Prng { state: seed }.shuffle(order);
+        let mut prng = Prng::new(seed);
+        prng.shuffle(order);
         SampleCycle { prng, made: 0 }
     }
 
     // The next draw.
-    pub fn next(self, order: &mut [u32]) -> Drawn
-        requires { (0 < length order.old) × (self.made + 1 < 2 ^ 64) }
-        ensures { drawn result.sample (cycle (deck order.new result.after.prng.state) result.after.made) ≡ draw_one (cycle (deck order.old self.prng.state) self.made) }
+    pub fn next(&mut self, order: &mut [u32]) -> u32
+        requires { (0 < length order.old) × (self.old.made + 1 < 2 ^ 64) }
+        ensures { drawn result (cycle (deck order.new self.new.prng.state) self.new.made) ≡ draw_one (cycle (deck order.old self.old.prng.state) self.old.made) }
     {
-        let made = self.made;
-        let prng = reshuffle(self.prng, made, order);
-        let at = (made % order.len() as u64) as usize;
-        let sample = order[at];
-        let after = SampleCycle {
-            prng,
-            made: made + 1,
-        };
-        Drawn { sample, after }
+        reshuffle(&mut self.prng, self.made, order);
+        let at = (self.made % order.len() as u64) as usize;
+        self.made += 1;
+        order[at]
     }
 }

@@ -1,9 +1,8 @@
-// SplitMix64: its finalizer, a word mixed by two products and three shifts; the generator by value, and the Fisher-Yates shuffle that it drives.
+// SplitMix64: its finalizer, a word mixed by two products and three shifts; the generator, and the Fisher-Yates shuffle that it drives.
 // Assumes nothing.
 #![tactic(auto)]
 
-ghost use Rattle.std.specs.Prelude.{◌≡◌, ◌*◌, ◌%◌, ◌^◌, ◌<◌, length};
-ghost use Rattle.lists.specs.Count.{swapped};
+ghost use Rattle.std.specs.Prelude.{◌≡◌, ◌*◌, ◌%◌, ◌^◌};
 ghost use Rattle.prng.specs.SplitMix.{mix, next_state, output};
 ghost use Rattle.prng.specs.Shuffle.{deck, shuffle_of};
 
@@ -30,28 +29,10 @@ pub fn mixed(x: u64) -> u64
     z ^ (z >> 31)
 }
 
-// Exchanges the items at i and j.
-fn swap(items: &mut [u32], i: usize, j: usize)
-    requires { (i < length items.old) × (j < length items.old) }
-    ensures { items.new ≡ swapped i j items.old }
-{
-    let x = items[i];
-    let y = items[j];
-    items[i] = y;
-    items[j] = x;
-}
-
 // The generator's state.
 #[derive(Drop)]
 pub struct Prng {
     pub state: u64,
-}
-
-// What a step gives: an output, and the generator after it.
-#[derive(Drop)]
-pub struct Step {
-    pub value: u64,
-    pub after: Prng,
 }
 
 impl Prng {
@@ -62,29 +43,21 @@ impl Prng {
         Prng { state: seed }
     }
 
-    // The next output.
-    pub fn next(self) -> Step
-        ensures { (result.value ≡ output self.state) × (result.after.state ≡ next_state self.state) }
+    // The next output; the generator goes on.
+    pub fn next(&mut self) -> u64
+        ensures { (result ≡ output self.old.state) × (self.new.state ≡ next_state self.old.state) }
     {
-        let state = std::num::wrapping_add_u64(self.state, 0x9e37_79b9_7f4a_7c15);
-        let value = mixed(state);
-        let after = Prng { state };
-        Step { value, after }
+        self.state = std::num::wrapping_add_u64(self.state, 0x9e37_79b9_7f4a_7c15);
+        mixed(self.state)
     }
 
-    // Fisher-Yates shuffle; gives the generator back. i is how many items are not in place yet.
-    pub fn shuffle(self, items: &mut [u32]) -> Prng
-        ensures { deck items.new result.state ≡ shuffle_of self.state items.old }
+    // Fisher-Yates shuffle. The items from i on are in place once the turn at i is over.
+    pub fn shuffle(&mut self, items: &mut [u32])
+        ensures { deck items.new self.new.state ≡ shuffle_of self.old.state items.old }
     {
-        let mut prng = self;
-        let mut i = items.len();
-        while 1 < i {
-            i -= 1;
-            let step = prng.next();
-            let j = (step.value % (i as u64 + 1)) as usize;
-            swap(items, i, j);
-            prng = step.after;
+        for i in (1..items.len()).rev() {
+            let j = (self.next() % (i as u64 + 1)) as usize;
+            items.swap(i, j);
         }
-        prng
     }
 }

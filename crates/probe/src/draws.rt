@@ -7,16 +7,17 @@ use prng::Prng;
 // Gives the output, and in `after` the state after it.
 #[unsafe(no_mangle)]
 pub extern "C" fn probe_next(state: u64, after: &mut u64) -> u64 {
-    let step = Prng { state }.next();
-    let prng = step.after;
+    let mut prng = Prng { state };
+    let value = prng.next();
     *after = prng.state;
-    step.value
+    value
 }
 
 // Gives the state after it.
 #[unsafe(no_mangle)]
 pub extern "C" fn probe_shuffle(state: u64, items: &mut [u32]) -> u64 {
-    let prng = Prng { state }.shuffle(items);
+    let mut prng = Prng { state };
+    prng.shuffle(items);
     prng.state
 }
 
@@ -31,8 +32,7 @@ pub extern "C" fn probe_cycle_new(order: &mut [u32], seed: u64) -> u64
     requires { length order.old ≤ 2 ^ 32 }
 {
     let cycle = SampleCycle::new(order, seed);
-    let prng = cycle.prng;
-    prng.state
+    cycle.prng.state
 }
 
 // Gives the sample drawn, and in `after` the generator's state.
@@ -41,9 +41,8 @@ pub extern "C" fn probe_cycle_next(order: &mut [u32], state: u64, made: u64, aft
     requires { (0 < length order.old) × (made + 1 < 2 ^ 64) }
 {
     let prng = Prng { state };
-    let drawn = SampleCycle { prng, made }.next(order);
-    let next = drawn.after;
-    let left = next.prng;
-    *after = left.state;
-    drawn.sample
+    let mut cycle = SampleCycle { prng, made };
+    let sample = cycle.next(order);
+    *after = cycle.prng.state;
+    sample
 }

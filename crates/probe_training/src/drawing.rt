@@ -34,7 +34,7 @@ pub extern "C" fn probe_draw(
     requires { Going (course_of (sizes_of size s c t n weight) tiles.now colours.now counts.now samples.now) (cycle (deck order.old state) made) pal.old subs have hints.old }
 {
     let prng = Prng { state };
-    let at = SampleCycle { prng, made };
+    let mut at = SampleCycle { prng, made };
     let z = Sizes {
         size,
         s,
@@ -43,9 +43,8 @@ pub extern "C" fn probe_draw(
         n,
         weight,
     };
-    let after = quantizer_draw::draw(
-        z, tiles, colours, counts, samples, at, order, pal, subs, have, hints, alpha,
+    quantizer_draw::draw(
+        z, tiles, colours, counts, samples, &mut at, order, pal, subs, have, hints, alpha,
     );
-    let left = after.prng;
-    left.state
+    at.prng.state
 }

@@ -19,34 +19,23 @@ pub fn draw(
     colours: &[f32],
     counts: &[u32],
     samples: &[u32],
-    at: SampleCycle,
+    at: &mut SampleCycle,
     order: &mut [u32],
     pal: &mut [f32],
     subs: usize,
     have: usize,
     hints: &mut [u32],
     alpha: f32,
-) -> SampleCycle
-    requires { Going (course_of z tiles.now colours.now counts.now samples.now) (cycle (deck order.old at.prng.state) at.made) pal.old subs have hints.old }
-    ensures { (cycle (deck order.new result.prng.state) result.made ≡ (draw_one (cycle (deck order.old at.prng.state) at.made)).next)
+)
+    requires { Going (course_of z tiles.now colours.now counts.now samples.now) (cycle (deck order.old at.old.prng.state) at.old.made) pal.old subs have hints.old }
+    ensures { (cycle (deck order.new at.new.prng.state) at.new.made ≡ (draw_one (cycle (deck order.old at.old.prng.state) at.old.made)).next)
         × ((pal.new ≡ moved_by (course_of z tiles.now colours.now counts.now samples.now) pal.old subs have
-        (draw_one (cycle (deck order.old at.prng.state) at.made)).sample alpha)
+        (draw_one (cycle (deck order.old at.old.prng.state) at.old.made)).sample alpha)
         × (hints.new ≡ hints_by (course_of z tiles.now colours.now counts.now samples.now) pal.old subs have
-        (draw_one (cycle (deck order.old at.prng.state) at.made)).sample hints.old)) }
+        (draw_one (cycle (deck order.old at.old.prng.state) at.old.made)).sample hints.old)) }
 {
-    let drawn = at.next(order);
+    let sample = at.next(order) as usize;
     quantizer_move::nudge(
-        z,
-        tiles,
-        colours,
-        counts,
-        samples,
-        pal,
-        subs,
-        have,
-        hints,
-        drawn.sample as usize,
-        alpha,
+        z, tiles, colours, counts, samples, pal, subs, have, hints, sample, alpha,
     );
-    drawn.after
 }

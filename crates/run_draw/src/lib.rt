@@ -30,9 +30,9 @@ pub fn draw(
     let subs = run_cycle::subs_of(z.s, r);
     let have = run_cycle::have_of(z.c, r);
     let alpha = run_cycle::alpha_of(r);
-    let at = run_cycle::cycle_of(r);
-    let after = quantizer_draw::draw(
-        z, tiles, colours, counts, samples, at, order, palette, subs, have, hints, alpha,
+    let mut at = run_cycle::cycle_of(r);
+    quantizer_draw::draw(
+        z, tiles, colours, counts, samples, &mut at, order, palette, subs, have, hints, alpha,
     );
-    run_cycle::count_draw(r, after)
+    run_cycle::count_draw(r, at)
 }

@@ -7,8 +7,8 @@ use Rattle.run_draw.proofs.draw.Goals as goal
 pub cycle_of-at-requires : goal.cycle_of-at-requires
 cycle_of-at-requires c = tt
 
-pub draw-after-requires : goal.draw-after-requires
-draw-after-requires c =
+pub draw-requires : goal.draw-requires
+draw-requires c =
     let a = c.args in
     going_by (course_of a.z a.tiles.now a.colours.now a.counts.now a.samples.now) a.order.now a.hints.now
     a.palette.now a.r _ _ c.subs_of-subs.ensures c.have_of-have.ensures _ _ c.cycle_of-at.ensures c.requires.going
@@ -21,5 +21,5 @@ returns c =
     let a = c.args in
     drawn_by (course_of a.z a.tiles.now a.colours.now a.counts.now a.samples.now) a.order.now a.hints.now
     a.palette.now a.r _ _ c.subs_of-subs.ensures c.have_of-have.ensures _ _ c.cycle_of-at.ensures _
-    c.alpha_of-alpha.ensures _ _ _ _ _ c.draw-after.ensures.0 c.draw-after.ensures.1.0 c.draw-after.ensures.1.1 _
+    c.alpha_of-alpha.ensures _ _ _ _ _ c.draw.ensures.0 c.draw.ensures.1.0 c.draw.ensures.1.1 _
     c.count_draw.ensures

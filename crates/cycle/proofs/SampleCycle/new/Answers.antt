@@ -7,5 +7,4 @@ use Rattle.cycle.proofs.SampleCycle.new.Goals as goal
 pub returns : goal.returns
 unfolding after
 returns c =
-    let seed = c.args.seed in
-    ap (λ (d : Deck). cycle d 0) (c.shuffle-prng.ensures ∙ ap (shuffle_of seed) c.fill.ensures)
+    ap (λ (d : Deck). cycle d 0) (c.shuffle.ensures ∙ (λ i. shuffle_of (c.new-prng.ensures i) (c.fill.ensures i)))

@@ -7,13 +7,13 @@ use Rattle.cycle.specs.Cycle.{cycle, drawn, draw_one}
 use Rattle.cycle.proofs.SampleCycle.next.Goals as goal
 
 pub offset_bounds-order-at : goal.offset_bounds-order-at
-offset_bounds-order-at c = omega (arith, mod-lt c.args.self.made {m = length c.reshuffle-prng.new.order} (omega (arith, c.reshuffle-prng.auto.order)))
+offset_bounds-order-at c = omega (arith, mod-lt c.args.self.now.made {m = length c.reshuffle.new.order} (omega (arith, c.reshuffle.auto.order)))
 
 pub bounds-order-at : goal.bounds-order-at
-bounds-order-at c = mod-lt c.args.self.made (omega (arith, c.reshuffle-prng.auto.order))
+bounds-order-at c = mod-lt c.args.self.now.made (omega (arith, c.reshuffle.auto.order))
 
 pub returns : goal.returns
 unfolding draw_one
 returns c =
-    let made = c.args.self.made in
-    λ i. drawn (get_or (c.reshuffle-prng.ensures i).order (made % c.reshuffle-prng.auto.order i) 0) (cycle (c.reshuffle-prng.ensures i) (made + 1))
+    let made = c.args.self.now.made in
+    λ i. drawn (get_or (c.reshuffle.ensures i).order (made % c.reshuffle.auto.order i) 0) (cycle (c.reshuffle.ensures i) (made + 1))

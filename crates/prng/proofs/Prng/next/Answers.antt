@@ -5,4 +5,4 @@ use Rattle.prng.proofs.Prng.next.Goals as goal
 
 pub returns : goal.returns
 unfolding output next_state
-returns c = (c.mixed-value.ensures ∙ ap mix c.wrapping_add_u64-state.ensures.value, c.wrapping_add_u64-state.ensures.value)
+returns c = (c.mixed.ensures ∙ ap mix c.wrapping_add_u64-self.ensures.value, c.wrapping_add_u64-self.ensures.value)
