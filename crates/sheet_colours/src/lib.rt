@@ -2,70 +2,83 @@
 // Each function answers what the format in crate sheet_format says. Assumes nothing.
 #![tactic(auto)]
 
-ghost use Rattle.std.specs.Prelude.{◌≡◌, ◌*◌, ◌≤◌, length};
+ghost use Rattle.std.specs.Prelude.{◌≡◌, ◌+◌, ◌*◌, ◌^◌, ◌≤◌, ◌<◌, length, MatchResult};
 ghost use Rattle.format.specs.Format.{times};
 ghost use Rattle.sheet_format.specs.Sheet.{component, colours};
 ghost use Rattle.sheet_format.specs.Proper.{Proper};
-ghost use Rattle.sheet_colours.specs.Steps.{step_at};
+ghost use Rattle.sheet_colours.specs.Steps.{step_at, behind};
 
 use sheet_format::Edition;
 
-// The number of a fault, or the bit to read next; and how many components were passed.
-#[derive(Drop)]
-pub enum Step {
-    Fault(u32, usize),
-    At(usize, usize),
+// Where reading ends: the bit to read next, and how many components were passed.
+#[derive(Clone, Copy)]
+pub struct At {
+    pub bit: usize,
+    pub passed: usize,
+}
+
+// What stops it: the number of a fault, and how many components it stands behind.
+#[derive(Clone, Copy)]
+pub struct Fault {
+    pub number: u32,
+    pub passed: usize,
+}
+
+// The same behind so many components more.
+pub fn behind(passed: usize, step: Result<At, Fault>) -> Result<At, Fault>
+    requires { MatchResult step (λ at. passed + at.passed < 2 ^ 64) (λ fault. passed + fault.passed < 2 ^ 64) }
+    ensures { result ≡ behind passed step }
+{
+    match step {
+        Ok(at) => Ok(At {
+            bit: at.bit,
+            passed: passed + at.passed,
+        }),
+        Err(fault) => Err(Fault {
+            number: fault.number,
+            passed: passed + fault.passed,
+        }),
+    }
 }
 
 // n components from bit p.
-pub fn components(s: &[u8], p: usize, n: usize) -> Step
+pub fn components(s: &[u8], p: usize, n: usize) -> Result<At, Fault>
     requires { (length s.now ≤ 65536) × (p ≤ 8 * length s.now) }
     ensures { result ≡ step_at (times n component) s.now p }
 {
     let end = 8 * s.len();
     let mut q = p;
-    let mut i = 0;
-    while i < n {
+    for passed in 0..n {
         if end - q < 32 {
-            return Step::Fault(13, i);
+            return Err(Fault { number: 13, passed });
         }
-        if format_pattern::is_small(bits::get(s, q, 32)) {
-            q += 32;
-            i += 1;
-        } else {
-            return Step::Fault(7, i);
+        if !format_pattern::is_small(bits::get(s, q, 32)) {
+            return Err(Fault { number: 7, passed });
         }
+        q += 32;
     }
-    Step::At(q, i)
+    Ok(At { bit: q, passed: n })
 }
 
 // n colours of a tile from bit p, whose counts sum to at most the tile's size.
-pub fn tile_colours(e: Edition, s: &[u8], p: usize, n: usize) -> Step
+pub fn tile_colours(e: Edition, s: &[u8], p: usize, n: usize) -> Result<At, Fault>
     requires { Proper e × (length s.now ≤ 65536) × (p ≤ 8 * length s.now) }
     ensures { result ≡ step_at (colours e n 0) s.now p }
 {
     let end = 8 * s.len();
-    let mut q = p;
-    let mut passed = 0;
+    let mut at = At { bit: p, passed: 0 };
     let mut sum: u32 = 0;
-    let mut i = 0;
-    while i < n {
-        if end - q < e.each {
-            return Step::Fault(13, passed);
+    for i in 0..n {
+        let passed = at.passed;
+        if end - at.bit < e.each {
+            return Err(Fault { number: 13, passed });
         }
-        let c = bits::get(s, q, e.each) + 1;
+        let c = bits::get(s, at.bit, e.each) + 1;
         if e.size < sum + c {
-            return Step::Fault(6, passed);
+            return Err(Fault { number: 6, passed });
         }
-        match components(s, q + e.each, 3) {
-            Step::Fault(f, k) => return Step::Fault(f, passed + k),
-            Step::At(z, k) => {
-                q = z;
-                passed += k;
-                sum += c;
-                i += 1;
-            }
-        }
+        at = behind(passed, components(s, at.bit + e.each, 3))?;
+        sum += c;
     }
-    Step::At(q, passed)
+    Ok(at)
 }

@@ -8,9 +8,7 @@ use Rattle.format.specs.Format.{Res, fault, got, next, past, times}
 use Rattle.format.proofs.Reading.{both-fault, both-got}
 use Rattle.sheet_format.specs.declared.Edition.{Edition}
 use Rattle.sheet_format.specs.Sheet.{component, Colour, tile, rest}
-use Rattle.sheet_colours.specs.declared.Step.{Step}
-use Rattle.sheet_colours.specs.declared.Step.TheVariants.{Fault}
-use Rattle.sheet_colours.specs.Steps.{step_of, step_at, behind}
+use Rattle.sheet_colours.specs.Steps.{Step, stopped, step_of, step_at, behind}
 
 module _ (E : Edition) (s : List ℕ) (p n t : ℕ) where
   abbrev answered : Res (List ℕ × List (List Colour)) → Step
@@ -21,7 +19,7 @@ module _ (E : Edition) (s : List ℕ) (p n t : ℕ) where
   forget a (fault m i) = refl
   forget a (got b r) = refl
 
-  pub rest-fault : (f i : ℕ) → (times n component).parse (drop p (bits s)) ≡ fault f i → step_at (rest E n t) s p ≡ Fault f i
+  pub rest-fault : (f i : ℕ) → (times n component).parse (drop p (bits s)) ≡ fault f i → step_at (rest E n t) s p ≡ stopped f i
   rest-fault f i e = ap answered (both-fault (times n component) (λ p. times t (tile E)) (drop p (bits s)) f i e)
 
   pub rest-got : (a : List ℕ) (q passed : ℕ) → passed ≡ (times n component).counts a → (times n component).parse (drop p (bits s)) ≡ got a (drop q (bits s))

@@ -13,17 +13,16 @@ use Rattle.format.proofs.Reading.{field-short, field_found, checked-fault, check
 use Rattle.sheet_format.specs.declared.Edition.{Edition}
 use Rattle.sheet_format.specs.Sheet.{Colour, colours, tile}
 use Rattle.sheet_format.proofs.Exact.{colours_lawful, colours-long}
-use Rattle.sheet_colours.specs.declared.Step.TheVariants.{Fault, At}
-use Rattle.sheet_colours.specs.Steps.{step_of, step_at}
+use Rattle.sheet_colours.specs.Steps.{reached, stopped, step_of, step_at}
 
 module _ (E : Edition) (s : List ℕ) (p : ℕ) where
   -- the n colours that were read hold as many components by either format
   same-counts : (n : ℕ) (l : List Bool) (x : Res (List Colour)) → (colours E n 0).parse l ≡ x → step_of (tile E).counts (bits s) x ≡ step_of (colours E n 0).counts (bits s) x
   same-counts n l (fault m i) e = refl
   same-counts n l (got v r) e =
-      ap (λ (m : ℕ). At (length (bits s) - length r) ((colours E m 0).counts v)) (colours-long E n 0 v ((colours_lawful E n 0).back l v r e).1)
+      ap (λ (m : ℕ). reached (length (bits s) - length r) ((colours E m 0).counts v)) (colours-long E n 0 v ((colours_lawful E n 0).back l v r e).1)
 
-  pub tile-short : 8 * length s - p < E.many → step_at (tile E) s p ≡ Fault 13 0
+  pub tile-short : 8 * length s - p < E.many → step_at (tile E) s p ≡ stopped 13 0
   tile-short h =
       ap (λ (x : Res ℕ). step_of (tile E).counts (bits s) (next x (λ n r. (colours E n 0).parse r)))
       (checked-fault 5 (λ n. leb n E.size) (field E.many) (drop p (bits s)) 13 0 (field-short E.many (bits s) p (rw length-bits h)))
@@ -35,7 +34,7 @@ module _ (E : Edition) (s : List ℕ) (p : ℕ) where
       (checked-got 5 (λ n. leb n E.size) (field E.many) (drop p (bits s)) n (drop (p + E.many) (bits s)) b
       (field_found E.many (bits s) p n (rw length-bits h) e) f)
 
-  pub tile-many : (n : ℕ) → p + E.many ≤ 8 * length s → n ≡ field_at (bits s) p E.many → E.size < n → step_at (tile E) s p ≡ Fault 5 0
+  pub tile-many : (n : ℕ) → p + E.many ≤ 8 * length s → n ≡ field_at (bits s) p E.many → E.size < n → step_at (tile E) s p ≡ stopped 5 0
   tile-many n h e l = number n false h e (lt-leb n E.size l)
 
   pub tile-read : (n : ℕ) → p + E.many ≤ 8 * length s → n ≡ field_at (bits s) p E.many → n ≤ E.size → step_at (tile E) s p ≡ step_at (colours E n 0) s (p + E.many)

@@ -8,8 +8,5 @@ use Rattle.sheet_format.specs.Sheet.{component}
 use Rattle.sheet_colours.specs.Steps.{step_at, behind}
 use Rattle.sheet_colours.proofs.components.Given as goal
 
-abbrev pub invariant-loop-i : goal.invariant-loop-i
-invariant-loop-i l = (l.i ≤ l.n) × (l.q ≤ 8 * length l.s) × (behind l.i (step_at (times (l.n - l.i) component) l.s l.q) ≡ step_at (times l.n component) l.s l.p)
-
-abbrev pub decreases-loop-i : goal.decreases-loop-i
-decreases-loop-i l = l.n - l.i
+abbrev pub invariant-loop-passed : goal.invariant-loop-passed
+invariant-loop-passed l = (l.q ≤ 8 * length l.s) × (behind l.passed (step_at (times (l.n - l.passed) component) l.s l.q) ≡ step_at (times l.n component) l.s l.p)

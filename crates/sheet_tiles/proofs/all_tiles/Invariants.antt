@@ -9,7 +9,4 @@ use Rattle.sheet_colours.specs.Steps.{step_at, behind}
 use Rattle.sheet_tiles.proofs.all_tiles.Given as goal
 
 abbrev pub invariant-loop-i : goal.invariant-loop-i
-invariant-loop-i l = (l.i ≤ l.t) × (l.q ≤ 8 * length l.s) × (l.passed ≤ l.q) × (behind l.passed (step_at (times (l.t - l.i) (tile l.e)) l.s l.q) ≡ step_at (times l.t (tile l.e)) l.s l.p)
-
-abbrev pub decreases-loop-i : goal.decreases-loop-i
-decreases-loop-i l = l.t - l.i
+invariant-loop-i l = (l.at.bit ≤ 8 * length l.s) × (l.at.passed ≤ l.at.bit) × (behind l.at.passed (step_at (times (l.t - l.i) (tile l.e)) l.s l.at.bit) ≡ step_at (times l.t (tile l.e)) l.s l.p)
