@@ -18,12 +18,13 @@ use Rattle.sheet_format.proofs.Light.{rest_light}
 use Rattle.sheet_format.proofs.Headed.{header-rest, header-sized, header-long}
 use Rattle.sheet_format.specs.declared.Edition.{Edition}
 use Rattle.sheet_format.specs.Sheet.{Header, Colour, Parts, fault_of, whole, header, rest, sheet, read_sheet}
-use Rattle.sheet_colours.specs.declared.Step.TheVariants.{At}
+use Rattle.std.specs.Prelude.{Ok}
+use Rattle.sheet_colours.specs.declared.At.{At}
 use Rattle.sheet_check.specs.declared.Checked.{Checked}
 use Rattle.sheet_check.specs.declared.Checked.TheVariants.{Refused, Sound}
 use Rattle.sheet_colours.specs.Steps.{step_at}
 use Rattle.sheet_check.specs.Steps.{head_of, checked_of}
-use Rattle.sheet_colours.proofs.Turns.{step_at_lem}
+use Rattle.sheet_colours.proofs.Turns.{read_at}
 
 -- ---- the head's answer, taken apart
 refused-is : (x y : Refusal) → ◌≡◌ {A = Checked} (Refused x) (Refused y) → x ≡ y
@@ -67,9 +68,9 @@ module _ (E : Edition) where
     pub reads : (rest E n t).parse (drop 86 (bits s)) ≡ got parts (drop z (bits s))
     pub reach : z ≤ 8 * length s
 
-  pub parted_of : (s : List ℕ) (n t z k : ℕ) → 86 ≤ 8 * length s → At z k ≡ step_at (rest E n t) s 86 → Parted s n t z
-  parted_of s n t z k h e =
-      let x = step_at_lem (rest E n t) (rest_lawful E n t) (rest_light E n t) (bits s) 86 (rw length-bits h) z k e in
+  pub parted_of : (s : List ℕ) (n t : ℕ) (a : At) → 86 ≤ 8 * length s → Ok a ≡ step_at (rest E n t) s 86 → Parted s n t a.bit
+  parted_of s n t a h e =
+      let x = read_at (rest E n t) (rest_lawful E n t) (rest_light E n t) s 86 h (Ok a) e in
       record { parts = x.value; reads = x.reads; reach = omega (arith, x.inside, length-bits s) }
 
 -- ---- the whole

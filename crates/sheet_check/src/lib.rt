@@ -94,9 +94,9 @@ pub fn check(e: Edition, s: &[u8]) -> Checked
                 n as usize,
                 tiles as usize,
             ) {
-                sheet_colours::Step::Fault(f, k) => Checked::Refused(fault_of(f, k)),
-                sheet_colours::Step::At(z, _) => {
-                    if only_spare(s, z) {
+                Err(fault) => Checked::Refused(fault_of(fault.number, fault.passed)),
+                Ok(at) => {
+                    if only_spare(s, at.bit) {
                         Checked::Sound {
                             subs,
                             each,

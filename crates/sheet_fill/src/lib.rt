@@ -18,12 +18,10 @@ pub fn fill_components(s: &[u8], p: usize, n: usize, dst: &mut [f32], at: usize)
     ensures { dst.new ≡ sets dst.old at (floats (list_at (times n component) s.now p)) }
 {
     let mut q = p;
-    let mut i = 0;
-    while i < n {
+    for i in 0..n {
         let k = at + i;
         dst[k] = format_pattern::component(bits::get(s, q, 32));
         q += 32;
-        i += 1;
     }
 }
 
@@ -42,13 +40,11 @@ pub fn fill_colours(
         × (parts.new ≡ sets parts.old (3 * k) (tile_floats (list_at (colours e n 0) s.now p))) }
 {
     let mut q = p;
-    let mut i = 0;
-    while i < n {
+    for i in 0..n {
         let j = k + i;
         counts[j] = bits::get(s, q, e.each) + 1;
         fill_components(s, q + e.each, 3, parts, 3 * j);
         q += e.each + sheet_format::COLOUR_BITS;
-        i += 1;
     }
 }
 
@@ -71,8 +67,7 @@ pub fn fill_tiles(
 {
     let mut q = p;
     let mut k = 0;
-    let mut i = 0;
-    while i < t {
+    for i in 0..t {
         let n = bits::get(s, q, e.many) as usize;
         let j = 2 * i;
         table[j] = k as u32;
@@ -80,6 +75,5 @@ pub fn fill_tiles(
         fill_colours(e, s, q + e.many, n, counts, parts, k);
         q += e.many + (e.each + sheet_format::COLOUR_BITS) * n;
         k += n;
-        i += 1;
     }
 }

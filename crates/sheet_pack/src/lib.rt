@@ -21,12 +21,9 @@ pub fn pack_components(dst: &mut [u8], p: usize, src: &[f32])
     ensures { bits dst.new ≡ sets (bits dst.old) p (words (patterns src.now)) }
 {
     let mut q = p;
-    let mut i = 0;
-    while i < src.len() {
-        let v = f32::to_bits(src[i]);
-        bits::put(dst, q, 32, v);
+    for x in src {
+        bits::put(dst, q, 32, x.to_bits());
         q += 32;
-        i += 1;
     }
 }
 
@@ -36,13 +33,11 @@ pub fn pack_colours(e: Edition, dst: &mut [u8], p: usize, counts: &[u32], colour
     ensures { bits dst.new ≡ sets (bits dst.old) p (colours_bits e (colours_of counts.now colours.now)) }
 {
     let mut q = p;
-    let mut i = 0;
-    while i < counts.len() {
+    for i in 0..counts.len() {
         let at = 3 * i;
         bits::put(dst, q, e.each, counts[i] - 1);
         pack_components(dst, q + e.each, &colours[at..at + 3]);
         q += e.each + sheet_format::COLOUR_BITS;
-        i += 1;
     }
 }
 
@@ -69,12 +64,10 @@ pub fn pack_tiles(
     ensures { bits dst.new ≡ sets (bits dst.old) p (tiles_bits e (tiles_from tiles.now colours.now counts.now 0 z.t)) }
 {
     let mut q = p;
-    let mut i = 0;
-    while i < z.t {
+    for i in 0..z.t {
         let part = job::counts_part(tiles, counts, i);
         pack_tile(e, dst, q, part, job::tile_part(tiles, colours, i));
         q += e.many + (e.each + sheet_format::COLOUR_BITS) * part.len();
-        i += 1;
     }
 }
 

@@ -3,7 +3,11 @@ use Prim.Native.Nat.{◌*◌}
 use mathlib.Core.Path.{sym, ap, ◌∙◌}
 use mathlib.Core.Bool.{true, false}
 use native.Mathlib.Omega.{arith}
-use Rattle.sheet_colours.proofs.Turns.{step-fault}
+use Rattle.sheet_colours.proofs.Turns.{read_at}
+use Rattle.std.specs.Prelude.{Err}
+use Rattle.sheet_format.specs.Sheet.{rest}
+use Rattle.sheet_format.proofs.Exact.{rest_lawful}
+use Rattle.sheet_format.proofs.Light.{rest_light}
 use Rattle.sheet_check.specs.declared.Checked.TheVariants.{Refused}
 use Rattle.sheet_check.proofs.Whole.{headed_of, parted_of, read-long, read_head, read-rest, read_end}
 use Rattle.sheet_check.proofs.check.Goals as goal
@@ -41,26 +45,26 @@ pub only_spare-requires : goal.only_spare-requires
 only_spare-requires c =
     let a = c.args in let x = c.in-Sound in
     let h = headed_of a.e a.s.now x.subs x.each x.tiles x.weight x.ensures in
-    let z = c.in-At in
-    let parts = parted_of a.e a.s.now (3 * (x.subs * x.each)) x.tiles z.z z.field-1 h.long z.ensures in
+    let parts = parted_of a.e a.s.now (3 * (x.subs * x.each)) x.tiles c.in-Ok.at h.long c.in-Ok.ensures in
     (omega arith, parts.reach)
 
 pub returns-in-Refused : goal.returns-in-Refused
 returns-in-Refused c = read_head c.args.e c.args.s.now (omega arith) c.in-Refused.refusal c.in-Refused.ensures
 
-pub returns-in-Fault : goal.returns-in-Fault
-returns-in-Fault c =
+pub returns-in-Err : goal.returns-in-Err
+returns-in-Err c =
     let a = c.args in let x = c.in-Sound in
     let h = headed_of a.e a.s.now x.subs x.each x.tiles x.weight x.ensures in
+    let fault = c.in-Err.fault in
     ap Refused c.fault_of.ensures
-    ∙ read-rest a.e a.s.now (omega arith) x.subs x.each x.tiles x.weight _ h.reads c.in-Fault.f c.in-Fault.k (step-fault _ _ _ _ _ c.in-Fault.ensures)
+    ∙ read-rest a.e a.s.now (omega arith) x.subs x.each x.tiles x.weight _ h.reads fault.number fault.passed
+    (read_at (rest a.e (3 * (x.subs * x.each)) x.tiles) (rest_lawful a.e (3 * (x.subs * x.each)) x.tiles) (rest_light a.e (3 * (x.subs * x.each)) x.tiles) a.s.now 86 h.long (Err fault) c.in-Err.ensures).0
 
 pub returns-then-only_spare : goal.returns-then-only_spare
 returns-then-only_spare c =
     let a = c.args in let x = c.in-Sound in
     let h = headed_of a.e a.s.now x.subs x.each x.tiles x.weight x.ensures in
-    let z = c.in-At in
-    let parts = parted_of a.e a.s.now (3 * (x.subs * x.each)) x.tiles z.z z.field-1 h.long z.ensures in
+    let parts = parted_of a.e a.s.now (3 * (x.subs * x.each)) x.tiles c.in-Ok.at h.long c.in-Ok.ensures in
     read_end a.e a.s.now (omega arith) x.subs x.each x.tiles x.weight _ h.reads parts.parts _ true parts.reads
     (sym c.only_spare.ensures ∙ c.if-only_spare.true)
 
@@ -68,7 +72,6 @@ pub returns-else-only_spare : goal.returns-else-only_spare
 returns-else-only_spare c =
     let a = c.args in let x = c.in-Sound in
     let h = headed_of a.e a.s.now x.subs x.each x.tiles x.weight x.ensures in
-    let z = c.in-At in
-    let parts = parted_of a.e a.s.now (3 * (x.subs * x.each)) x.tiles z.z z.field-1 h.long z.ensures in
+    let parts = parted_of a.e a.s.now (3 * (x.subs * x.each)) x.tiles c.in-Ok.at h.long c.in-Ok.ensures in
     read_end a.e a.s.now (omega arith) x.subs x.each x.tiles x.weight _ h.reads parts.parts _ false parts.reads
     (sym c.only_spare.ensures ∙ c.if-only_spare.false)

