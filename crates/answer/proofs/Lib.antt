@@ -2,3 +2,4 @@ pub mod Passing
 pub mod Places
 pub mod Outcomes
 pub mod Words
+pub mod Refusals

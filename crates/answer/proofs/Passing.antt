@@ -7,8 +7,8 @@ use native.Mathlib.Omega.{arith}
 use lib.Dec.{eqb, ltb}
 use borrow.Author.Tests.{eqb-true, eqb-false, eq-eqb, ne_eqb, ltb-true, not-true, not-false}
 use Rattle.lists.proofs.Tests.{and_l, and_r}
-use Rattle.answer.specs.declared.Refusal.{Refusal}
-use Rattle.answer.specs.Rules.{nothing, Rule, answer, numbered, Passed}
+use Rattle.answer.specs.Refusals.{Answered, nothing}
+use Rattle.answer.specs.Rules.{Rule, answer, numbered, Passed}
 
 not-zero : (n : ℕ) → ltb 0 n ≡ true → n ≡ 0 → ⊥
 not-zero n h e = omega (arith, ltb-true 0 n h)
@@ -25,16 +25,16 @@ answer_then (r ∷ rs) ss h = by r.passed refl (answer_then rs ss (and_r (ltb 0 
     by false e rest = rw (e, ne_eqb r.refusal.number 0 (not-zero r.refusal.number (and_l (ltb 0 r.refusal.number) (numbered rs) h)))
 
 -- the first list answers
-pub stops : (rs ss : List Rule) (a : Refusal) → numbered rs ≡ true → a ≡ answer rs → (a.number ≡ 0 → ⊥) → a ≡ answer (rs ++ ss)
+pub stops : (rs ss : List Rule) (a : Answered) → numbered rs ≡ true → a ≡ answer rs → (a.number ≡ 0 → ⊥) → a ≡ answer (rs ++ ss)
 stops rs ss a h e n = rw (answer_then rs ss h, ← e, ne_eqb a.number 0 n)
 
 -- the first list passes, and the second answers
-pub goes : (rs ss : List Rule) (a b : Refusal) → numbered rs ≡ true → a ≡ answer rs → a.number ≡ 0 → b ≡ answer ss → b ≡ answer (rs ++ ss)
+pub goes : (rs ss : List Rule) (a b : Answered) → numbered rs ≡ true → a ≡ answer rs → a.number ≡ 0 → b ≡ answer ss → b ≡ answer (rs ++ ss)
 goes rs ss a b h e z w = rw (answer_then rs ss h, ← e, eq-eqb a.number 0 z, ← w)
 
 -- 0 of both where the whole is 0
 pub both_pass : (rs ss : List Rule) → numbered rs ≡ true → (answer (rs ++ ss)).number ≡ 0 → ((answer rs).number ≡ 0) × ((answer ss).number ≡ 0)
-both_pass rs ss h e = by (eqb (answer rs).number 0) refl (sym (ap (λ (x : Refusal). x.number) (answer_then rs ss h)) ∙ e)
+both_pass rs ss h e = by (eqb (answer rs).number 0) refl (sym (ap (λ (x : Answered). x.number) (answer_then rs ss h)) ∙ e)
   where
     by : (b : Bool) → eqb (answer rs).number 0 ≡ b → (cond (eqb (answer rs).number 0) (answer ss) (answer rs)).number ≡ 0
         → ((answer rs).number ≡ 0) × ((answer ss).number ≡ 0)
@@ -42,7 +42,7 @@ both_pass rs ss h e = by (eqb (answer rs).number 0) refl (sym (ap (λ (x : Refus
     by false k f = absurd (eqb-false (answer rs).number 0 k (rw k at f))
 
 -- a rule that passes leaves it to the rest, one that fails answers
-pub skips : (q : Rule) (a : Refusal) (rs : List Rule) → q.passed ≡ true → a ≡ answer rs → a ≡ answer (q ∷ rs)
+pub skips : (q : Rule) (a : Answered) (rs : List Rule) → q.passed ≡ true → a ≡ answer rs → a ≡ answer (q ∷ rs)
 unfolding answer
 skips q a rs h e = rw (h, e)
 
@@ -59,7 +59,7 @@ none = refl
 pub refuses : (q : Rule) (r : Bool) (rs : List Rule) → r ≡ q.passed → not r ≡ true → q.refusal ≡ answer (q ∷ rs)
 refuses q r rs e h = fails q rs (sym e ∙ not-true r h)
 
-pub passes : (q : Rule) (a : Refusal) (r : Bool) (rs : List Rule) → r ≡ q.passed → not r ≡ false → a ≡ answer rs → a ≡ answer (q ∷ rs)
+pub passes : (q : Rule) (a : Answered) (r : Bool) (rs : List Rule) → r ≡ q.passed → not r ≡ false → a ≡ answer rs → a ≡ answer (q ∷ rs)
 passes q a r rs e h w = skips q a rs (sym e ∙ not-false r h) w
 
 -- 0 exactly where every rule passes
@@ -79,7 +79,7 @@ pass_all [] p = refl
 pass_all (r ∷ rs) p = rw (p.0, ← pass_all rs p.1)
 
 pub passed-number : (rs : List Rule) → Passed rs → (answer rs).number ≡ 0
-passed-number rs p = ap (λ (x : Refusal). x.number) (sym (pass_all rs p))
+passed-number rs p = ap (λ (x : Answered). x.number) (sym (pass_all rs p))
 
 pub number-nothing : (rs : List Rule) → numbered rs ≡ true → (answer rs).number ≡ 0 → nothing ≡ answer rs
 number-nothing rs h e = pass_all rs (all_pass rs h e)

@@ -6,8 +6,8 @@ use mathlib.Core.List.{List, [], ◌∷◌, ◌++◌}
 use lib.Dec.{eqb}
 use borrow.Author.Tests.{eqb-true, eq-eqb}
 use Rattle.lists.proofs.Tests.{and_l, and_r}
-use Rattle.answer.specs.declared.Refusal.{Refusal}
-use Rattle.answer.specs.Rules.{refusal, Rule, answer, Passed}
+use Rattle.answer.specs.Refusals.{Answered, refusal}
+use Rattle.answer.specs.Rules.{Rule, answer, Passed}
 use Rattle.answer.specs.Names.{Table, Names}
 
 -- no rule names an entry, and each number passes a test
@@ -15,7 +15,7 @@ abbrev pub plain : (ℕ → Bool) → List Rule → Bool
 plain test [] = true
 plain test (r ∷ rs) = (eqb r.refusal.index 0 && test r.refusal.number) && plain test rs
 
-module _ (P : Refusal → Type 0) where
+module _ (P : Answered → Type 0) where
   -- one rule before others
   pub rule_then : (q : Rule) (rs : List Rule) → (q.passed ≡ false → P q.refusal) → (q.passed ≡ true → P (answer rs)) → P (answer (q ∷ rs))
   unfolding answer
@@ -49,7 +49,7 @@ unfolding answer
 number_passes test z [] h = z
 number_passes test z (r ∷ rs) h =
     let here = test r.refusal.number in
-    rule_then (λ (e : Refusal). test e.number ≡ true) r rs (λ _. and_l here (numbers test rs) h) (λ _. number_passes test z rs (and_r here (numbers test rs) h))
+    rule_then (λ (e : Answered). test e.number ≡ true) r rs (λ _. and_l here (numbers test rs) h) (λ _. number_passes test z rs (and_r here (numbers test rs) h))
 
 -- ---- a table of names: a number that it does not have names no entry
 abbrev pub aside : Table → ℕ → Bool

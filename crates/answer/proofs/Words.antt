@@ -7,7 +7,7 @@ use native.Mathlib.Nat.{add-zero, mod-eq_of_lt, div-eq_of_lt, mul-add-mod_self_r
 use native.Mathlib.Omega.{arith}
 use lib.Dec.{ltb}
 use borrow.Author.Tests.{eq-eqb, ne_eqb, ltb-true}
-use Rattle.answer.specs.declared.Refusal.{Refusal}
+use Rattle.answer.specs.Refusals.{Answered}
 use Rattle.answer.specs.Rules.{Rule, answer}
 use Rattle.answer.specs.Words.{value_of, word}
 use Rattle.answer.proofs.Places.{numbers, number_passes}
@@ -17,7 +17,7 @@ pub record Apart (word number value : ℕ) : Type 0 where
   pub low : word % 256 ≡ number
   pub rest : word / 256 ≡ value
 
-pub apart : (e : Refusal) (value : ℕ) → e.number < 256 → Apart (word e value) e.number (value_of e value)
+pub apart : (e : Answered) (value : ℕ) → e.number < 256 → Apart (word e value) e.number (value_of e value)
 apart e value h =
     record {
       low = mul-add-mod_self_right (value_of e value) 256 e.number ∙ mod-eq_of_lt h;
@@ -25,10 +25,10 @@ apart e value h =
     }
 
 -- ---- the word of what is done, and of a refusal
-pub word-done : (e : Refusal) (value : ℕ) → e.number ≡ 0 → value * 256 ≡ word e value
+pub word-done : (e : Answered) (value : ℕ) → e.number ≡ 0 → value * 256 ≡ word e value
 word-done e value h = rw (eq-eqb e.number 0 h, h) (sym (add-zero (value * 256)))
 
-pub word-refused : (e : Refusal) (value : ℕ) → (e.number ≡ 0 → ⊥) → e.index * 256 + e.number ≡ word e value
+pub word-refused : (e : Answered) (value : ℕ) → (e.number ≡ 0 → ⊥) → e.index * 256 + e.number ≡ word e value
 word-refused e value h = rw (ne_eqb e.number 0 h)
 
 -- ---- an answer's number is a rule's, and each of these is below 256

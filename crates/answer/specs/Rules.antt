@@ -1,18 +1,10 @@
 -- What a call answers: a number and an index, by a list of rules of which the first that fails decides. Definitions only. Assumes nothing.
 use Rattle.std.specs.Prelude.{ℕ, ◌≡◌, Bool, true, cond, ◌&&◌, List, [], ◌∷◌, ltb}
-use Rattle.answer.specs.declared.Refusal.{Refusal}
-
--- a number of docs/SCOPE.md's table, and the index of the entry at fault, 0 where the number names none
-abbrev pub refusal : ℕ → ℕ → Refusal
-refusal number index = record { number = number; index = index }
-
--- nothing is wrong
-abbrev pub nothing : Refusal
-nothing = refusal 0 0
+use Rattle.answer.specs.Refusals.{Answered, refusal, nothing}
 
 -- a test, and what is answered where it fails
 pub record Rule : Type 0 where
-  pub refusal : Refusal
+  pub refusal : Answered
   pub passed : Bool
 
 abbrev pub rule_at : ℕ → ℕ → Bool → Rule
@@ -23,7 +15,7 @@ abbrev pub rule : ℕ → Bool → Rule
 rule number p = rule_at number 0 p
 
 -- what the first rule that fails answers; nothing where none does
-unfoldable pub answer : List Rule → Refusal
+unfoldable pub answer : List Rule → Answered
 answer [] = nothing
 answer (r ∷ rs) = cond r.passed (answer rs) r.refusal
 

@@ -1,104 +1,78 @@
-// What every call answers: a number with an index, and both in one word for hosts. Assumes nothing.
+// What every call answers: nothing wrong or a refusal, with its number, and the index of the entry at fault; and an answer in one word for
+// hosts. Assumes nothing.
 #![tactic(auto)]
 
-ghost use Rattle.std.specs.Prelude.{◌≡◌, ◌≤◌};
-ghost use Rattle.answer.specs.Words.{word};
+ghost use Rattle.std.specs.Prelude.{◌≡◌};
+ghost use Rattle.answer.specs.Refusals.{number_of, index_of, Few};
+ghost use Rattle.answer.specs.Words.{word_of};
 
-// A number of docs/SCOPE.md's table, 0 where nothing is wrong, and the index of the entry at fault, 0 where the number names none.
-#[derive(Drop)]
-pub struct Refusal {
-    pub number: u32,
-    pub index: usize,
+// Why a call is refused; docs/SCOPE.md's table has the number of each. Where a colour or a pixel is at fault, its index.
+#[derive(Clone, Copy, Debug, PartialEq, Eq)]
+pub enum Refusal {
+    NoSamples,
+    Sizes,
+    Lengths,
+    Weight,
+    Tiles,
+    Counts,
+    Colour(usize),
+    Samples,
+    Order,
+    Record,
+    Moment,
+    SheetHead,
+    SheetBytes,
+    SameColour,
+    EmptyTile,
+    WorkingColour(usize),
+    ReducedColour(usize),
+    OtherSizes,
 }
 
-// The answers that name no entry, as include/dunkafeto.h calls their numbers.
-pub const DONE: Refusal = Refusal {
-    number: 0,
-    index: 0,
-};
-
-pub const NO_SAMPLES: Refusal = Refusal {
-    number: 1,
-    index: 0,
-};
-
-pub const SIZES: Refusal = Refusal {
-    number: 2,
-    index: 0,
-};
-
-pub const LENGTHS: Refusal = Refusal {
-    number: 3,
-    index: 0,
-};
-
-pub const WEIGHT: Refusal = Refusal {
-    number: 4,
-    index: 0,
-};
-
-pub const TILES: Refusal = Refusal {
-    number: 5,
-    index: 0,
-};
-
-pub const COUNTS: Refusal = Refusal {
-    number: 6,
-    index: 0,
-};
-
-pub const SAMPLES: Refusal = Refusal {
-    number: 8,
-    index: 0,
-};
-
-pub const ORDER: Refusal = Refusal {
-    number: 9,
-    index: 0,
-};
-
-pub const RECORD: Refusal = Refusal {
-    number: 10,
-    index: 0,
-};
-
-pub const MOMENT: Refusal = Refusal {
-    number: 11,
-    index: 0,
-};
-
-pub const SHEET_HEAD: Refusal = Refusal {
-    number: 12,
-    index: 0,
-};
-
-pub const SHEET_BYTES: Refusal = Refusal {
-    number: 13,
-    index: 0,
-};
-
-pub const SAME_COLOUR: Refusal = Refusal {
-    number: 14,
-    index: 0,
-};
-
-pub const EMPTY_TILE: Refusal = Refusal {
-    number: 15,
-    index: 0,
-};
-
-pub const OTHER_SIZES: Refusal = Refusal {
-    number: 20,
-    index: 0,
-};
-
-// A value times 256, and the number. The value of a refusal is its index; both are far smaller than what fits here.
-pub fn word(e: Refusal, value: u64) -> u64
-    requires { (e.index ≤ 0xffff_ffff) × (value ≤ 0xffff_ffff) }
-    ensures { result ≡ word e value }
-{
-    if e.number == 0 {
-        return value * 256;
+impl Refusal {
+    pub fn number(self) -> u32
+        ensures { result ≡ number_of self }
+    {
+        match self {
+            Refusal::NoSamples => 1,
+            Refusal::Sizes => 2,
+            Refusal::Lengths => 3,
+            Refusal::Weight => 4,
+            Refusal::Tiles => 5,
+            Refusal::Counts => 6,
+            Refusal::Colour(_) => 7,
+            Refusal::Samples => 8,
+            Refusal::Order => 9,
+            Refusal::Record => 10,
+            Refusal::Moment => 11,
+            Refusal::SheetHead => 12,
+            Refusal::SheetBytes => 13,
+            Refusal::SameColour => 14,
+            Refusal::EmptyTile => 15,
+            Refusal::WorkingColour(_) => 16,
+            Refusal::ReducedColour(_) => 17,
+            Refusal::OtherSizes => 20,
+        }
     }
-    e.index as u64 * 256 + e.number as u64
+
+    // 0 where the refusal names no entry.
+    pub fn index(self) -> usize
+        ensures { result ≡ index_of self }
+    {
+        match self {
+            Refusal::Colour(i) | Refusal::WorkingColour(i) | Refusal::ReducedColour(i) => i,
+            _ => 0,
+        }
+    }
+}
+
+// A value times 256; or of a refusal its index times 256, and its number. Both are far smaller than what fits here.
+pub fn word(answer: Result<u64, Refusal>) -> u64
+    requires { Few answer }
+    ensures { result ≡ word_of answer }
+{
+    match answer {
+        Ok(value) => value * 256,
+        Err(e) => e.index() as u64 * 256 + e.number() as u64,
+    }
 }

@@ -4,12 +4,11 @@ use mathlib.Core.Path.{◌≡◌, refl}
 use mathlib.Core.List.{List, [], ◌∷◌, ◌++◌}
 use lib.ListN.{replicate}
 use lib.Ieee.{Float, nan, binary32, of_bits, to_bits, le, neg}
-use Rattle.answer.specs.Rules.{refusal}
+use Rattle.answer.specs.Refusals.{refusal}
 use Rattle.answer.specs.Outcome.{outcome, decided}
 use Rattle.job.specs.Checks.{tile_sized, within}
-use Rattle.group_pixels.specs.declared.Zero.TheVariants.{Given, Absent}
 use Rattle.group_pixels.specs.Pixel.{is_zero, kept, same_bytes, in_gamut, same_bits, clash}
-use Rattle.group.specs.declared.Grouped.TheVariants.{Done}
+use Rattle.std.specs.Prelude.{Some, None, Ok, Err}
 use Rattle.group_refusal.specs.Refusal.{given, EntryRoom, entry_room, some, first_of, fault, lengths_fit, pixels_fit, refusal_where, group_answer}
 use Rattle.group.specs.Entries.{join, place, entries, indexes, bytes_of, oklab_of, counts_of, left}
 use Rattle.group.specs.Group.{grouping}
@@ -46,50 +45,50 @@ abbrev room : ℕ → EntryRoom
 room n = entry_room (replicate (4 * n) 9) (replicate (3 * n) nan) (replicate n 9) (replicate n 9)
 
 -- red, clear, blue, red: the clear pixel leaves its place, and the rest of the room stays as found
-pub two-entries : grouping 64 (given 4 (red ++ clear ++ blue ++ red) (half ++ outside ++ edge ++ half) Absent) (room 4)
-    ≡ outcome (Done 2) (entry_room (red ++ blue ++ replicate 8 9) (half ++ edge ++ replicate 6 nan) (2 ∷ 1 ∷ 9 ∷ 9 ∷ []) (0 ∷ 9 ∷ 1 ∷ 0 ∷ []))
+pub two-entries : grouping 64 (given 4 (red ++ clear ++ blue ++ red) (half ++ outside ++ edge ++ half) None) (room 4)
+    ≡ outcome (Ok 2) (entry_room (red ++ blue ++ replicate 8 9) (half ++ edge ++ replicate 6 nan) (2 ∷ 1 ∷ 9 ∷ 9 ∷ []) (0 ∷ 9 ∷ 1 ∷ 0 ∷ []))
 unfolding is_zero kept same_bytes join place entries indexes bytes_of oklab_of counts_of left within in_gamut same_bits clash some first_of fault lengths_fit tile_sized pixels_fit refusal_where grouping decided le neg of_bits to_bits
 two-entries = refl
 
 -- with red as colour zero, blue alone is kept, whatever the Oklab of the others
-pub one_entry : grouping 64 (given 3 (red ++ blue ++ red) (half ++ half ++ other) (Given 255 0 0)) (room 3)
-    ≡ outcome (Done 1) (entry_room (blue ++ replicate 8 9) (half ++ replicate 6 nan) (1 ∷ 9 ∷ 9 ∷ []) (9 ∷ 0 ∷ 9 ∷ []))
+pub one_entry : grouping 64 (given 3 (red ++ blue ++ red) (half ++ half ++ other) (Some (record { r = 255; g = 0; b = 0 }))) (room 3)
+    ≡ outcome (Ok 1) (entry_room (blue ++ replicate 8 9) (half ++ replicate 6 nan) (1 ∷ 9 ∷ 9 ∷ []) (9 ∷ 0 ∷ 9 ∷ []))
 unfolding is_zero kept same_bytes join place entries indexes bytes_of oklab_of counts_of left within in_gamut same_bits clash some first_of fault lengths_fit tile_sized pixels_fit refusal_where grouping decided le neg of_bits to_bits
 one_entry = refl
 
 -- no pixel is accepted
-pub none : grouping 64 (given 0 [] [] Absent) (room 0) ≡ outcome (Done 0) (room 0)
+pub none : grouping 64 (given 0 [] [] None) (room 0) ≡ outcome (Ok 0) (room 0)
 unfolding entries indexes bytes_of oklab_of counts_of left first_of lengths_fit tile_sized pixels_fit refusal_where grouping decided
 none = refl
 
 -- one pixel more than the tile size allows, and a size that there is not
-pub too_many : group_answer 64 (given 65 [] [] Absent) (room 65) ≡ refusal 2 0
+pub too_many : group_answer 64 (given 65 [] [] None) (room 65) ≡ refusal 2 0
 unfolding tile_sized pixels_fit refusal_where
 too_many = refl
 
-pub too_many_for_large : group_answer 256 (given 257 [] [] Absent) (room 257) ≡ refusal 2 0
+pub too_many_for_large : group_answer 256 (given 257 [] [] None) (room 257) ≡ refusal 2 0
 unfolding tile_sized pixels_fit refusal_where
 too_many_for_large = refl
 
-pub no_such_size : group_answer 128 (given 0 [] [] Absent) (room 0) ≡ refusal 2 0
+pub no_such_size : group_answer 128 (given 0 [] [] None) (room 0) ≡ refusal 2 0
 unfolding tile_sized pixels_fit refusal_where
 no_such_size = refl
 
-pub too_short : group_answer 64 (given 1 red half Absent) (room 0) ≡ refusal 3 0
+pub too_short : group_answer 64 (given 1 red half None) (room 0) ≡ refusal 3 0
 unfolding lengths_fit tile_sized pixels_fit refusal_where
 too_short = refl
 
 -- 0 and -0 are different bits
-pub other-bits : group_answer 64 (given 2 (red ++ red) (half ++ other) Absent) (room 2) ≡ refusal 14 0
+pub other-bits : group_answer 64 (given 2 (red ++ red) (half ++ other) None) (room 2) ≡ refusal 14 0
 unfolding is_zero kept same_bytes within in_gamut same_bits clash some first_of fault lengths_fit tile_sized pixels_fit refusal_where le neg of_bits to_bits
 other-bits = refl
 
 -- the pixel that is outside differs from the first as well: 7 comes before 14, and names it
-pub seven_first : group_answer 64 (given 2 (red ++ red) (half ++ outside) Absent) (room 2) ≡ refusal 7 1
+pub seven_first : group_answer 64 (given 2 (red ++ red) (half ++ outside) None) (room 2) ≡ refusal 7 1
 unfolding is_zero kept same_bytes within in_gamut same_bits clash some first_of fault lengths_fit tile_sized pixels_fit refusal_where le neg of_bits to_bits
 seven_first = refl
 
 -- of three that are outside the clear one is not looked at, and the first of the others is named
-pub first_named : group_answer 64 (given 4 (red ++ clear ++ blue ++ red) (half ++ outside ++ outside ++ outside) Absent) (room 4) ≡ refusal 7 2
+pub first_named : group_answer 64 (given 4 (red ++ clear ++ blue ++ red) (half ++ outside ++ outside ++ outside) None) (room 4) ≡ refusal 7 2
 unfolding is_zero kept same_bytes within in_gamut same_bits clash some first_of fault lengths_fit tile_sized pixels_fit refusal_where le neg of_bits to_bits
 first_named = refl

@@ -1,4 +1,5 @@
 -- The search among the entries, and a turn by what the code found. Assumes nothing.
+use Rattle.std.specs.Prelude.{Option}
 use Prim.Native.Nat.{ℕ, zero, suc, ◌+◌, ◌-◌, ◌*◌, ◌<◌, ◌≤◌}
 use mathlib.Core.Path.{◌≡◌, refl, ◌∙◌, ap}
 use mathlib.Core.Bool.{Bool, true, false, cond}
@@ -12,7 +13,7 @@ use borrow.Author.Tests.{lt-ltb, le-ltb}
 use Rattle.color.specs.declared.Oklab.{Oklab}
 use Rattle.color.specs.Color.{colour_at, put_at}
 use Rattle.group_pixels.specs.declared.Rgba.{Rgba}
-use Rattle.group_pixels.specs.declared.Zero.{Zero}
+use Rattle.group_pixels.specs.declared.Rgb.{Rgb}
 use Rattle.group_pixels.specs.Pixel.{rgba_at, put_rgba, kept, same_bytes}
 use Rattle.group_refusal.specs.Refusal.{EntryRoom, entry_room}
 use Rattle.group_refusal.proofs.Faults.{one_more, told}
@@ -64,7 +65,7 @@ seek-most (suc n) s x = by (same_bytes (rgba_at s 0) x) (seek-most n (drop 4 s) 
 pub at_most : (n : ℕ) (s : List ℕ) (x : Rgba) (e : ℕ) → e ≡ seek n s x → e ≤ n
 at_most n s x e f = omega (arith, seek-most n s x)
 
-module _ (bytes : List ℕ) (oklab : List Float) (cz : Zero) (k n : ℕ) (m : EntryRoom) {x : Rgba} {b : Bool} (read : x ≡ rgba_at bytes k) (tested : b ≡ kept cz x) where
+module _ (bytes : List ℕ) (oklab : List Float) (cz : Option Rgb) (k n : ℕ) (m : EntryRoom) {x : Rgba} {b : Bool} (read : x ≡ rgba_at bytes k) (tested : b ≡ kept cz x) where
   pub turn_passes : b ≡ false → filled n m ≡ turn bytes oklab cz k (filled n m)
   unfolding turn
   turn_passes e = rw (told (kept cz) read tested e)

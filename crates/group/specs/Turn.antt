@@ -1,9 +1,9 @@
 -- Grouping as the code goes, one pixel a turn, on flat lists; the crate group ties it to entries. Definitions only. Assumes nothing.
-use Rattle.std.specs.Prelude.{cond, List, ℕ, zero, suc, ◌+◌, ◌*◌, ◌<◌, ◌≤◌, ltb, length, get_or, drop, set, Float}
+use Rattle.std.specs.Prelude.{Option, cond, List, ℕ, zero, suc, ◌+◌, ◌*◌, ◌<◌, ◌≤◌, ltb, length, get_or, drop, set, Float}
 use Rattle.color.specs.declared.Oklab.{Oklab}
 use Rattle.color.specs.Color.{colour_at, put_at}
 use Rattle.group_pixels.specs.declared.Rgba.{Rgba}
-use Rattle.group_pixels.specs.declared.Zero.{Zero}
+use Rattle.group_pixels.specs.declared.Rgb.{Rgb}
 use Rattle.group_pixels.specs.Pixel.{rgba_at, put_rgba, kept, same_bytes, There}
 use Rattle.group_refusal.specs.Refusal.{EntryRoom, entry_room}
 
@@ -49,7 +49,7 @@ abbrev pub settled : ℕ → ℕ → Rgba → Oklab → Filled → Filled
 settled k e x o f = cond (ltb e f.entries) (joined k e f) (begun k e x o f)
 
 -- the turn of pixel k
-unfoldable pub turn : List ℕ → List Float → Zero → ℕ → Filled → Filled
+unfoldable pub turn : List ℕ → List Float → Option Rgb → ℕ → Filled → Filled
 turn bytes oklab cz k f =
     cond (kept cz (rgba_at bytes k))
     (settled k (seek f.entries f.memory.bytes (rgba_at bytes k)) (rgba_at bytes k) (colour_at oklab k) f)

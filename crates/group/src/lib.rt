@@ -1,27 +1,28 @@
 // Grouping, from `extract` of the Rust: the kept pixels of a tile become entries, one for each colour, with a count of their pixels.
-// What the first pass did not refuse, a second one fills into the room that the caller lends.
+// What the first pass did not refuse, a second one fills into the room that the caller lends. The four lent slices go one by one: the check
+// does not know that what a call leaves in a struct of `&mut` is what comes back to the slices that it was made of.
 #![tactic(auto)]
 
 ghost use Rattle.std.specs.Prelude.{◌≡◌, true, ◌*◌, ◌≤◌, ◌<◌, length};
 ghost use Rattle.answer.specs.Outcome.{outcome};
-ghost use Rattle.group_refusal.specs.Refusal.{entry_room, given, sized};
+ghost use Rattle.answer.specs.Refusals.{by_number};
+ghost use Rattle.group_refusal.specs.Refusal.{entry_room, given_in, sized};
 ghost use Rattle.group.specs.Turn.{seek, filled, turn, PixelRoom};
 ghost use Rattle.group.specs.Entries.{fill_to};
 ghost use Rattle.group.specs.Group.{grouping};
 
 use answer::Refusal;
+use group_pixels::{Pixels, Rgba};
 
 // The first of n entries that has the bytes x, or n.
-fn position(n: usize, entry_bytes: &[u8], x: group_pixels::Rgba) -> usize
+fn position(n: usize, entry_bytes: &[u8], x: Rgba) -> usize
     requires { 4 * n ≤ length entry_bytes.now }
     ensures { result ≡ seek n entry_bytes.now x }
 {
-    let mut e = 0usize;
-    while e < n {
+    for e in 0..n {
         if group_pixels::same_bytes(group_pixels::rgba_at(entry_bytes, e), x) {
             return e;
         }
-        e += 1;
     }
     n
 }
@@ -30,20 +31,18 @@ fn position(n: usize, entry_bytes: &[u8], x: group_pixels::Rgba) -> usize
 fn settle(
     k: usize,
     n: usize,
-    pixels: &[u8],
-    oklab: &[f32],
-    zero: group_pixels::Zero,
+    q: &Pixels,
     entry_bytes: &mut [u8],
     entry_oklab: &mut [f32],
     entry_counts: &mut [u32],
     index: &mut [u32],
 ) -> usize
-    requires { PixelRoom k n pixels.now oklab.now (entry_room entry_bytes.old entry_oklab.old entry_counts.old index.old) }
+    requires { PixelRoom k n q.now.bytes.now q.now.oklab.now (entry_room entry_bytes.old entry_oklab.old entry_counts.old index.old) }
     ensures { filled result (entry_room entry_bytes.new entry_oklab.new entry_counts.new index.new)
-        ≡ turn pixels.now oklab.now zero k (filled n (entry_room entry_bytes.old entry_oklab.old entry_counts.old index.old)) }
+        ≡ turn q.now.bytes.now q.now.oklab.now q.now.zero k (filled n (entry_room entry_bytes.old entry_oklab.old entry_counts.old index.old)) }
 {
-    let x = group_pixels::rgba_at(pixels, k);
-    if !group_pixels::is_kept(zero, x) {
+    let x = group_pixels::rgba_at(q.bytes, k);
+    if !group_pixels::is_kept(q.zero, x) {
         return n;
     }
     let e = position(n, entry_bytes, x);
@@ -53,90 +52,50 @@ fn settle(
         return n;
     }
     group_pixels::put_rgba(entry_bytes, n, x);
-    color::put(entry_oklab, n, color::colour(oklab, k));
+    color::put(entry_oklab, n, color::colour(q.oklab, k));
     entry_counts[n] = 1;
     n + 1
 }
 
 // On pixels that passed the first pass. The number of entries.
 fn fill(
-    p: usize,
-    pixels: &[u8],
-    oklab: &[f32],
-    zero: group_pixels::Zero,
+    q: &Pixels,
     entry_bytes: &mut [u8],
     entry_oklab: &mut [f32],
     entry_counts: &mut [u32],
     index: &mut [u32],
 ) -> usize
-    requires { (p < 4294967296) × (sized (given p pixels.now oklab.now zero) (entry_room entry_bytes.old entry_oklab.old entry_counts.old index.old) ≡ true) }
+    requires { (q.now.p < 4294967296) × (sized (given_in q.now) (entry_room entry_bytes.old entry_oklab.old entry_counts.old index.old) ≡ true) }
     ensures { filled result (entry_room entry_bytes.new entry_oklab.new entry_counts.new index.new)
-        ≡ fill_to (given p pixels.now oklab.now zero) p (entry_room entry_bytes.old entry_oklab.old entry_counts.old index.old) }
+        ≡ fill_to (given_in q.now) q.now.p (entry_room entry_bytes.old entry_oklab.old entry_counts.old index.old) }
 {
-    let mut n = 0usize;
-    let mut k = 0usize;
-    while k < p {
-        n = settle(
-            k,
-            n,
-            pixels,
-            oklab,
-            zero,
-            entry_bytes,
-            entry_oklab,
-            entry_counts,
-            index,
-        );
-        k += 1;
+    let mut n = 0;
+    for k in 0..q.p {
+        n = settle(k, n, q, entry_bytes, entry_oklab, entry_counts, index);
     }
     n
 }
 
-// The number of entries written, or the refusal.
-#[derive(Drop)]
-pub enum Grouped {
-    Done(usize),
-    Refused(Refusal),
-}
-
-// Groups the p pixels of a tile of at most `size`, four bytes and three numbers of Oklab each, into the lent room: 4p bytes, 3p numbers,
-// p counts, p indexes.
+// Groups the pixels of a tile of at most `size` into the lent room: for p pixels 4p bytes, 3p numbers, p counts, p indexes. Gives the number
+// of entries written.
 pub fn group(
     size: usize,
-    p: usize,
-    pixels: &[u8],
-    oklab: &[f32],
-    zero: group_pixels::Zero,
+    q: &Pixels,
     entry_bytes: &mut [u8],
     entry_oklab: &mut [f32],
     entry_counts: &mut [u32],
     index: &mut [u32],
-) -> Grouped
-    ensures { outcome result (entry_room entry_bytes.new entry_oklab.new entry_counts.new index.new)
-        ≡ grouping size (given p pixels.now oklab.now zero) (entry_room entry_bytes.old entry_oklab.old entry_counts.old index.old) }
+) -> Result<usize, Refusal>
+    ensures { outcome (by_number result) (entry_room entry_bytes.new entry_oklab.new entry_counts.new index.new)
+        ≡ grouping size (given_in q.now) (entry_room entry_bytes.old entry_oklab.old entry_counts.old index.old) }
 {
-    let e = group_refusal::refuses(
+    group_refusal::check_group(
         size,
-        p,
-        pixels,
-        oklab,
-        zero,
+        q,
         entry_bytes.len(),
         entry_oklab.len(),
         entry_counts.len(),
         index.len(),
-    );
-    if e.number != 0 {
-        return Grouped::Refused(e);
-    }
-    Grouped::Done(fill(
-        p,
-        pixels,
-        oklab,
-        zero,
-        entry_bytes,
-        entry_oklab,
-        entry_counts,
-        index,
-    ))
+    )?;
+    Ok(fill(q, entry_bytes, entry_oklab, entry_counts, index))
 }

@@ -1,3 +1,3 @@
 pub mod Tests
 pub mod Alike
-mod Told
+pub mod Told

@@ -10,7 +10,7 @@ use Rattle.job.specs.Job.{two}
 use Rattle.job.specs.Checks.{within}
 use Rattle.job.proofs.Ready.{within_limit, two-within}
 use Rattle.group_pixels.specs.declared.Rgba.{Rgba}
-use Rattle.group_pixels.specs.Pixel.{same_bytes, in_gamut, same_bits}
+use Rattle.group_pixels.specs.Pixel.{same_bytes, in_gamut}
 
 -- a component in range is no NaN, so that it has bits
 real : (x : Float) → within two x ≡ true → T (not (is_nan x))
@@ -25,13 +25,10 @@ module _ (o : Oklab) (e : in_gamut o ≡ true) where
   unfolding in_gamut
   a_real = real o.a (and_l (within two o.a) (within two o.b) (and_r (within two o.l) (within two o.a && within two o.b) e))
 
-  pub b-real : T (not (is_nan o.b))
+  pub b_real : T (not (is_nan o.b))
   unfolding in_gamut
-  b-real = real o.b (and_r (within two o.a) (within two o.b) (and_r (within two o.l) (within two o.a && within two o.b) e))
+  b_real = real o.b (and_r (within two o.a) (within two o.b) (and_r (within two o.l) (within two o.a && within two o.b) e))
 
 -- what a comparison said of what was read, said of what was there
 pub same-told : {x y p q : Rgba} {b v : Bool} → x ≡ p → y ≡ q → b ≡ same_bytes x y → b ≡ v → same_bytes p q ≡ v
 same-told e f g h = rw (← e, ← f, ← g) h
-
-pub bits-told : {x y p q : Oklab} {b : Bool} → x ≡ p → y ≡ q → b ≡ same_bits x y → not (same_bits p q) ≡ not b
-bits-told e f g = rw (← e, ← f, ← g)

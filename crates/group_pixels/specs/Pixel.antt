@@ -1,5 +1,5 @@
 -- A pixel: four bytes, and the Oklab of their reduced colour; which pixels are kept, and which two clash. Definitions only. Assumes nothing.
-use Rattle.std.specs.Prelude.{ℕ, ◌+◌, ◌*◌, ◌<◌, ◌≡◌, Bool, true, false, not, ◌&&◌, List, eqb, length, get_or, set, Float}
+use Rattle.std.specs.Prelude.{Option, Some, None, ℕ, ◌+◌, ◌*◌, ◌<◌, ◌≡◌, Bool, true, false, not, ◌&&◌, List, eqb, length, get_or, set, Float}
 use Rattle.std.specs.Float.{binary32}
 use Rattle.std.specs.Float.Ieee.{to_bits}
 use Rattle.color.specs.declared.Oklab.{Oklab}
@@ -7,8 +7,7 @@ use Rattle.color.specs.Color.{colour_at}
 use Rattle.job.specs.Job.{two}
 use Rattle.job.specs.Checks.{within}
 use Rattle.group_pixels.specs.declared.Rgba.{Rgba}
-use Rattle.group_pixels.specs.declared.Zero.{Zero}
-use Rattle.group_pixels.specs.declared.Zero.TheVariants.{Given, Absent}
+use Rattle.group_pixels.specs.declared.Rgb.{Rgb}
 
 -- pixel i of a flat list, four bytes a pixel
 abbrev pub rgba_at : List ℕ → ℕ → Rgba
@@ -19,12 +18,12 @@ unfoldable pub put_rgba : List ℕ → ℕ → Rgba → List ℕ
 put_rgba s i x = set (set (set (set s (4 * i) x.r) (4 * i + 1) x.g) (4 * i + 2) x.b) (4 * i + 3) x.a
 
 -- colour zero is compared in r, g, b alone
-unfoldable pub is_zero : Zero → Rgba → Bool
-is_zero (Given r g b) x = eqb x.r r && (eqb x.g g && eqb x.b b)
-is_zero Absent x = false
+unfoldable pub is_zero : Option Rgb → Rgba → Bool
+is_zero (Some z) x = eqb x.r z.r && (eqb x.g z.g && eqb x.b z.b)
+is_zero None x = false
 
 -- kept unless its alpha is 0 or it equals colour zero
-unfoldable pub kept : Zero → Rgba → Bool
+unfoldable pub kept : Option Rgb → Rgba → Bool
 kept cz x = not (eqb x.a 0) && not (is_zero cz x)
 
 -- all four bytes are equal
@@ -52,11 +51,11 @@ pub record There (bytes : List ℕ) (oklab : List Float) (k : ℕ) : Type 0 wher
   pub oklab_there : 3 * k + 2 < length oklab
 
 -- pixel k, if kept, has passed for its Oklab
-abbrev pub Passed : List ℕ → List Float → Zero → ℕ → Type 0
+abbrev pub Passed : List ℕ → List Float → Option Rgb → ℕ → Type 0
 Passed bytes oklab cz k = kept cz (rgba_at bytes k) ≡ true → in_gamut (colour_at oklab k) ≡ true
 
 -- pixel k is kept and has passed, so that its bits can be compared
-pub record Kept (bytes : List ℕ) (oklab : List Float) (cz : Zero) (k : ℕ) : Type 0 where
+pub record Kept (bytes : List ℕ) (oklab : List Float) (cz : Option Rgb) (k : ℕ) : Type 0 where
   pub there : There bytes oklab k
   pub is_kept : kept cz (rgba_at bytes k) ≡ true
   pub is_real : in_gamut (colour_at oklab k) ≡ true

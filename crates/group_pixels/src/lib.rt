@@ -5,7 +5,7 @@ ghost use Rattle.std.specs.Prelude.{◌≡◌, true, ◌+◌, ◌*◌, ◌<◌, 
 ghost use Rattle.group_pixels.specs.Pixel.{is_zero, kept, same_bytes, in_gamut, rgba_at, same_bits, clash, put_rgba, There, Passed, Kept};
 
 // A reduced colour: the four bytes of a pixel.
-#[derive(Clone, Copy)]
+#[derive(Clone, Copy, Debug, PartialEq, Eq)]
 pub struct Rgba {
     pub r: u8,
     pub g: u8,
@@ -13,65 +13,55 @@ pub struct Rgba {
     pub a: u8,
 }
 
-// Colour zero, where there is one: its r, g, b.
-#[derive(Clone, Copy)]
-pub enum Zero {
-    Given(u8, u8, u8),
-    Absent,
+// Colour zero.
+#[derive(Clone, Copy, Debug, PartialEq, Eq)]
+pub struct Rgb {
+    pub r: u8,
+    pub g: u8,
+    pub b: u8,
 }
 
-pub fn is_zero(zero: Zero, x: Rgba) -> bool
+// The p pixels of a tile, as they are lent: four bytes and three numbers of Oklab each; and colour zero, where there is one.
+#[derive(Clone, Copy)]
+pub struct Pixels<'a> {
+    pub p: usize,
+    pub bytes: &'a [u8],
+    pub oklab: &'a [f32],
+    pub zero: Option<Rgb>,
+}
+
+#[tactic(auto, unfolding(crate::specs::Pixel::is_zero))]
+pub fn is_zero(zero: Option<Rgb>, x: Rgba) -> bool
     ensures { result ≡ is_zero zero x }
 {
     match zero {
-        Zero::Given(r, g, b) => {
-            if x.r != r {
-                return false;
-            }
-            if x.g != g {
-                return false;
-            }
-            x.b == b
-        }
-        Zero::Absent => false,
+        Some(z) => x.r == z.r && x.g == z.g && x.b == z.b,
+        None => false,
     }
 }
 
 // Whether a pixel is kept: it is not transparent, and not colour zero.
-pub fn is_kept(zero: Zero, x: Rgba) -> bool
+#[tactic(auto, unfolding(crate::specs::Pixel::kept))]
+pub fn is_kept(zero: Option<Rgb>, x: Rgba) -> bool
     ensures { result ≡ kept zero x }
 {
-    if x.a == 0 {
-        return false;
-    }
-    !is_zero(zero, x)
+    x.a != 0 && !is_zero(zero, x)
 }
 
+#[tactic(auto, unfolding(crate::specs::Pixel::same_bytes))]
 pub fn same_bytes(x: Rgba, y: Rgba) -> bool
     ensures { result ≡ same_bytes x y }
 {
-    if x.r != y.r {
-        return false;
-    }
-    if x.g != y.g {
-        return false;
-    }
-    if x.b != y.b {
-        return false;
-    }
-    x.a == y.a
+    x == y
 }
 
+#[tactic(auto, unfolding(crate::specs::Pixel::in_gamut))]
 pub fn in_gamut(x: color::Oklab) -> bool
     ensures { result ≡ in_gamut x }
 {
-    if !job::is_within(x.l, job::MOST_COMPONENT) {
-        return false;
-    }
-    if !job::is_within(x.a, job::MOST_COMPONENT) {
-        return false;
-    }
-    job::is_within(x.b, job::MOST_COMPONENT)
+    job::is_within(x.l, job::MOST_COMPONENT)
+        && job::is_within(x.a, job::MOST_COMPONENT)
+        && job::is_within(x.b, job::MOST_COMPONENT)
 }
 
 pub fn rgba_at(s: &[u8], i: usize) -> Rgba
@@ -99,26 +89,22 @@ pub fn put_rgba(s: &mut [u8], i: usize, x: Rgba)
 }
 
 // Whether two colours have the same bits, so that -0 and 0 differ.
+#[tactic(auto, using(crate::proofs::Told::l_real, crate::proofs::Told::a_real, crate::proofs::Told::b_real), unfolding(crate::specs::Pixel::same_bits))]
 pub fn same_bits(x: color::Oklab, y: color::Oklab) -> bool
     requires { (in_gamut x ≡ true) × (in_gamut y ≡ true) }
     ensures { result ≡ same_bits x y }
 {
-    if f32::to_bits(x.l) != f32::to_bits(y.l) {
-        return false;
-    }
-    if f32::to_bits(x.a) != f32::to_bits(y.a) {
-        return false;
-    }
-    f32::to_bits(x.b) == f32::to_bits(y.b)
+    f32::to_bits(x.l) == f32::to_bits(y.l)
+        && f32::to_bits(x.a) == f32::to_bits(y.a)
+        && f32::to_bits(x.b) == f32::to_bits(y.b)
 }
 
 // Whether pixels i and k are alike in bytes and differ in Oklab.
-pub fn clash(pixels: &[u8], oklab: &[f32], zero: Zero, i: usize, k: usize) -> bool
-    requires { There pixels.now oklab.now i × Passed pixels.now oklab.now zero i × Kept pixels.now oklab.now zero k }
-    ensures { result ≡ clash pixels.now oklab.now i k }
+#[tactic(auto, unfolding(crate::specs::Pixel::clash))]
+pub fn clash(q: &Pixels, i: usize, k: usize) -> bool
+    requires { There q.now.bytes.now q.now.oklab.now i × Passed q.now.bytes.now q.now.oklab.now q.now.zero i × Kept q.now.bytes.now q.now.oklab.now q.now.zero k }
+    ensures { result ≡ clash q.now.bytes.now q.now.oklab.now i k }
 {
-    if !same_bytes(rgba_at(pixels, i), rgba_at(pixels, k)) {
-        return false;
-    }
-    !same_bits(color::colour(oklab, i), color::colour(oklab, k))
+    same_bytes(rgba_at(q.bytes, i), rgba_at(q.bytes, k))
+        && !same_bits(color::colour(q.oklab, i), color::colour(q.oklab, k))
 }

@@ -7,8 +7,7 @@ use lib.Dec.{eqb}
 use borrow.Author.Count.{below_none, below_more}
 use borrow.Author.Tests.{eqb-true, eqb-false}
 use Rattle.color.specs.Color.{colour_at}
-use Rattle.answer.specs.declared.Refusal.{Refusal}
-use Rattle.answer.specs.Rules.{refusal, nothing}
+use Rattle.answer.specs.Refusals.{Answered, refusal, nothing}
 use Rattle.answer.specs.Names.{Names}
 use Rattle.answer.proofs.Places.{aside_names}
 use Rattle.group_pixels.specs.Pixel.{rgba_at, kept, in_gamut}
@@ -16,10 +15,10 @@ use Rattle.group_refusal.specs.Faults.{first_of, clashes, fault}
 use Rattle.group_refusal.specs.Refusal.{Pixels, EntryRoom, pixels_fit, refusal_where, group_answer, pixel_names}
 
 -- ---- whatever holds of nothing and of the first fault holds of the search
-abbrev Clear : (ℕ → Refusal) → ℕ → Type 0
+abbrev Clear : (ℕ → Answered) → ℕ → Type 0
 Clear f k = (i : ℕ) → i < k → (f i).number ≡ 0
 
-module _ (P : Refusal → Type 0) (f : ℕ → Refusal) (p : ℕ) (found : (k : ℕ) → k < p → Clear f k → ((f k).number ≡ 0 → ⊥) → P (f k)) (none : P nothing) where
+module _ (P : Answered → Type 0) (f : ℕ → Answered) (p : ℕ) (found : (k : ℕ) → k < p → Clear f k → ((f k).number ≡ 0 → ⊥) → P (f k)) (none : P nothing) where
   first_from : (i n : ℕ) → i + n ≡ p → Clear f i → P (first_of f i n)
   unfolding first_of
   first_from i zero e passed = none
@@ -33,7 +32,7 @@ module _ (P : Refusal → Type 0) (f : ℕ → Refusal) (p : ℕ) (found : (k : 
   first_of-all = first_from 0 p (omega arith) (below_none _)
 
 -- and with 2 and 3 of the answer
-answer_by : (P : Refusal → Type 0) (size : ℕ) (q : Pixels) (fits : Bool)
+answer_by : (P : Answered → Type 0) (size : ℕ) (q : Pixels) (fits : Bool)
     → P (refusal 2 0) → P (refusal 3 0) → P (first_of (fault q.bytes q.oklab q.zero) 0 q.p) → P (refusal_where size q fits)
 unfolding refusal_where
 answer_by P size q fits two three first = by (pixels_fit size q.p) fits
@@ -62,7 +61,7 @@ answer_names size q m =
     (first_of-all (Names (pixel_names q)) (fault q.bytes q.oklab q.zero) q.p (λ k there passed bad. fault_names q k there passed) (aside_names (pixel_names q) 0 refl))
 
 -- ---- what is accepted is answered with nothing
-abbrev NothingAtZero : Refusal → Type 0
+abbrev NothingAtZero : Answered → Type 0
 NothingAtZero e = e.number ≡ 0 → e ≡ nothing
 
 pub accepted-nothing : (size : ℕ) (q : Pixels) (m : EntryRoom) → (group_answer size q m).number ≡ 0 → group_answer size q m ≡ nothing

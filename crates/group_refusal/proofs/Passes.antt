@@ -5,8 +5,7 @@ use mathlib.Core.Bool.{Bool, true, false, ◌&&◌}
 use lib.Dec.{eqb}
 use borrow.Author.Tests.{eqb-true, lt-leb, le-leb}
 use Rattle.lists.proofs.Tests.{and_l, and_r}
-use Rattle.answer.specs.declared.Refusal.{Refusal}
-use Rattle.answer.specs.Rules.{refusal}
+use Rattle.answer.specs.Refusals.{Answered, refusal}
 use Rattle.job.specs.Checks.{tile_sized}
 use Rattle.group_refusal.specs.Faults.{first_of, fault}
 use Rattle.group_refusal.specs.Refusal.{Pixels, lengths_fit, pixels_fit, refusal_where}
@@ -26,7 +25,7 @@ module _ (size : ℕ) (q : Pixels) (fits : Bool) where
     unfolding refusal_where pixels_fit
     misfit h e = rw (sized, le-leb q.p size h, e)
 
-    pub fitting : q.p ≤ size → fits ≡ true → (v : Refusal) → v ≡ first_of (fault q.bytes q.oklab q.zero) 0 q.p → v ≡ refusal_where size q fits
+    pub fitting : q.p ≤ size → fits ≡ true → (v : Answered) → v ≡ first_of (fault q.bytes q.oklab q.zero) 0 q.p → v ≡ refusal_where size q fits
     unfolding refusal_where pixels_fit
     fitting h e v f = rw (sized, le-leb q.p size h, e) f
 

@@ -1,12 +1,12 @@
 -- What grouping refuses, for tiles of at most `size` pixels: 2 for another size than there is or more pixels, 3, then pixel by pixel 7, with the pixel's index, before 14.
 -- Definitions only. Assumes nothing.
-use Rattle.std.specs.Prelude.{ℕ, ◌*◌, ◌<◌, ◌≡◌, Bool, true, false, ◌&&◌, cond, List, [], ◌∷◌, eqb, leb, length, Float}
-use Rattle.answer.specs.declared.Refusal.{Refusal}
+use Rattle.std.specs.Prelude.{Option, ℕ, ◌*◌, ◌<◌, ◌≡◌, Bool, true, false, ◌&&◌, cond, List, [], ◌∷◌, eqb, leb, length, Float}
+use Rattle.answer.specs.Refusals.{Answered, refusal}
 use Rattle.answer.specs.Names.{Table}
-use Rattle.answer.specs.Rules.{refusal}
 use Rattle.color.specs.Color.{colour_at}
 use Rattle.job.specs.Checks.{tile_sized}
-use Rattle.group_pixels.specs.declared.Zero.{Zero}
+use Rattle.group_pixels.specs.declared.Rgb.{Rgb}
+use Rattle.group_pixels.specs.declared.Pixels as declared
 use Rattle.group_pixels.specs.Pixel.{rgba_at, kept, in_gamut}
 unfoldable pub use Rattle.group_refusal.specs.Faults.{some, first_of, fault}
 
@@ -15,10 +15,13 @@ pub record Pixels : Type 0 where
   pub p : ℕ
   pub bytes : List ℕ
   pub oklab : List Float
-  pub zero : Zero
+  pub zero : Option Rgb
 
-abbrev pub given : ℕ → List ℕ → List Float → Zero → Pixels
+abbrev pub given : ℕ → List ℕ → List Float → Option Rgb → Pixels
 given p bytes oklab cz = record { p = p; bytes = bytes; oklab = oklab; zero = cz }
+
+abbrev pub given_in : declared.Pixels → Pixels
+given_in q = given q.p q.bytes.now q.oklab.now q.zero
 
 -- the memory that it is lent to write
 pub record EntryRoom : Type 0 where
@@ -45,10 +48,10 @@ unfoldable pub pixels_fit : ℕ → ℕ → Bool
 pixels_fit size p = tile_sized size && leb p size
 
 -- nothing, or the refusal: 2, 3, then pixel by pixel
-unfoldable pub refusal_where : ℕ → Pixels → Bool → Refusal
+unfoldable pub refusal_where : ℕ → Pixels → Bool → Answered
 refusal_where size q fits = cond (pixels_fit size q.p) (cond fits (first_of (fault q.bytes q.oklab q.zero) 0 q.p) (refusal 3 0)) (refusal 2 0)
 
-abbrev pub group_answer : ℕ → Pixels → EntryRoom → Refusal
+abbrev pub group_answer : ℕ → Pixels → EntryRoom → Answered
 group_answer size q m = refusal_where size q (sized q m)
 
 -- ---- the index

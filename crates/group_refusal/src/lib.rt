@@ -1,66 +1,60 @@
-// The first pass of grouping, over shared slices and the lengths of lent ones: nothing, or the refusal. So a refusal writes nothing.
+// The first pass of grouping, over shared slices and the lengths of lent ones: what is refused. So a refusal writes nothing.
 // A pixel's fault is an Oklab out of range, or another one than an earlier pixel's of the same bytes.
 #![tactic(auto)]
 
 ghost use Rattle.std.specs.Prelude.{◌≡◌, ◌*◌, ◌<◌, length};
+ghost use Rattle.answer.specs.Refusals.{refusal_of};
 ghost use Rattle.group_pixels.specs.Pixel.{There, Kept};
 ghost use Rattle.group_refusal.specs.Faults.{clashes, fault, first_of, Real};
-ghost use Rattle.group_refusal.specs.Refusal.{given, lengths_fit, refusal_where};
+ghost use Rattle.group_refusal.specs.Refusal.{given_in, lengths_fit, refusal_where};
 
 use answer::Refusal;
+use group_pixels::Pixels;
 
 // Whether kept pixel k clashes with one before it.
-fn clashes(pixels: &[u8], oklab: &[f32], zero: group_pixels::Zero, k: usize) -> bool
-    requires { Real pixels.now oklab.now zero k × Kept pixels.now oklab.now zero k }
-    ensures { result ≡ clashes pixels.now oklab.now k }
+fn clashes(q: &Pixels, k: usize) -> bool
+    requires { Real q.now.bytes.now q.now.oklab.now q.now.zero k × Kept q.now.bytes.now q.now.oklab.now q.now.zero k }
+    ensures { result ≡ clashes q.now.bytes.now q.now.oklab.now k }
 {
-    let mut i = 0usize;
-    while i < k {
-        if group_pixels::clash(pixels, oklab, zero, i, k) {
+    for i in 0..k {
+        if group_pixels::clash(q, i, k) {
             return true;
         }
-        i += 1;
     }
     false
 }
 
-// What is wrong with pixel k: 7 and its index for its Oklab, 14 for an earlier pixel's.
-fn fault(pixels: &[u8], oklab: &[f32], zero: group_pixels::Zero, k: usize) -> Refusal
-    requires { There pixels.now oklab.now k × Real pixels.now oklab.now zero k }
-    ensures { result ≡ fault pixels.now oklab.now zero k }
+// What is wrong with pixel k: its Oklab, or an earlier pixel's.
+#[tactic(auto, unfolding(crate::specs::Faults::fault))]
+fn check_pixel(q: &Pixels, k: usize) -> Result<(), Refusal>
+    requires { There q.now.bytes.now q.now.oklab.now k × Real q.now.bytes.now q.now.oklab.now q.now.zero k }
+    ensures { refusal_of result ≡ fault q.now.bytes.now q.now.oklab.now q.now.zero k }
 {
-    if !group_pixels::is_kept(zero, group_pixels::rgba_at(pixels, k)) {
-        return answer::DONE;
+    if !group_pixels::is_kept(q.zero, group_pixels::rgba_at(q.bytes, k)) {
+        return Ok(());
     }
-    if !group_pixels::in_gamut(color::colour(oklab, k)) {
-        return Refusal {
-            number: 7,
-            index: k,
-        };
+    if !group_pixels::in_gamut(color::colour(q.oklab, k)) {
+        return Err(Refusal::Colour(k));
     }
-    if clashes(pixels, oklab, zero, k) {
-        return answer::SAME_COLOUR;
+    if clashes(q, k) {
+        return Err(Refusal::SameColour);
     }
-    answer::DONE
+    Ok(())
 }
 
-// The fault of the first pixel that has one, or nothing.
-pub fn first_fault(p: usize, pixels: &[u8], oklab: &[f32], zero: group_pixels::Zero) -> Refusal
-    requires { (length pixels.now ≡ 4 * p) × (length oklab.now ≡ 3 * p) }
-    ensures { result ≡ first_of (fault pixels.now oklab.now zero) 0 p }
+// The fault of the first pixel that has one.
+pub fn check_pixels(q: &Pixels) -> Result<(), Refusal>
+    requires { (length q.now.bytes.now ≡ 4 * q.now.p) × (length q.now.oklab.now ≡ 3 * q.now.p) }
+    ensures { refusal_of result ≡ first_of (fault q.now.bytes.now q.now.oklab.now q.now.zero) 0 q.now.p }
 {
-    let mut k = 0usize;
-    while k < p {
-        let e = fault(pixels, oklab, zero, k);
-        if e.number != 0 {
-            return e;
-        }
-        k += 1;
+    for k in 0..q.p {
+        check_pixel(q, k)?;
     }
-    answer::DONE
+    Ok(())
 }
 
 // Whether every slice has the length that p implies.
+#[tactic(auto, unfolding(crate::specs::Refusal::lengths_fit))]
 fn is_sized(
     p: usize,
     pixels: usize,
@@ -73,54 +67,43 @@ fn is_sized(
     requires { p < 4294967296 }
     ensures { result ≡ lengths_fit p pixels oklab entry_bytes entry_oklab entry_counts index }
 {
-    if pixels != 4 * p {
+    if pixels != 4 * p || oklab != 3 * p {
         return false;
     }
-    if oklab != 3 * p {
+    if entry_bytes != 4 * p || entry_oklab != 3 * p {
         return false;
     }
-    if entry_bytes != 4 * p {
-        return false;
-    }
-    if entry_oklab != 3 * p {
-        return false;
-    }
-    if entry_counts != p {
-        return false;
-    }
-    index == p
+    entry_counts == p && index == p
 }
 
-// Nothing where these pixels can be grouped in room of these lengths, else the refusal.
-pub fn refuses(
+// Whether these pixels can be grouped, in room of these lengths.
+pub fn check_group(
     size: usize,
-    p: usize,
-    pixels: &[u8],
-    oklab: &[f32],
-    zero: group_pixels::Zero,
+    q: &Pixels,
     entry_bytes: usize,
     entry_oklab: usize,
     entry_counts: usize,
     index: usize,
-) -> Refusal
-    ensures { result ≡ refusal_where size (given p pixels.now oklab.now zero) (lengths_fit p (length pixels.now) (length oklab.now) entry_bytes entry_oklab entry_counts index) }
+) -> Result<(), Refusal>
+    ensures { refusal_of result ≡ refusal_where size (given_in q.now)
+        (lengths_fit q.now.p (length q.now.bytes.now) (length q.now.oklab.now) entry_bytes entry_oklab entry_counts index) }
 {
     if !job::is_tile_size(size) {
-        return answer::SIZES;
+        return Err(Refusal::Sizes);
     }
-    if p > size {
-        return answer::SIZES;
+    if q.p > size {
+        return Err(Refusal::Sizes);
     }
     if !is_sized(
-        p,
-        pixels.len(),
-        oklab.len(),
+        q.p,
+        q.bytes.len(),
+        q.oklab.len(),
         entry_bytes,
         entry_oklab,
         entry_counts,
         index,
     ) {
-        return answer::LENGTHS;
+        return Err(Refusal::Lengths);
     }
-    first_fault(p, pixels, oklab, zero)
+    check_pixels(q)
 }

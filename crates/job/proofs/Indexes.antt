@@ -9,8 +9,8 @@ use native.Mathlib.Nat.{zero-add}
 use lib.Ieee.{Float}
 use lib.ListN.{length}
 use borrow.Author.Tests.{eqb-true, leb-true}
-use Rattle.answer.specs.declared.Refusal.{Refusal}
-use Rattle.answer.specs.Rules.{refusal, Rule, rule, answer, Passed}
+use Rattle.answer.specs.Refusals.{Answered, refusal}
+use Rattle.answer.specs.Rules.{Rule, rule, answer, Passed}
 use Rattle.answer.specs.Names.{Table, Names}
 use Rattle.answer.proofs.Passing.{passed-number, passed-join}
 use Rattle.answer.proofs.Places.{rule_then, plain_then, aside, aside_names}
@@ -21,7 +21,7 @@ use Rattle.job.proofs.Bad.{first_bad-colour}
 use Rattle.job.proofs.Ready.{sizes_of_lem}
 
 -- an index names what the table says, and is small
-abbrev pub Placed : Table → Refusal → Type 0
+abbrev pub Placed : Table → Answered → Type 0
 Placed T e = Names T e × (e.index ≤ most_index)
 
 pub unplaced : (T : Table) (n : ℕ) → aside T n ≡ true → Placed T (refusal n 0)

@@ -20,7 +20,7 @@ use Rattle.ieee.specs.Terms.{Within}
 use Rattle.ieee.proofs.Within.{neg-within}
 use Rattle.color.specs.Color.{Bounded}
 use Rattle.job.proofs.First.{none_first}
-use Rattle.answer.specs.declared.Refusal.{Refusal}
+use Rattle.answer.specs.Refusals.{Answered}
 use Rattle.answer.specs.Rules.{Passed, answer, numbered}
 use Rattle.answer.proofs.Passing.{all_pass}
 use Rattle.job.specs.Job.{Job, small_tile, large_tile, most_tile_size, first_of, size_of, counts_part, counts_of, most_subpalettes, most_colours, most_tiles, most_tile_colours, most_samples, nought, two, sixteen}
@@ -61,9 +61,9 @@ sizes-ready size s c t (y, p) =
       cells = mul-le-mul few cap;
     }
 
-pub sizes_of_lem : (size s c t : ℕ) (a : Refusal) → a ≡ answer (size_rules size s c t) → a.number ≡ 0 → InRange size s c t
+pub sizes_of_lem : (size s c t : ℕ) (a : Answered) → a ≡ answer (size_rules size s c t) → a.number ≡ 0 → InRange size s c t
 unfolding numbered
-sizes_of_lem size s c t a e z = sizes-ready size s c t (all_pass (size_rules size s c t) refl (sym (ap (λ (x : Refusal). x.number) e) ∙ z))
+sizes_of_lem size s c t a e z = sizes-ready size s c t (all_pass (size_rules size s c t) refl (sym (ap (λ (x : Answered). x.number) e) ∙ z))
 
 no_less : (a b : ℕ) → 0 * a < 0 * b * 1 → ⊥
 no_less a b h = omega arith

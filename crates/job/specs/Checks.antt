@@ -1,9 +1,9 @@
 -- The rules that a job is held to, in their order. Definitions only. Assumes nothing.
-use Rattle.std.specs.Prelude.{ℕ, zero, suc, ◌+◌, ◌*◌, ◌/◌, Bool, cond, ◌&&◌, ◌||◌, List, [], ◌∷◌, ◌++◌, eqb, ltb, leb, length, get_or, Float}
+use Rattle.std.specs.Prelude.{ℕ, zero, suc, ◌+◌, ◌*◌, ◌/◌, Bool, cond, ◌&&◌, ◌||◌, List, [], ◌∷◌, ◌++◌, eqb, ltb, leb, length, get_or, Float, Option, Some, None}
 use Rattle.std.specs.Float.{nan}
 use Rattle.std.specs.Float.Ieee.{lt, le, neg}
 use Rattle.lists.specs.Every.{every, sum}
-use Rattle.answer.specs.declared.Refusal.{Refusal}
+use Rattle.answer.specs.Refusals.{Answered}
 use Rattle.answer.specs.Rules.{Rule, rule_at, rule, answer}
 use Rattle.job.specs.Job.{Job, small_tile, large_tile, first_of, size_of, counts_part, most_subpalettes, most_colours, most_tiles, most_tile_colours, most_samples, nought, two, sixteen}
 
@@ -70,6 +70,10 @@ components_fit m xs = eqb (first_bad m xs) (length xs)
 abbrev pub colour_rule : ℕ → ℕ → Float → List Float → Rule
 colour_rule number base m xs = rule_at number (base + first_bad m xs / 3) (components_fit m xs)
 
+-- that colour, or none
+abbrev pub bad_colour_from : ℕ → Float → List Float → Option ℕ
+bad_colour_from base m xs = cond (components_fit m xs) None (Some (base + first_bad m xs / 3))
+
 -- ---- samples: a tile, and a colour by its place in that tile
 unfoldable pub sample_test : List ℕ → ℕ → ℕ → ℕ → Bool
 sample_test tiles t tile place = ltb tile t && ltb place (size_of tiles tile)
@@ -129,8 +133,8 @@ sampled_rules J n samples room =
     ++ (tables J ++ place_rules J.T J.tiles J.colours n samples)
 
 -- what a call without samples, and one with n samples, is answered before its own rules
-unfoldable pub plain_answer : Job → List Float → Bool → Refusal
+unfoldable pub plain_answer : Job → List Float → Bool → Answered
 plain_answer J palette room = answer (plain_rules J palette room)
 
-unfoldable pub sampled_answer : Job → ℕ → List ℕ → Bool → Refusal
+unfoldable pub sampled_answer : Job → ℕ → List ℕ → Bool → Answered
 sampled_answer J n samples room = answer (sampled_rules J n samples room)

@@ -3,6 +3,7 @@ use Rattle.std.specs.Prelude.{ℕ, ◌+◌, ◌*◌, ◌≤◌, ◌<◌, Bool, L
 use Rattle.std.specs.Float.{binary32}
 use Rattle.std.specs.Float.Ieee.{of_bits}
 use Rattle.job.specs.declared.Sizes.{Sizes}
+use Rattle.job.specs.declared.Job as declared
 
 -- S subpalettes of C colours, T tiles; two numbers a tile in the table, three a colour
 pub record Job : Type 0 where
@@ -26,6 +27,10 @@ sizes_of size s c t n weight = record { size = size; s = s; c = c; t = t; n = n;
 -- the job that a call's numbers and lists make
 abbrev pub job_of : Sizes → List ℕ → List Float → List ℕ → Job
 job_of z tiles colours counts = job z.size z.s z.c z.t z.weight tiles colours counts
+
+-- the job that is lent
+abbrev pub job_in : declared.Job → Job
+job_in j = job_of j.sizes j.tiles.now j.colours.now j.counts.now
 
 -- ---- the tile table: first colour and number of colours of each tile
 abbrev pub first_of : List ℕ → ℕ → ℕ

@@ -1,12 +1,9 @@
-// A job's sizes by value, its tiles as parts of what is lent, and the test of its components. Assumes nothing.
+// A job: its sizes and what is lent of it; its tiles as parts of that, and the test of its components. Assumes nothing.
 #![tactic(auto)]
 
-ghost use Rattle.std.specs.Prelude.{◌≡◌, [], ◌∷◌, ◌+◌, ◌*◌, ◌<◌, ◌≤◌, eqb, length};
-ghost use Rattle.answer.specs.Rules.{answer};
-ghost use Rattle.job.specs.Job.{sizes_of, first_of, size_of, colours_part, counts_part, Inside, most_subpalettes, most_colours};
-ghost use Rattle.job.specs.Checks.{tile_sized, within, first_bad, colour_rule};
-
-use answer::Refusal;
+ghost use Rattle.std.specs.Prelude.{◌≡◌, ◌+◌, ◌*◌, ◌<◌, ◌≤◌, length, not, position};
+ghost use Rattle.job.specs.Job.{sizes_of, job_in, first_of, size_of, tile_of, counts_of, is_empty, Inside, most_subpalettes, most_colours};
+ghost use Rattle.job.specs.Checks.{tile_sized, within, bad_colour_from};
 
 // The numbers of a call, by value: how many pixels a tile has at most, subpalettes, colours in each, tiles, samples (0 where none are
 // lent), and the weight of brightness.
@@ -18,6 +15,44 @@ pub struct Sizes {
     pub t: usize,
     pub n: usize,
     pub weight: f32,
+}
+
+// A job as it is lent: a table of two numbers a tile, its first colour and how many it has; three numbers a colour, and a count for each.
+#[derive(Clone, Copy)]
+pub struct Job<'a> {
+    pub sizes: Sizes,
+    pub tiles: &'a [u32],
+    pub colours: &'a [f32],
+    pub counts: &'a [u32],
+}
+
+impl<'a> Job<'a> {
+    pub fn is_empty(&self, i: usize) -> bool
+        requires { 2 * i + 1 < length self.now.tiles.now }
+        ensures { result ≡ is_empty (job_in self.now) i }
+    {
+        size_of(self.tiles, i) == 0
+    }
+
+    // The colours of tile i.
+    pub fn tile_part(&self, i: usize) -> &'a [f32]
+        requires { Inside 3 self.now.tiles.now i (length self.now.colours.now) }
+        ensures { result.now ≡ tile_of (job_in self.now) i }
+    {
+        let at = 3 * first_of(self.tiles, i);
+        let size = 3 * size_of(self.tiles, i);
+        &self.colours[at..at + size]
+    }
+
+    // The counts of tile i.
+    pub fn counts_part(&self, i: usize) -> &'a [u32]
+        requires { Inside 1 self.now.tiles.now i (length self.now.counts.now) }
+        ensures { result.now ≡ counts_of (job_in self.now) i }
+    {
+        let at = first_of(self.tiles, i);
+        let size = size_of(self.tiles, i);
+        &self.counts[at..at + size]
+    }
 }
 
 // A tile's pixels, at most: 8 by 8, or 16 by 16.
@@ -71,33 +106,6 @@ pub fn size_of(tiles: &[u32], i: usize) -> usize
     wide(tiles[2 * i + 1])
 }
 
-pub fn is_empty(tiles: &[u32], i: usize) -> bool
-    requires { 2 * i + 1 < length tiles.now }
-    ensures { result ≡ eqb (size_of tiles.now i) 0 }
-{
-    size_of(tiles, i) == 0
-}
-
-// The colours of tile i.
-pub fn tile_part<'a>(tiles: &[u32], colours: &'a [f32], i: usize) -> &'a [f32]
-    requires { Inside 3 tiles.now i (length colours.now) }
-    ensures { result.now ≡ colours_part tiles.now colours.now i }
-{
-    let at = 3 * first_of(tiles, i);
-    let size = 3 * size_of(tiles, i);
-    &colours[at..at + size]
-}
-
-// The counts of tile i.
-pub fn counts_part<'a>(tiles: &[u32], counts: &'a [u32], i: usize) -> &'a [u32]
-    requires { Inside 1 tiles.now i (length counts.now) }
-    ensures { result.now ≡ counts_part tiles.now counts.now i }
-{
-    let at = first_of(tiles, i);
-    let size = size_of(tiles, i);
-    &counts[at..at + size]
-}
-
 // From -limit to limit: no NaN and no infinity is.
 pub fn is_within(x: f32, limit: f32) -> bool
     ensures { result ≡ within limit x }
@@ -108,31 +116,18 @@ pub fn is_within(x: f32, limit: f32) -> bool
     false
 }
 
-// The index of the first component that is not within the limit, or how many there are.
-pub fn first_bad(xs: &[f32], limit: f32) -> usize
-    ensures { result ≡ first_bad limit xs.now }
+// The index of the first component that is not within the limit.
+fn first_bad(xs: &[f32], limit: f32) -> Option<usize>
+    ensures { result ≡ position (λ x. not (within limit x)) xs.now }
 {
-    let mut i = 0usize;
-    while i < xs.len() {
-        if !is_within(xs[i], limit) {
-            return i;
-        }
-        i += 1;
-    }
-    i
+    xs.iter().position(|x| !is_within(*x, limit))
 }
 
-// `number` and the first colour with a component that is not within the limit, counted from `base`; or nothing.
-pub fn check_colours(number: u32, base: usize, xs: &[f32], limit: f32) -> Refusal
+// The first colour with a component that is not within the limit, counted from `base`.
+pub fn bad_colour(base: usize, xs: &[f32], limit: f32) -> Option<usize>
     requires { base ≤ most_subpalettes * most_colours }
-    ensures { result ≡ answer (colour_rule number base limit xs.now ∷ []) }
+    ensures { result ≡ bad_colour_from base limit xs.now }
 {
-    let bad = first_bad(xs, limit);
-    if bad != xs.len() {
-        return Refusal {
-            number,
-            index: base + bad / 3,
-        };
-    }
-    answer::DONE
+    let bad = first_bad(xs, limit)?;
+    Some(base + bad / 3)
 }

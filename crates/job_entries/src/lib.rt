@@ -5,18 +5,14 @@
 ghost use Rattle.std.specs.Prelude.{◌≡◌, ◌*◌, ◌≤◌, length};
 ghost use Rattle.job.specs.Checks.{tile_test, count_test, sample_test};
 
+use job::Job;
+
 // A tile of n colours from `first` on, where those before it end at `at`.
 pub fn tile_fits(size: usize, total: usize, at: usize, first: usize, n: usize) -> bool
     requires { at ≤ total }
     ensures { result ≡ tile_test size total at first n }
 {
-    if first != at {
-        return false;
-    }
-    if n > size {
-        return false;
-    }
-    n <= total - at
+    first == at && n <= size && n <= total - at
 }
 
 // A count of n pixels after `done`.
@@ -24,18 +20,12 @@ pub fn count_fits(size: usize, done: usize, n: usize) -> bool
     requires { done ≤ size }
     ensures { result ≡ count_test size done n }
 {
-    if n == 0 {
-        return false;
-    }
-    n <= size - done
+    n != 0 && n <= size - done
 }
 
-pub fn sample_fits(tiles: &[u32], t: usize, tile: usize, place: usize) -> bool
-    requires { length tiles.now ≡ 2 * t }
-    ensures { result ≡ sample_test tiles.now t tile place }
+pub fn sample_fits(job: &Job, tile: usize, place: usize) -> bool
+    requires { length job.now.tiles.now ≡ 2 * job.now.sizes.t }
+    ensures { result ≡ sample_test job.now.tiles.now job.now.sizes.t tile place }
 {
-    if tile >= t {
-        return false;
-    }
-    place < job::size_of(tiles, tile)
+    tile < job.sizes.t && place < job::size_of(job.tiles, tile)
 }

@@ -1,14 +1,15 @@
-// The numbers of a job that have limits of their own, and which number its sizes, its slices' lengths and its components give.
+// The numbers of a job that have limits of their own, and how its sizes, its slices' lengths and its components are refused.
 // What a stranger wrote is taken: no product in it can wrap.
 #![tactic(auto)]
 
 ghost use Rattle.std.specs.Prelude.{◌≡◌, ◌*◌, ◌≤◌};
+ghost use Rattle.answer.specs.Refusals.{refusal_of};
 ghost use Rattle.answer.specs.Rules.{answer};
 ghost use Rattle.job.specs.Checks.{among, weight_fits, size_rules, shape_rules, bound_rules};
 ghost use Rattle.job.specs.Job.{most_tiles, most_subpalettes, most_colours};
 
 use answer::Refusal;
-use job::Sizes;
+use job::{Job, Sizes};
 
 const MOST_SUBPALETTES: usize = 16;
 
@@ -22,62 +23,59 @@ const MOST_WEIGHT: f32 = 16.0;
 pub fn is_among(x: usize, most: usize) -> bool
     ensures { result ≡ among x most }
 {
-    if x >= 1 {
-        return x <= most;
-    }
-    false
+    1 <= x && x <= most
 }
 
 pub fn weight_fits(w: f32) -> bool
     ensures { result ≡ weight_fits w }
 {
-    if w > 0.0 {
-        return w <= MOST_WEIGHT;
-    }
-    false
+    w > 0.0 && w <= MOST_WEIGHT
 }
 
-// The tests of number 2 that every call shares.
-pub fn check_sizes(z: Sizes) -> Refusal
-    ensures { result ≡ answer (size_rules z.size z.s z.c z.t) }
+// The tests of sizes that every call shares.
+pub fn check_sizes(z: Sizes) -> Result<(), Refusal>
+    ensures { refusal_of result ≡ answer (size_rules z.size z.s z.c z.t) }
 {
     if !job::is_tile_size(z.size) {
-        return answer::SIZES;
+        return Err(Refusal::Sizes);
     }
     if !is_among(z.s, MOST_SUBPALETTES) {
-        return answer::SIZES;
+        return Err(Refusal::Sizes);
     }
     if !is_among(z.c, MOST_COLOURS) {
-        return answer::SIZES;
+        return Err(Refusal::Sizes);
     }
     if !is_among(z.t, MOST_TILES) {
-        return answer::SIZES;
+        return Err(Refusal::Sizes);
     }
-    answer::DONE
+    Ok(())
 }
 
-// Number 3 for the slices that every call has: two numbers a tile, three a colour.
-pub fn check_shapes(z: Sizes, tiles: &[u32], colours: &[f32], counts: &[u32]) -> Refusal
-    requires { z.t ≤ most_tiles }
-    ensures { result ≡ answer (shape_rules z.t tiles.now colours.now counts.now) }
+// The lengths of the slices that every call has: two numbers a tile, three a colour.
+pub fn check_shapes(job: &Job) -> Result<(), Refusal>
+    requires { job.now.sizes.t ≤ most_tiles }
+    ensures { refusal_of result ≡ answer (shape_rules job.now.sizes.t job.now.tiles.now job.now.colours.now job.now.counts.now) }
 {
-    if tiles.len() != 2 * z.t {
-        return answer::LENGTHS;
+    if job.tiles.len() != 2 * job.sizes.t {
+        return Err(Refusal::Lengths);
     }
-    if colours.len() != 3 * counts.len() {
-        return answer::LENGTHS;
+    if job.colours.len() != 3 * job.counts.len() {
+        return Err(Refusal::Lengths);
     }
-    answer::DONE
+    Ok(())
 }
 
-// Number 7 of a call without samples: the palette's `cells` colours, then those of the tiles.
-pub fn check_bounds(cells: usize, palette: &[f32], colours: &[f32]) -> Refusal
-    requires { cells ≤ most_subpalettes * most_colours }
-    ensures { result ≡ answer (bound_rules cells palette.now colours.now) }
+// The components of a call without samples: the palette's colours, then those of the tiles, which go on counting.
+pub fn check_bounds(job: &Job, palette: &[f32]) -> Result<(), Refusal>
+    requires { job.now.sizes.s * job.now.sizes.c ≤ most_subpalettes * most_colours }
+    ensures { refusal_of result ≡ answer (bound_rules (job.now.sizes.s * job.now.sizes.c) palette.now job.now.colours.now) }
 {
-    let a = job::check_colours(7, 0, palette, job::MOST_COMPONENT);
-    if a.number != 0 {
-        return a;
+    if let Some(i) = job::bad_colour(0, palette, job::MOST_COMPONENT) {
+        return Err(Refusal::Colour(i));
     }
-    job::check_colours(7, cells, colours, job::MOST_COMPONENT)
+    let cells = job.sizes.s * job.sizes.c;
+    if let Some(i) = job::bad_colour(cells, job.colours, job::MOST_COMPONENT) {
+        return Err(Refusal::Colour(i));
+    }
+    Ok(())
 }

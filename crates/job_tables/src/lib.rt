@@ -5,19 +5,20 @@
 ghost use Rattle.std.specs.Prelude.{◌≡◌, true, ◌*◌, length};
 ghost use Rattle.job.specs.Checks.{tiles_fit, part_fits, counts_fit, samples_fit};
 
-pub fn tiles_fit(size: usize, tiles: &[u32], t: usize, total: usize) -> bool
-    requires { length tiles.now ≡ 2 * t }
-    ensures { result ≡ tiles_fit size total tiles.now t }
+use job::Job;
+
+pub fn tiles_fit(job: &Job) -> bool
+    requires { length job.now.tiles.now ≡ 2 * job.now.sizes.t }
+    ensures { result ≡ tiles_fit job.now.sizes.size (length job.now.counts.now) job.now.tiles.now job.now.sizes.t }
 {
-    let mut at = 0usize;
-    let mut i = 0usize;
-    while i < t {
-        let n = job::size_of(tiles, i);
-        if !job_entries::tile_fits(size, total, at, job::first_of(tiles, i), n) {
+    let total = job.counts.len();
+    let mut at = 0;
+    for i in 0..job.sizes.t {
+        let n = job::size_of(job.tiles, i);
+        if !job_entries::tile_fits(job.sizes.size, total, at, job::first_of(job.tiles, i), n) {
             return false;
         }
         at += n;
-        i += 1;
     }
     at == total
 }
@@ -26,49 +27,43 @@ pub fn tiles_fit(size: usize, tiles: &[u32], t: usize, total: usize) -> bool
 fn part_fits(size: usize, part: &[u32]) -> bool
     ensures { result ≡ part_fits size part.now }
 {
-    let mut done = 0usize;
-    let mut i = 0usize;
-    while i < part.len() {
-        let n = job::wide(part[i]);
+    let mut done = 0;
+    for count in part {
+        let n = job::wide(*count);
         if !job_entries::count_fits(size, done, n) {
             return false;
         }
         done += n;
-        i += 1;
     }
     true
 }
 
-pub fn counts_fit(size: usize, tiles: &[u32], t: usize, counts: &[u32]) -> bool
-    requires { (length tiles.now ≡ 2 * t) × (tiles_fit size (length counts.now) tiles.now t ≡ true) }
-    ensures { result ≡ counts_fit size tiles.now counts.now t }
+pub fn counts_fit(job: &Job) -> bool
+    requires { (length job.now.tiles.now ≡ 2 * job.now.sizes.t)
+        × (tiles_fit job.now.sizes.size (length job.now.counts.now) job.now.tiles.now job.now.sizes.t ≡ true) }
+    ensures { result ≡ counts_fit job.now.sizes.size job.now.tiles.now job.now.counts.now job.now.sizes.t }
 {
-    let mut i = 0usize;
-    while i < t {
-        let part = job::counts_part(tiles, counts, i);
-        if !part_fits(size, part) {
+    for i in 0..job.sizes.t {
+        let part = job.counts_part(i);
+        if !part_fits(job.sizes.size, part) {
             return false;
         }
-        i += 1;
     }
     true
 }
 
-pub fn samples_fit(tiles: &[u32], t: usize, samples: &[u32], n: usize) -> bool
-    requires { (length tiles.now ≡ 2 * t) × (length samples.now ≡ 2 * n) }
-    ensures { result ≡ samples_fit tiles.now t samples.now n }
+pub fn samples_fit(job: &Job, samples: &[u32]) -> bool
+    requires { (length job.now.tiles.now ≡ 2 * job.now.sizes.t) × (length samples.now ≡ 2 * job.now.sizes.n) }
+    ensures { result ≡ samples_fit job.now.tiles.now job.now.sizes.t samples.now job.now.sizes.n }
 {
-    let mut i = 0usize;
-    while i < n {
+    for i in 0..job.sizes.n {
         if !job_entries::sample_fits(
-            tiles,
-            t,
+            job,
             job::wide(samples[2 * i]),
             job::wide(samples[2 * i + 1]),
         ) {
             return false;
         }
-        i += 1;
     }
     true
 }

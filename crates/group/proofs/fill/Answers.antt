@@ -8,12 +8,12 @@ use Rattle.group_refusal.proofs.Passes.{sizes}
 use Rattle.group.proofs.fill.Goals as goal
 
 pub loop-k-init : goal.loop-k-init
-loop-k-init c = (search rules, refl, refl, refl, refl, start _ _)
+loop-k-init c = (refl, refl, refl, refl, start _ _)
 
 pub settle-n-requires : goal.settle-n-requires
 settle-n-requires c =
     let z = sizes _ _ _ _ _ _ _ c.requires.1 in
-    let f = held-few _ _ _ _ _ c.loop-k.invariant.5 in
+    let f = held-few _ _ _ _ _ c.loop-k.invariant.4 in
     record {
       fits = omega arith;
       few = f.0;
@@ -28,7 +28,7 @@ settle-n-requires c =
 pub loop-k-preserved : goal.loop-k-preserved
 loop-k-preserved c =
     let z = sizes _ _ _ _ _ _ _ c.requires.1 in
-    (search rules, search rules, search rules, search rules, search rules, turn_on _ _ _ _ _ _ _ c.loop-k.invariant.5 c.settle-n.ensures (omega arith) (omega arith) (omega arith))
+    (search rules, search rules, search rules, search rules, turn_on _ _ _ _ _ _ _ c.loop-k.invariant.4 c.settle-n.ensures (omega arith) (omega arith) (omega arith))
 
 pub returns : goal.returns
-returns c = ended _ _ _ _ _ c.loop-k.invariant.5 c.loop-k.invariant.0 c.loop-k-test.false
+returns c = ended _ _ _ _ _ c.loop-k.invariant.4 c.loop-k.auto.k-end c.loop-k-test.false

@@ -8,7 +8,7 @@ use Rattle.group_refusal.proofs.Faults.{some-start, some-found, some_on, some-no
 use Rattle.group_refusal.proofs.clashes.Goals as goal
 
 pub loop-i-init : goal.loop-i-init
-loop-i-init c = (search rules, some-start _ _)
+loop-i-init c = some-start _ _
 
 pub clash-requires : goal.clash-requires
 clash-requires c =
@@ -16,10 +16,10 @@ clash-requires c =
     (record { bytes_there = omega arith; oklab_there = omega arith }, c.requires.0 _ c.loop-i-test.true, k)
 
 pub returns-then-clash : goal.returns-then-clash
-returns-then-clash c = some-found _ _ _ _ c.loop-i.invariant.1 c.loop-i-test.true (sym c.clash.ensures ∙ c.if-clash.true)
+returns-then-clash c = some-found _ _ _ _ c.loop-i.invariant c.loop-i-test.true (sym c.clash.ensures ∙ c.if-clash.true)
 
 pub loop-i-preserved : goal.loop-i-preserved
-loop-i-preserved c = (search rules, some_on _ _ _ _ c.loop-i.invariant.1 c.loop-i-test.true (sym c.clash.ensures ∙ c.if-clash.false))
+loop-i-preserved c = some_on _ _ _ _ c.loop-i.invariant c.loop-i-test.true (sym c.clash.ensures ∙ c.if-clash.false)
 
 pub returns : goal.returns
-returns c = some-none _ _ _ _ c.loop-i.invariant.1 c.loop-i-test.false
+returns c = some-none _ _ _ _ c.loop-i.invariant c.loop-i-test.false

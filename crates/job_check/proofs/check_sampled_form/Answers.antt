@@ -1,51 +1,54 @@
 -- `job_check::check_sampled_form` meets its contract, return by return: each is a law of proofs/Answers.antt. Assumes nothing.
 use mathlib.Core.Bool.{not}
-use mathlib.Core.Path.{ap}
-use Rattle.job.specs.Job.{job_of}
+use mathlib.Core.Path.{refl, ap}
+use Rattle.answer.proofs.Refusals.{never_done, passed_on}
+use Rattle.job.specs.Job.{job_in}
 use Rattle.job.proofs.Ready.{sizes_of_lem}
 use Rattle.job_check.proofs.Answers.{sampled-sizes, sampled-many, sampled_shapes, sampled_unpaired, sampled-room, sampled-none, sampled_passes}
 use Rattle.job_check.proofs.check_sampled_form.Goals as goal
 
-pub returns-then-a-ne0 : goal.returns-then-a-ne0
-returns-then-a-ne0 c =
+pub returns-in_err-check_sizes : goal.returns-in_err-check_sizes
+returns-in_err-check_sizes c =
     let a = c.args in
-    sampled-sizes (job_of a.z a.tiles.now a.colours.now a.counts.now) a.room a.z.n a.samples _ c.check_sizes-a.ensures c.if-a-ne0.true
+    rw (passed_on _ _ c.from_residual.ensures)
+    (sampled-sizes (job_in a.job.now) a.room a.job.now.sizes.n a.samples _ c.in_err-check_sizes.ensures (never_done _))
 
-pub returns-then-z-gt-MOST_SAMPLES : goal.returns-then-z-gt-MOST_SAMPLES
-returns-then-z-gt-MOST_SAMPLES c =
+pub returns-then-job-gt-MOST_SAMPLES : goal.returns-then-job-gt-MOST_SAMPLES
+returns-then-job-gt-MOST_SAMPLES c =
     let a = c.args in
-    sampled-many (job_of a.z a.tiles.now a.colours.now a.counts.now) a.room a.z.n a.samples _ c.check_sizes-a.ensures
-    c.if-a-ne0.false c.if-z-gt-MOST_SAMPLES.true
+    sampled-many (job_in a.job.now) a.room a.job.now.sizes.n a.samples _ c.in_ok-check_sizes.ensures
+    refl c.if-job-gt-MOST_SAMPLES.true
 
-pub check_shapes-b-requires : goal.check_shapes-b-requires
-check_shapes-b-requires c = (sizes_of_lem _ _ _ _ _ c.check_sizes-a.ensures c.if-a-ne0.false).tiles
+pub check_shapes-requires : goal.check_shapes-requires
+check_shapes-requires c = (sizes_of_lem _ _ _ _ _ c.in_ok-check_sizes.ensures refl).tiles
 
-pub returns-then-b-ne0 : goal.returns-then-b-ne0
-returns-then-b-ne0 c =
+pub returns-in_err-check_shapes : goal.returns-in_err-check_shapes
+returns-in_err-check_shapes c =
     let a = c.args in
-    sampled_shapes (job_of a.z a.tiles.now a.colours.now a.counts.now) a.room a.z.n a.samples _ c.check_sizes-a.ensures
-    c.if-a-ne0.false c.if-z-gt-MOST_SAMPLES.false _ c.check_shapes-b.ensures c.if-b-ne0.true
+    rw (passed_on _ _ c.from_residual-in_err-check_shapes.ensures)
+    (sampled_shapes (job_in a.job.now) a.room a.job.now.sizes.n a.samples _ c.in_ok-check_sizes.ensures
+    refl c.if-job-gt-MOST_SAMPLES.false _ c.in_err-check_shapes.ensures (never_done _))
 
-pub returns-then-samples-z : goal.returns-then-samples-z
-returns-then-samples-z c =
+pub returns-then-samples-job : goal.returns-then-samples-job
+returns-then-samples-job c =
     let a = c.args in
-    sampled_unpaired (job_of a.z a.tiles.now a.colours.now a.counts.now) a.room a.z.n a.samples _ c.check_sizes-a.ensures
-    c.if-a-ne0.false c.if-z-gt-MOST_SAMPLES.false _ c.check_shapes-b.ensures c.if-b-ne0.false c.if-samples-z.true
+    sampled_unpaired (job_in a.job.now) a.room a.job.now.sizes.n a.samples _ c.in_ok-check_sizes.ensures
+    refl c.if-job-gt-MOST_SAMPLES.false _ c.in_ok-check_shapes.ensures refl c.if-samples-job.true
 
 pub returns-then-not-room : goal.returns-then-not-room
 returns-then-not-room c =
     let a = c.args in
-    sampled-room (job_of a.z a.tiles.now a.colours.now a.counts.now) a.room a.z.n a.samples _ c.check_sizes-a.ensures
-    c.if-a-ne0.false c.if-z-gt-MOST_SAMPLES.false _ c.check_shapes-b.ensures c.if-b-ne0.false c.if-samples-z.false (ap not c.if-not-room.true)
+    sampled-room (job_in a.job.now) a.room a.job.now.sizes.n a.samples _ c.in_ok-check_sizes.ensures
+    refl c.if-job-gt-MOST_SAMPLES.false _ c.in_ok-check_shapes.ensures refl c.if-samples-job.false (ap not c.if-not-room.true)
 
-pub returns-then-z-eq0 : goal.returns-then-z-eq0
-returns-then-z-eq0 c =
+pub returns-then-job-eq0 : goal.returns-then-job-eq0
+returns-then-job-eq0 c =
     let a = c.args in
-    sampled-none (job_of a.z a.tiles.now a.colours.now a.counts.now) a.room a.z.n a.samples _ c.check_sizes-a.ensures
-    c.if-a-ne0.false c.if-z-gt-MOST_SAMPLES.false _ c.check_shapes-b.ensures c.if-b-ne0.false c.if-samples-z.false (ap not c.if-not-room.false) c.if-z-eq0.true
+    sampled-none (job_in a.job.now) a.room a.job.now.sizes.n a.samples _ c.in_ok-check_sizes.ensures
+    refl c.if-job-gt-MOST_SAMPLES.false _ c.in_ok-check_shapes.ensures refl c.if-samples-job.false (ap not c.if-not-room.false) c.if-job-eq0.true
 
 pub returns : goal.returns
 returns c =
     let a = c.args in
-    sampled_passes (job_of a.z a.tiles.now a.colours.now a.counts.now) a.room a.z.n a.samples _ c.check_sizes-a.ensures
-    c.if-a-ne0.false c.if-z-gt-MOST_SAMPLES.false _ c.check_shapes-b.ensures c.if-b-ne0.false c.if-samples-z.false (ap not c.if-not-room.false) c.if-z-eq0.false
+    sampled_passes (job_in a.job.now) a.room a.job.now.sizes.n a.samples _ c.in_ok-check_sizes.ensures
+    refl c.if-job-gt-MOST_SAMPLES.false _ c.in_ok-check_shapes.ensures refl c.if-samples-job.false (ap not c.if-not-room.false) c.if-job-eq0.false

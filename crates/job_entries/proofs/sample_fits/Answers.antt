@@ -3,10 +3,10 @@ use borrow.Author.Tests.{le-ltb, lt-ltb}
 use Rattle.job.specs.Checks.{sample_test}
 use Rattle.job_entries.proofs.sample_fits.Goals as goal
 
-pub returns-then-tile-t : goal.returns-then-tile-t
+pub returns-then-tile-job : goal.returns-then-tile-job
 unfolding sample_test
-returns-then-tile-t c = simp (le-ltb _ _ c.if-tile-t.true)
+returns-then-tile-job c = simp (lt-ltb _ _ c.if-tile-job.true, c.size_of.ensures)
 
-pub returns : goal.returns
+pub returns-else-tile-job : goal.returns-else-tile-job
 unfolding sample_test
-returns c = simp (lt-ltb _ _ c.if-tile-t.false, c.size_of.ensures)
+returns-else-tile-job c = simp (le-ltb _ _ c.if-tile-job.false)

@@ -3,11 +3,11 @@ use borrow.Author.Tests.{eq-eqb, ne_eqb}
 use Rattle.answer.proofs.Passing.{fails, skips, none}
 use Rattle.job_limits.proofs.check_shapes.Goals as goal
 
-pub returns-then-tiles-z : goal.returns-then-tiles-z
-returns-then-tiles-z c = fails _ _ (ne_eqb _ _ c.if-tiles-z.true)
+pub returns-then-job : goal.returns-then-job
+returns-then-job c = fails _ _ (ne_eqb _ _ c.if-job.true)
 
-pub returns-then-colours-counts : goal.returns-then-colours-counts
-returns-then-colours-counts c = skips _ _ _ (eq-eqb _ _ c.if-tiles-z.false) (fails _ _ (ne_eqb _ _ c.if-colours-counts.true))
+pub returns-then-job-2 : goal.returns-then-job-2
+returns-then-job-2 c = skips _ _ _ (eq-eqb _ _ c.if-job.false) (fails _ _ (ne_eqb _ _ c.if-job-2.true))
 
 pub returns : goal.returns
-returns c = skips _ _ _ (eq-eqb _ _ c.if-tiles-z.false) (skips _ _ _ (eq-eqb _ _ c.if-colours-counts.false) none)
+returns c = skips _ _ _ (eq-eqb _ _ c.if-job.false) (skips _ _ _ (eq-eqb _ _ c.if-job-2.false) none)

@@ -7,6 +7,6 @@ pub returns-then-x-ge1 : goal.returns-then-x-ge1
 unfolding among
 returns-then-x-ge1 c = simp (le-leb _ _ c.if-x-ge1.true)
 
-pub returns : goal.returns
+pub returns-else-x-ge1 : goal.returns-else-x-ge1
 unfolding among
-returns c = simp (lt-leb _ _ c.if-x-ge1.false)
+returns-else-x-ge1 c = simp (lt-leb _ _ c.if-x-ge1.false)

@@ -6,6 +6,6 @@ pub returns-then-w : goal.returns-then-w
 unfolding weight_fits
 returns-then-w c = simp c.if-w.true
 
-pub returns : goal.returns
+pub returns-else-w : goal.returns-else-w
 unfolding weight_fits
-returns c = simp c.if-w.false
+returns-else-w c = simp c.if-w.false

@@ -1,9 +1,7 @@
 -- `job_tables::counts_fit` meets its contract. The invariant: the counts of every tile before i pass. Assumes nothing.
-use Prim.Native.Nat.{◌-◌}
 use mathlib.Core.Path.{refl, ap}
-use mathlib.Core.Bool.{true, not}
+use mathlib.Core.Bool.{not}
 use native.Mathlib.Omega.{arith}
-use borrow.Author.Rules.{rules}
 use Rattle.lists.specs.Every.{every}
 use Rattle.lists.proofs.Loops.{every_end}
 use Rattle.job.specs.Checks.{counts_fit}
@@ -13,7 +11,7 @@ use Rattle.job_tables.proofs.counts_fit.Goals as goal
 
 pub loop-i-init : goal.loop-i-init
 unfolding every
-loop-i-init c = (search rules, refl)
+loop-i-init c = refl
 
 pub counts_part-part-requires : goal.counts_part-part-requires
 counts_part-part-requires c = record { listed = omega arith; inside = omega (arith, tile-inside _ _ _ _ c.requires.1 _ c.loop-i-test.true) }
@@ -22,8 +20,8 @@ pub returns-then-not-part_fits : goal.returns-then-not-part_fits
 returns-then-not-part_fits c = all-counted_fails _ _ _ _ _ _ c.counts_part-part.ensures c.part_fits.ensures _ (ap not c.if-not-part_fits.true) c.loop-i-test.true
 
 pub loop-i-preserved : goal.loop-i-preserved
-loop-i-preserved c = (search rules, all-counted-more _ _ _ _ _ _ c.counts_part-part.ensures c.part_fits.ensures c.loop-i.invariant.1 (ap not c.if-not-part_fits.false))
+loop-i-preserved c = all-counted-more _ _ _ _ _ _ c.counts_part-part.ensures c.part_fits.ensures c.loop-i.invariant (ap not c.if-not-part_fits.false)
 
 pub returns : goal.returns
 unfolding counts_fit
-returns c = every_end _ _ _ c.loop-i.invariant.1 c.loop-i.invariant.0 c.loop-i-test.false
+returns c = every_end _ _ _ c.loop-i.invariant c.loop-i.auto.i-end c.loop-i-test.false
