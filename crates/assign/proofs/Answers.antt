@@ -6,8 +6,7 @@ use lib.Ieee.{Float}
 use lib.ListN.{length}
 use borrow.Author.Tests.{eqb-true}
 use Rattle.lists.proofs.Tests.{and_l, and_r}
-use Rattle.answer.specs.declared.Refusal.{Refusal}
-use Rattle.answer.specs.Rules.{nothing}
+use Rattle.answer.specs.Refusals.{Answered, nothing}
 use Rattle.answer.specs.Outcome.{outcome}
 use Rattle.answer.proofs.Outcomes.{was_refused, was_done}
 use Rattle.job.specs.Job.{Job}
@@ -19,7 +18,7 @@ use Rattle.assign_check.specs.Answer.{room_for, answer_for}
 use Rattle.assign.specs.Assign.{assign_answer, assign_def}
 
 module _ (J : Job) (palette : List Float) (h : TileMemory) where
-  module _ (r : Refusal) (e : r ≡ answer_for J palette (length h.hints) (length h.out)) where
+  module _ (r : Answered) (e : r ≡ answer_for J palette (length h.hints) (length h.out)) where
     -- a refusal writes nothing
     pub stop : (r.number ≡ 0 → ⊥) → outcome r h ≡ assign_def J palette h
     unfolding assign_def assign_answer
@@ -27,7 +26,7 @@ module _ (J : Job) (palette : List Float) (h : TileMemory) where
 
     module _ (z : r.number ≡ 0) where
       passed : Plain J palette (room_for J.T (length h.hints) (length h.out))
-      passed = plain_ready J palette (room_for J.T (length h.hints) (length h.out)) (subst (λ (x : Refusal). x.number ≡ 0) e z)
+      passed = plain_ready J palette (room_for J.T (length h.hints) (length h.out)) (subst (λ (x : Answered). x.number ≡ 0) e z)
 
       pub can_assign : CanAssign J palette h
       unfolding room_for

@@ -9,7 +9,7 @@ use lib.Dec.{eqb}
 use lib.Ieee.{Float}
 use lib.ListN.{length}
 use borrow.Author.Tests.{eqb-true}
-use Rattle.answer.specs.declared.Refusal.{Refusal}
+use Rattle.answer.specs.Refusals.{Answered}
 use Rattle.color.proofs.Sizes.{bounded_wider}
 use Rattle.job.specs.Job.{Job}
 use Rattle.job.specs.Gives.{Plain}
@@ -31,9 +31,9 @@ shown J palette room P =
     }
 
 -- what an answer of 0 to a call with one tile gives
-module _ (J : Job) (palette : List Float) (n : ℕ) (a : Refusal) (e : a ≡ one_answer J palette n) (z : a.number ≡ 0) where
+module _ (J : Job) (palette : List Float) (n : ℕ) (a : Answered) (e : a ≡ one_answer J palette n) (z : a.number ≡ 0) where
   answered : (one_answer J palette n).number ≡ 0
-  answered = subst (λ (x : Refusal). x.number ≡ 0) e z
+  answered = subst (λ (x : Answered). x.number ≡ 0) e z
 
   pub one-paired : (hints : List ℕ) → length hints ≡ n → Paired J palette J.S J.C hints 0
   one-paired hints l =

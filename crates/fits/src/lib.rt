@@ -3,27 +3,19 @@
 #![tactic(auto)]
 
 ghost use Rattle.std.specs.Prelude.{◌≡◌};
-ghost use Rattle.job.specs.Job.{job_of};
+ghost use Rattle.job.specs.Job.{job_in};
 ghost use Rattle.answer.specs.Outcome.{outcome};
+ghost use Rattle.answer.specs.Refusals.{by_number};
 ghost use Rattle.fits_outcome.specs.Fits.{single_def};
 
-use fits_outcome::Single;
-use job::Sizes;
+use answer::Refusal;
+use job::Job;
+use stats::Near;
 
 // The subpalette that fits the one tile of a job best, and its distance; its hint then names it.
-pub fn single_fit(
-    z: Sizes,
-    tiles: &[u32],
-    colours: &[f32],
-    counts: &[u32],
-    palette: &[f32],
-    hints: &mut [u32],
-) -> Single
-    ensures { outcome result hints.new ≡ single_def (job_of z tiles.now colours.now counts.now) palette.now hints.old }
+pub fn single_fit(job: &Job, palette: &[f32], hints: &mut [u32]) -> Result<Near, Refusal>
+    ensures { outcome (by_number result) hints.new ≡ single_def (job_in job.now) palette.now hints.old }
 {
-    let refusal = fits_check::check_single(z, tiles, colours, counts, palette, hints.len());
-    if refusal.number != 0 {
-        return Single::Refused(refusal);
-    }
-    Single::Best(palette_tile::tile_fit(z, tiles, colours, counts, palette, z.s, z.c, hints, 0))
+    fits_check::check_single(job, palette, hints.len())?;
+    Ok(palette_tile::tile_fit(job, palette, job.sizes.s, job.sizes.c, hints, 0))
 }

@@ -8,8 +8,8 @@ use lib.Dec.{eqb}
 use lib.Ieee.{Float}
 use lib.ListN.{length}
 use borrow.Author.Tests.{eq-eqb, ne_eqb}
-use Rattle.answer.specs.declared.Refusal.{Refusal}
-use Rattle.answer.specs.Rules.{refusal, nothing, numbered}
+use Rattle.answer.specs.Refusals.{Answered, refusal, nothing}
+use Rattle.answer.specs.Rules.{numbered}
 use Rattle.answer.proofs.Passing.{stops, goes, skips, fails, none}
 use Rattle.job.specs.Job.{Job, is_empty}
 use Rattle.job.specs.Checks.{plain_answer}
@@ -22,18 +22,18 @@ module _ (J : Job) (palette : List Float) (n : ℕ) where
   unfolding one_answer
   one-many h = fails _ _ (ne_eqb _ _ h)
 
-  pub one-checked : J.T ≡ 1 → (r : Refusal) → r ≡ plain_answer J palette (eqb n J.T) → r ≡ one_answer J palette n
+  pub one-checked : J.T ≡ 1 → (r : Answered) → r ≡ plain_answer J palette (eqb n J.T) → r ≡ one_answer J palette n
   unfolding one_answer plain_answer
   one-checked h r e = skips _ _ _ (eq-eqb _ _ h) e
 
-  module _ (a : Refusal) (e : a ≡ one_answer J palette n) where
+  module _ (a : Answered) (e : a ≡ one_answer J palette n) where
     pub single_stops : (a.number ≡ 0 → ⊥) → a ≡ single_answer J palette n
     unfolding one_answer single_answer numbered
     single_stops h = stops (one_rules J palette n) _ a refl e h
 
     module _ (z : a.number ≡ 0) where
       answered : (one_answer J palette n).number ≡ 0
-      answered = subst (λ (x : Refusal). x.number ≡ 0) e z
+      answered = subst (λ (x : Answered). x.number ≡ 0) e z
 
       pub one-listed : 1 < length J.tiles
       one-listed = omega (arith, one-tile J palette n answered, (one_plain J palette n answered).ready.table)

@@ -3,28 +3,20 @@
 #![tactic(auto)]
 
 ghost use Rattle.std.specs.Prelude.{◌≡◌};
-ghost use Rattle.job.specs.Job.{job_of};
+ghost use Rattle.job.specs.Job.{job_in};
 ghost use Rattle.answer.specs.Outcome.{outcome};
+ghost use Rattle.answer.specs.Refusals.{by_number};
 ghost use Rattle.fits_outcome.specs.Pairs.{pair_def};
 
-use fits_outcome::Pair;
-use job::Sizes;
+use answer::Refusal;
+use job::Job;
+use stats::Two;
 
 // The subpalette that fits the one tile of a job best and its distance, and the next best with its own, the best itself and infinity where
 // there is none; its hint then names the best. An empty tile is answered: 0 at 0, and 1 at 0, or 0 at infinity if s is 1.
-pub fn best_two(
-    z: Sizes,
-    tiles: &[u32],
-    colours: &[f32],
-    counts: &[u32],
-    palette: &[f32],
-    hints: &mut [u32],
-) -> Pair
-    ensures { outcome result hints.new ≡ pair_def (job_of z tiles.now colours.now counts.now) palette.now hints.old }
+pub fn best_two(job: &Job, palette: &[f32], hints: &mut [u32]) -> Result<Two, Refusal>
+    ensures { outcome (by_number result) hints.new ≡ pair_def (job_in job.now) palette.now hints.old }
 {
-    let refusal = fits_check::check_one(z, tiles, colours, counts, palette, hints.len());
-    if refusal.number != 0 {
-        return Pair::Refused(refusal);
-    }
-    Pair::Best(palette_tile::tile_two(z, tiles, colours, counts, palette, z.s, z.c, hints, 0))
+    fits_check::check_one(job, palette, hints.len())?;
+    Ok(palette_tile::tile_two(job, palette, job.sizes.s, job.sizes.c, hints, 0))
 }

@@ -2,8 +2,8 @@
 use Rattle.fits_check.proofs.Checks.{one-many, one-checked}
 use Rattle.fits_check.proofs.check_one.Goals as goal
 
-pub returns-then-z-ne1 : goal.returns-then-z-ne1
-returns-then-z-ne1 c = one-many _ _ _ c.if-z-ne1.true
+pub returns-then-job-ne1 : goal.returns-then-job-ne1
+returns-then-job-ne1 c = one-many _ _ _ c.if-job-ne1.true
 
 pub returns : goal.returns
-returns c = one-checked _ _ _ c.if-z-ne1.false _ c.check_job.ensures
+returns c = one-checked _ _ _ c.if-job-ne1.false _ c.check_job.ensures
