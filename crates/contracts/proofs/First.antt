@@ -5,7 +5,7 @@ use mathlib.Core.List.{List}
 use lib.ListN.{length}
 use lib.Ieee.{Float}
 use Rattle.job.specs.Job.{Job}
-use Rattle.answer.specs.declared.Refusal.{Refusal}
+use Rattle.answer.specs.Refusals.{Answered}
 use Rattle.answer.specs.Rules.{answer}
 use Rattle.answer.specs.Outcome.{Outcome, outcome}
 use Rattle.answer.specs.Words.{word, told}
@@ -69,10 +69,10 @@ first-kept =
     }
 
 -- what is told of each definition, over plain arguments
-no_value : Refusal → ℕ
+no_value : Answered → ℕ
 no_value e = 0
 
-told_is : {M : Type 0} (x : Outcome Refusal M) → told x ≡ outcome (word (itself x.answer) (no_value x.answer)) x.after
+told_is : {M : Type 0} (x : Outcome Answered M) → told x ≡ outcome (word (itself x.answer) (no_value x.answer)) x.after
 unfolding told no_value
 told_is x = refl
 
@@ -100,27 +100,17 @@ first-told =
     record {
       start =
           keeps start.exported start.export_defined start.ExportAnswers
-          (λ κs a.
-          let b = start.forwarded κs a in
-          start_tells (start.course_given κs b) (start.memory_lent κs b) (start.seed_given κs b)) exports.start;
+          (λ κs a. start_tells (start.export_course κs a) (start.export_memory κs a) (start.export_seed κs a)) exports.start;
       advance =
           keeps advance.exported advance.export_defined advance.ExportAnswers
-          (λ κs a.
-          let b = advance.forwarded κs a in
-          advance_tells (advance.course_given κs b) (advance.memory_lent κs b) (advance.allotment_given κs b)) exports.advance;
+          (λ κs a. advance_tells (advance.export_course κs a) (advance.export_memory κs a) (advance.export_allotment κs a)) exports.advance;
       hand_in =
           keeps hand_in.exported hand_in.export_defined hand_in.ExportAnswers
-          (λ κs a.
-          let b = hand_in.forwarded κs a in
-          hand_in_tells (hand_in.course_given κs b) (hand_in.memory_lent κs b) (hand_in.reduced_given κs b)) exports.hand_in;
+          (λ κs a. hand_in_tells (hand_in.export_course κs a) (hand_in.export_memory κs a) (hand_in.export_reduced κs a)) exports.hand_in;
       result =
           keeps result.exported result.export_defined result.ExportAnswers
-          (λ κs a.
-          let b = result.forwarded κs a in
-          result_tells (result.course_given κs b) (result.memory_lent κs b) (result.out_lent κs b)) exports.result;
+          (λ κs a. result_tells (result.export_course κs a) (result.export_memory κs a) (result.export_out κs a)) exports.result;
       assign =
           keeps assign.exported assign.export_defined assign.ExportAnswers
-          (λ κs a.
-          let b = assign.forwarded κs a in
-          assign_tells (assign.job_given κs b) (assign.palette_given κs b) (assign.tiles_lent κs b)) exports.assign;
+          (λ κs a. assign_tells (assign.export_job κs a) (assign.export_palette κs a) (assign.export_tiles κs a)) exports.assign;
     }

@@ -9,7 +9,7 @@ use denote.Triple.Entry.{Args}
 use denote.Triple.Clauses.{at_exit}
 use denote.Triple.Table.{run_framed}
 use denote.Triple.Weaken.{weaken}
-use Rattle.answer.specs.declared.Refusal.{Refusal}
+use Rattle.answer.specs.Refusals.{Answered}
 use Rattle.answer.specs.Outcome.{Outcome, outcome}
 use Rattle.answer.specs.Words.{packed, value_of, word}
 use Rattle.answer.proofs.Words.{apart}
@@ -27,7 +27,7 @@ module _ {O : Type 0} (f : Compiled O) (defined : Defined f) (P : Law f) where
       (𝓡.run (𝓡.env f.name)) (λ vs. fm→mono 𝓤 (𝓡.run (𝓡.env f.name) vs) (run_framed 𝓤 𝓛.H 𝓜 𝓡 (𝓡.env f.name) vs)) (met M 𝓤 𝓛 𝓜 𝓡 wired)
 
 -- the first demand of a definition is one of what its caller sees
-module _ {A M : Type 0} {definition : Outcome A M} {refusal_of : A → Refusal} {table : Refusal} {refused : Refusal → A} {lent : M} (c : Call definition refusal_of table refused lent) where
+module _ {A M : Type 0} {definition : Outcome A M} {refusal_of : A → Answered} {table : Answered} {refused : Answered → A} {lent : M} (c : Call definition refusal_of table refused lent) where
   pub answers : Answers refusal_of table refused lent definition
   answers = record { numbered = c.numbers; refuses = c.refuses }
 
@@ -36,14 +36,14 @@ module _ {A M : Type 0} {definition : Outcome A M} {refusal_of : A → Refusal} 
       → table.number < 256 → Tells table lent (tell definition)
   tells value tell is small =
       let worded : (tell definition).answer ≡ word table (value definition.answer) =
-      ap (λ (x : Outcome ℕ M). x.answer) (is definition) ∙ ap (λ (e : Refusal). word e (value definition.answer)) c.numbers in
+      ap (λ (x : Outcome ℕ M). x.answer) (is definition) ∙ ap (λ (e : Answered). word e (value definition.answer)) c.numbers in
       let parts = apart table (value definition.answer) small in
       record {
         numbered = ap (λ (k : ℕ). k % 256) worded ∙ parts.low;
         indexed = λ h. ap (λ (k : ℕ). k / 256) worded ∙ parts.rest ∙ refused-value (value definition.answer) h;
         refuses = λ h.
             is definition ∙ ap (λ (x : Outcome A M). outcome (word (refusal_of x.answer) (value x.answer)) x.after) (c.refuses h)
-            ∙ ap (λ (e : Refusal). outcome (word e (value (refused table))) lent) (sym (ap (λ (x : Outcome A M). refusal_of x.answer) (c.refuses h)) ∙ c.numbers)
+            ∙ ap (λ (e : Answered). outcome (word e (value (refused table))) lent) (sym (ap (λ (x : Outcome A M). refusal_of x.answer) (c.refuses h)) ∙ c.numbers)
             ∙ ap (λ (k : ℕ). outcome (packed table.number k) lent) (refused-value (value (refused table)) h);
       }
     where

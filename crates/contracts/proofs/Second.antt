@@ -4,15 +4,15 @@ use mathlib.Core.Path.{◌≡◌, subst}
 use mathlib.Core.List.{List}
 use lib.ListN.{length}
 use lib.Ieee.{Float}
-use Rattle.answer.specs.declared.Refusal.{Refusal}
+use Rattle.answer.specs.Refusals.{Answered, answer_in}
 use Rattle.job.specs.Job.{Job}
 use Rattle.job.specs.Checks.{plain_answer}
 use Rattle.fits_check.specs.One.{one_answer, single_answer}
 use Rattle.assign_tiles.specs.Tiles.{TileMemory}
 use Rattle.quantizer.specs.Course.{Course}
 use Rattle.run_stages.specs.Calls.{Memory, advance_answer, advance_call}
-use Rattle.fits_outcome.specs.Fits.{refusal_of_single, single_def}
-use Rattle.fits_outcome.specs.Pairs.{refusal_of_pair, pair_def}
+use Rattle.fits_outcome.specs.Fits.{single_def}
+use Rattle.fits_outcome.specs.Pairs.{pair_def}
 use Rattle.assign.specs.Assign.{assign_answer, assign_def}
 use Rattle.demands.proofs.First.{first_demand}
 use Rattle.demands.proofs.Second.{second_demand}
@@ -26,21 +26,21 @@ use Rattle.contracts.proofs.Calls.{contracts}
 
 -- a number that is 0 is an answer that is 0
 module _ (J : Job) (palette : List Float) where
-  single_accepted : (hints : List ℕ) → (refusal_of_single (single_def J palette hints).answer).number ≡ 0 → (single_answer J palette (length hints)).number ≡ 0
+  single_accepted : (hints : List ℕ) → (answer_in (single_def J palette hints).answer).number ≡ 0 → (single_answer J palette (length hints)).number ≡ 0
   unfolding single_answer
-  single_accepted hints h = subst (λ (r : Refusal). r.number ≡ 0) (first_demand.single_fit J palette hints).call.numbers h
+  single_accepted hints h = subst (λ (r : Answered). r.number ≡ 0) (first_demand.single_fit J palette hints).call.numbers h
 
-  pair-accepted : (hints : List ℕ) → (refusal_of_pair (pair_def J palette hints).answer).number ≡ 0 → (one_answer J palette (length hints)).number ≡ 0
+  pair-accepted : (hints : List ℕ) → (answer_in (pair_def J palette hints).answer).number ≡ 0 → (one_answer J palette (length hints)).number ≡ 0
   unfolding one_answer
-  pair-accepted hints h = subst (λ (r : Refusal). r.number ≡ 0) (first_demand.best_two J palette hints).call.numbers h
+  pair-accepted hints h = subst (λ (r : Answered). r.number ≡ 0) (first_demand.best_two J palette hints).call.numbers h
 
   assign-accepted : (h : TileMemory) → (assign_def J palette h).answer.number ≡ 0 → (assign_answer J palette h).number ≡ 0
   unfolding assign_answer plain_answer
-  assign-accepted h e = subst (λ (r : Refusal). r.number ≡ 0) (first_demand.assign J palette h).call.numbers e
+  assign-accepted h e = subst (λ (r : Answered). r.number ≡ 0) (first_demand.assign J palette h).call.numbers e
 
 advance-accepted : (K : Course) (m : Memory) (a : ℕ) → (advance_call K m a).answer.refusal.number ≡ 0 → (advance_answer K m).number ≡ 0
 unfolding advance_answer
-advance-accepted K m a h = subst (λ (r : Refusal). r.number ≡ 0) (first_demand.advance K m a).call.numbers h
+advance-accepted K m a h = subst (λ (r : Answered). r.number ≡ 0) (first_demand.advance K m a).call.numbers h
 
 pub second-kept : SecondKept
 second-kept =

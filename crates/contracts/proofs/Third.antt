@@ -3,7 +3,7 @@ use Prim.Native.Nat.{ℕ, ◌+◌, ◌/◌, ◌%◌, ◌<◌}
 use mathlib.Core.Path.{◌≡◌, refl, sym, ap, subst⁻¹, ◌∙◌}
 use lib.ListN.{get_or}
 use borrow.Author.Tests.{eq-eqb}
-use Rattle.answer.specs.declared.Refusal.{Refusal}
+use Rattle.answer.specs.Refusals.{Answered}
 use Rattle.answer.specs.Words.{value_of, word}
 use Rattle.answer.proofs.Words.{Apart, apart, answer-small}
 use Rattle.quantizer.specs.Course.{Course}
@@ -25,7 +25,7 @@ module _ (K : Course) (m : Memory) (a : ℕ) where
   told-drawn h = drawn ∙ ap (λ (d : ℕ). get_or m.words 4 0 + d) (sym (parts.rest ∙ done))
     where
       small : (advance_call K m a).answer.refusal.number < 256
-      small = subst⁻¹ (λ (r : Refusal). r.number < 256) (first_demand.advance K m a).call.numbers (answer-small (advance_rules K m) refl)
+      small = subst⁻¹ (λ (r : Answered). r.number < 256) (first_demand.advance K m a).call.numbers (answer-small (advance_rules K m) refl)
 
       parts : Apart (word (advance_call K m a).answer.refusal (advance_call K m a).answer.draws) (advance_call K m a).answer.refusal.number
           (value_of (advance_call K m a).answer.refusal (advance_call K m a).answer.draws)
@@ -42,7 +42,5 @@ reported =
           (λ κs a. drawn (advance.course_given κs a) (advance.memory_lent κs a) (advance.allotment_given κs a)) contracts.advance;
       told =
           keeps advance.exported advance.export_defined advance.ExportReports
-          (λ κs a.
-          let b = advance.forwarded κs a in
-          told-drawn (advance.course_given κs b) (advance.memory_lent κs b) (advance.allotment_given κs b)) exports.advance;
+          (λ κs a. told-drawn (advance.export_course κs a) (advance.export_memory κs a) (advance.export_allotment κs a)) exports.advance;
     }

@@ -6,9 +6,8 @@ use denote.Triple.Clauses.{AtExit}
 use Rattle.job.specs.Job.{sizes_of}
 use Rattle.answer.specs.Outcome.{Outcome, outcome}
 use Rattle.answer.specs.Rules.{answer}
-use Rattle.quantizer.specs.Course.{Course, course_of}
-use Rattle.run_stages.specs.declared.Advanced.{Advanced}
-use Rattle.run_stages.specs.Calls.{Memory, memory, state_of, advanced, advance_rules, advance_call}
+use Rattle.quantizer.specs.Course.{Course, course_of, course_in}
+use Rattle.run_stages.specs.Calls.{Memory, memory, state_of, Advanced, advanced, advanced_as, advance_rules, advance_call}
 use Rattle.run_stages.specs.History.{sampled}
 use Rattle.demands.specs.Second.{Draws}
 use Rattle.dunkafeto.specs.Told.{told_advance}
@@ -20,27 +19,25 @@ use Rattle.contracts.specs.Answers.{Answers, Tells}
 use Rattle.contracts.specs.Keeps.{Compiled}
 
 module _ (κs : Lfts (function.signature).lifetimes) (a : Args function.signature κs) where
-  -- the sizes, then the job's slices, the samples, the memory, and the allotment
+  -- the course, then the memory and the allotment
   abbrev pub course_given : Course
-  course_given =
-      let j = a.1 in
-      course_of a.0 j.0.now j.1.0.now j.1.1.0.now j.1.1.1.0.now
+  course_given = course_in a.0.now
 
   abbrev pub memory_lent : Memory
   memory_lent =
-      let m = a.1.1.1.1.1 in
+      let m = a.1 in
       memory m.0.now m.1.0.now m.1.1.0.now m.1.1.1.0.now m.1.1.1.1.0.now
 
   abbrev pub allotment_given : ℕ
-  allotment_given = a.1.1.1.1.1.1.1.1.1.1.0
+  allotment_given = a.1.1.1.1.1.1.0
 
   abbrev pub memory_left : AtExit function.ended κs → Memory
   memory_left e =
-      let m = e.1.1.1.1.1 in
+      let m = e.1 in
       memory m.0.now m.1.0.now m.1.1.0.now m.1.1.1.0.now m.1.1.1.1.0.now
 
   abbrev pub seen : Res function.signature κs → AtExit function.ended κs → Outcome Advanced Memory
-  seen r e = outcome r (memory_left e)
+  seen r e = outcome (advanced_as r) (memory_left e)
 
   abbrev pub defined : Outcome Advanced Memory
   defined = advance_call course_given memory_lent allotment_given
@@ -56,23 +53,35 @@ module _ (κs : Lfts (function.signature).lifetimes) (a : Args function.signatur
   abbrev pub Reports : Outcome Advanced Memory → Type 0
   Reports x = get_or x.after.words 4 0 ≡ get_or memory_lent.words 4 0 + x.answer.draws
 
--- its export takes the tile size, S, C, T, n and the weight by themselves
+-- its export takes the tile size, S, C, T, n and the weight by themselves, and the slices one by one
 module _ (κs : Lfts (export.signature).lifetimes) (a : Args export.signature κs) where
-  abbrev pub forwarded : Args function.signature κs
-  forwarded = (sizes_of a.0 a.1.0 a.1.1.0 a.1.1.1.0 a.1.1.1.1.0 a.1.1.1.1.1.0, a.1.1.1.1.1.1)
+  abbrev pub export_course : Course
+  export_course =
+      let j = a.1.1.1.1.1.1 in
+      course_of (sizes_of a.0 a.1.0 a.1.1.0 a.1.1.1.0 a.1.1.1.1.0 a.1.1.1.1.1.0) j.0.now j.1.0.now j.1.1.0.now j.1.1.1.0.now
+
+  abbrev pub export_memory : Memory
+  export_memory =
+      let m = a.1.1.1.1.1.1.1.1.1.1 in
+      memory m.0.now m.1.0.now m.1.1.0.now m.1.1.1.0.now m.1.1.1.1.0.now
+
+  abbrev pub export_allotment : ℕ
+  export_allotment = a.1.1.1.1.1.1.1.1.1.1.1.1.1.1.1.0
 
   abbrev pub export_seen : Res export.signature κs → AtExit export.ended κs → Outcome ℕ Memory
-  export_seen r e = outcome r (memory_left κs forwarded (forwarded.0, e.1.1.1.1.1.1))
+  export_seen r e =
+      let m = e.1.1.1.1.1.1.1.1.1.1 in
+      outcome r (memory m.0.now m.1.0.now m.1.1.0.now m.1.1.1.0.now m.1.1.1.1.0.now)
 
   abbrev pub export_defined : Outcome ℕ Memory
-  export_defined = told_advance (defined κs forwarded)
+  export_defined = told_advance (advance_call export_course export_memory export_allotment)
 
   abbrev pub ExportAnswers : Outcome ℕ Memory → Type 0
-  ExportAnswers = Tells (answer (advance_rules (course_given κs forwarded) (memory_lent κs forwarded))) (memory_lent κs forwarded)
+  ExportAnswers = Tells (answer (advance_rules export_course export_memory)) export_memory
 
   -- where it answers 0, what a host takes for the draws, the quotient by 256, is what the record has more
   abbrev pub ExportReports : Outcome ℕ Memory → Type 0
-  ExportReports x = x.answer % 256 ≡ 0 → get_or x.after.words 4 0 ≡ get_or (memory_lent κs forwarded).words 4 0 + x.answer / 256
+  ExportReports x = x.answer % 256 ≡ 0 → get_or x.after.words 4 0 ≡ get_or export_memory.words 4 0 + x.answer / 256
 
 abbrev pub compiled : Compiled (Outcome Advanced Memory)
 compiled = record { ended = function.ended; seen = seen; name = symbol.name; code = symbol.code }

@@ -1,16 +1,16 @@
 -- best_two: what it is given, what its caller sees, what is defined of it, and what the first two demands say of that. Definitions only. Assumes nothing.
-use Rattle.std.specs.Prelude.{ℕ, ◌≡◌, List, length, set, Float}
+use Rattle.std.specs.Prelude.{ℕ, ◌≡◌, List, length, set, Float, Result, Ok, Err}
 use contract.Lifetimes.{Lfts}
 use denote.Triple.Entry.{Args, Res}
 use denote.Triple.Clauses.{AtExit}
-use Rattle.job.specs.Job.{Job, job_of}
+use Rattle.job.specs.Job.{Job, job_in}
+use Rattle.stats.specs.declared.Two.{Two}
+use Rattle.answer.specs.Refusals.{Answered, answer_in, by_number}
 use Rattle.answer.specs.Outcome.{Outcome, outcome}
 use Rattle.answer.specs.Rules.{answer}
 use Rattle.palette_tile.specs.Tiles.{winner, two_at}
 use Rattle.fits_check.specs.One.{one_rules}
-use Rattle.fits_outcome.specs.Pairs.{refusal_of_pair, pair_def}
-use Rattle.fits_outcome.specs.declared.Pair.{Pair}
-use Rattle.fits_outcome.specs.declared.Pair.TheVariants as pair
+use Rattle.fits_outcome.specs.Pairs.{pair_def}
 use Rattle.demands.specs.Second.{Chosen}
 use Rattle.fits_two.specs.contracts.best_two as function
 use Rattle.fits_two.proofs.best_two.Symbol as symbol
@@ -18,36 +18,34 @@ use Rattle.contracts.specs.Answers.{Answers}
 use Rattle.contracts.specs.Keeps.{Compiled}
 
 module _ (κs : Lfts (function.signature).lifetimes) (a : Args function.signature κs) where
-  -- the sizes, then the job's slices and the palette, then the hints
+  -- the job and the palette, then the hints
   abbrev pub job_given : Job
-  job_given =
-      let j = a.1 in
-      job_of a.0 j.0.now j.1.0.now j.1.1.0.now
+  job_given = job_in a.0.now
 
   abbrev pub palette_given : List Float
-  palette_given = a.1.1.1.1.0.now
+  palette_given = a.1.0.now
 
   abbrev pub hints_lent : List ℕ
-  hints_lent = a.1.1.1.1.1.0.now
+  hints_lent = a.1.1.0.now
 
-  abbrev pub seen : Res function.signature κs → AtExit function.ended κs → Outcome Pair (List ℕ)
-  seen r e = outcome r e.1.1.1.1.1.0.now
+  abbrev pub seen : Res function.signature κs → AtExit function.ended κs → Outcome (Result Two Answered) (List ℕ)
+  seen r e = outcome (by_number r) e.1.1.0.now
 
-  abbrev pub defined : Outcome Pair (List ℕ)
+  abbrev pub defined : Outcome (Result Two Answered) (List ℕ)
   defined = pair_def job_given palette_given hints_lent
 
-  abbrev pub answers : Outcome Pair (List ℕ) → Type 0
+  abbrev pub answers : Outcome (Result Two Answered) (List ℕ) → Type 0
   answers =
-      Answers refusal_of_pair (answer (one_rules job_given palette_given (length hints_lent))) pair.Refused hints_lent
+      Answers answer_in (answer (one_rules job_given palette_given (length hints_lent))) Err hints_lent
 
   -- the second demand: where it answers, it answers with the choice, which becomes the hint
-  abbrev pub chooses : Outcome Pair (List ℕ) → Type 0
+  abbrev pub chooses : Outcome (Result Two Answered) (List ℕ) → Type 0
   chooses x =
       let s = job_given.S in
       let c = job_given.C in
-      (refusal_of_pair x.answer).number ≡ 0
+      (answer_in x.answer).number ≡ 0
       → Chosen job_given palette_given s c 0
-      × (x ≡ outcome (pair.Best (two_at job_given palette_given s c 0)) (set hints_lent 0 (winner job_given palette_given s c 0)))
+      × (x ≡ outcome (Ok (two_at job_given palette_given s c 0)) (set hints_lent 0 (winner job_given palette_given s c 0)))
 
-abbrev pub compiled : Compiled (Outcome Pair (List ℕ))
+abbrev pub compiled : Compiled (Outcome (Result Two Answered) (List ℕ))
 compiled = record { ended = function.ended; seen = seen; name = symbol.name; code = symbol.code }

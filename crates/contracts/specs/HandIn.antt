@@ -4,10 +4,10 @@ use contract.Lifetimes.{Lfts}
 use denote.Triple.Entry.{Args, Res}
 use denote.Triple.Clauses.{AtExit}
 use Rattle.job.specs.Job.{sizes_of}
-use Rattle.answer.specs.declared.Refusal.{Refusal}
+use Rattle.answer.specs.Refusals.{Answered, refusal_of}
 use Rattle.answer.specs.Outcome.{Outcome, outcome}
 use Rattle.answer.specs.Rules.{answer}
-use Rattle.quantizer.specs.Course.{Course, course_of}
+use Rattle.quantizer.specs.Course.{Course, course_of, course_in}
 use Rattle.run_stages.specs.Calls.{Memory, memory, hand_in_rules, hand_in_call}
 use Rattle.demands.specs.First.{itself}
 use Rattle.answer.specs.Words.{told}
@@ -19,50 +19,60 @@ use Rattle.contracts.specs.Answers.{Answers, Tells}
 use Rattle.contracts.specs.Keeps.{Compiled}
 
 module _ (κs : Lfts (function.signature).lifetimes) (a : Args function.signature κs) where
-  -- the sizes, then the job's slices, the samples, the memory, and the colours handed in
+  -- the course, then the memory and the colours handed in
   abbrev pub course_given : Course
-  course_given =
-      let j = a.1 in
-      course_of a.0 j.0.now j.1.0.now j.1.1.0.now j.1.1.1.0.now
+  course_given = course_in a.0.now
 
   abbrev pub memory_lent : Memory
   memory_lent =
-      let m = a.1.1.1.1.1 in
+      let m = a.1 in
       memory m.0.now m.1.0.now m.1.1.0.now m.1.1.1.0.now m.1.1.1.1.0.now
 
   abbrev pub reduced_given : List Float
-  reduced_given = a.1.1.1.1.1.1.1.1.1.1.0.now
+  reduced_given = a.1.1.1.1.1.1.0.now
 
   -- order and second palette are shared: they stay what they were
   abbrev pub memory_left : AtExit function.ended κs → Memory
   memory_left e =
-      let m = e.1.1.1.1.1 in
+      let m = e.1 in
       memory memory_lent.order m.1.0.now m.1.1.0.now memory_lent.least m.1.1.1.1.0.now
 
-  abbrev pub seen : Res function.signature κs → AtExit function.ended κs → Outcome Refusal Memory
-  seen r e = outcome r (memory_left e)
+  abbrev pub seen : Res function.signature κs → AtExit function.ended κs → Outcome Answered Memory
+  seen r e = outcome (refusal_of r) (memory_left e)
 
-  abbrev pub defined : Outcome Refusal Memory
+  abbrev pub defined : Outcome Answered Memory
   defined = hand_in_call course_given memory_lent reduced_given
 
-  abbrev pub answers : Outcome Refusal Memory → Type 0
+  abbrev pub answers : Outcome Answered Memory → Type 0
   answers = Answers itself (answer (hand_in_rules course_given memory_lent reduced_given)) itself memory_lent
 
--- its export takes the tile size, S, C, T, n and the weight by themselves
+-- its export takes the tile size, S, C, T, n and the weight by themselves, and the slices one by one
 module _ (κs : Lfts (export.signature).lifetimes) (a : Args export.signature κs) where
-  abbrev pub forwarded : Args function.signature κs
-  forwarded = (sizes_of a.0 a.1.0 a.1.1.0 a.1.1.1.0 a.1.1.1.1.0 a.1.1.1.1.1.0, a.1.1.1.1.1.1)
+  abbrev pub export_course : Course
+  export_course =
+      let j = a.1.1.1.1.1.1 in
+      course_of (sizes_of a.0 a.1.0 a.1.1.0 a.1.1.1.0 a.1.1.1.1.0 a.1.1.1.1.1.0) j.0.now j.1.0.now j.1.1.0.now j.1.1.1.0.now
+
+  abbrev pub export_memory : Memory
+  export_memory =
+      let m = a.1.1.1.1.1.1.1.1.1.1 in
+      memory m.0.now m.1.0.now m.1.1.0.now m.1.1.1.0.now m.1.1.1.1.0.now
+
+  abbrev pub export_reduced : List Float
+  export_reduced = a.1.1.1.1.1.1.1.1.1.1.1.1.1.1.1.0.now
 
   abbrev pub export_seen : Res export.signature κs → AtExit export.ended κs → Outcome ℕ Memory
-  export_seen r e = outcome r (memory_left κs forwarded (forwarded.0, e.1.1.1.1.1.1))
+  export_seen r e =
+      let m = e.1.1.1.1.1.1.1.1.1.1 in
+      outcome r (memory export_memory.order m.1.0.now m.1.1.0.now export_memory.least m.1.1.1.1.0.now)
 
   abbrev pub export_defined : Outcome ℕ Memory
-  export_defined = told (defined κs forwarded)
+  export_defined = told (hand_in_call export_course export_memory export_reduced)
 
   abbrev pub ExportAnswers : Outcome ℕ Memory → Type 0
-  ExportAnswers = Tells (answer (hand_in_rules (course_given κs forwarded) (memory_lent κs forwarded) (reduced_given κs forwarded))) (memory_lent κs forwarded)
+  ExportAnswers = Tells (answer (hand_in_rules export_course export_memory export_reduced)) export_memory
 
-abbrev pub compiled : Compiled (Outcome Refusal Memory)
+abbrev pub compiled : Compiled (Outcome Answered Memory)
 compiled = record { ended = function.ended; seen = seen; name = symbol.name; code = symbol.code }
 
 abbrev pub exported : Compiled (Outcome ℕ Memory)

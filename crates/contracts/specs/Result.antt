@@ -4,10 +4,10 @@ use contract.Lifetimes.{Lfts}
 use denote.Triple.Entry.{Args, Res}
 use denote.Triple.Clauses.{AtExit}
 use Rattle.job.specs.Job.{sizes_of}
-use Rattle.answer.specs.declared.Refusal.{Refusal}
+use Rattle.answer.specs.Refusals.{Answered, refusal_of}
 use Rattle.answer.specs.Outcome.{Outcome, outcome}
 use Rattle.answer.specs.Rules.{answer}
-use Rattle.quantizer.specs.Course.{Course, course_of}
+use Rattle.quantizer.specs.Course.{Course, course_of, course_in}
 use Rattle.run_stages.specs.Calls.{Memory, memory, result_rules, result_call}
 use Rattle.demands.specs.First.{itself}
 use Rattle.answer.specs.Words.{told}
@@ -19,47 +19,55 @@ use Rattle.contracts.specs.Answers.{Answers, Tells}
 use Rattle.contracts.specs.Keeps.{Compiled}
 
 module _ (κs : Lfts (function.signature).lifetimes) (a : Args function.signature κs) where
-  -- the sizes, then the job's slices, the samples, the memory, and the room for the colours
+  -- the course, then the memory and the room for the colours
   abbrev pub course_given : Course
-  course_given =
-      let j = a.1 in
-      course_of a.0 j.0.now j.1.0.now j.1.1.0.now j.1.1.1.0.now
+  course_given = course_in a.0.now
 
   abbrev pub memory_lent : Memory
   memory_lent =
-      let m = a.1.1.1.1.1 in
+      let m = a.1 in
       memory m.0.now m.1.0.now m.1.1.0.now m.1.1.1.0.now m.1.1.1.1.0.now
 
   abbrev pub out_lent : List Float
-  out_lent = a.1.1.1.1.1.1.1.1.1.1.0.now
+  out_lent = a.1.1.1.1.1.1.0.now
 
   abbrev pub out_left : AtExit function.ended κs → List Float
-  out_left e = e.1.1.1.1.1.1.1.1.1.1.0.now
+  out_left e = e.1.1.1.1.1.1.0.now
 
-  abbrev pub seen : Res function.signature κs → AtExit function.ended κs → Outcome Refusal (List Float)
-  seen r e = outcome r (out_left e)
+  abbrev pub seen : Res function.signature κs → AtExit function.ended κs → Outcome Answered (List Float)
+  seen r e = outcome (refusal_of r) (out_left e)
 
-  abbrev pub defined : Outcome Refusal (List Float)
+  abbrev pub defined : Outcome Answered (List Float)
   defined = result_call course_given memory_lent out_lent
 
-  abbrev pub answers : Outcome Refusal (List Float) → Type 0
+  abbrev pub answers : Outcome Answered (List Float) → Type 0
   answers = Answers itself (answer (result_rules course_given memory_lent out_lent)) itself out_lent
 
--- its export takes the tile size, S, C, T, n and the weight by themselves
+-- its export takes the tile size, S, C, T, n and the weight by themselves, and the slices one by one
 module _ (κs : Lfts (export.signature).lifetimes) (a : Args export.signature κs) where
-  abbrev pub forwarded : Args function.signature κs
-  forwarded = (sizes_of a.0 a.1.0 a.1.1.0 a.1.1.1.0 a.1.1.1.1.0 a.1.1.1.1.1.0, a.1.1.1.1.1.1)
+  abbrev pub export_course : Course
+  export_course =
+      let j = a.1.1.1.1.1.1 in
+      course_of (sizes_of a.0 a.1.0 a.1.1.0 a.1.1.1.0 a.1.1.1.1.0 a.1.1.1.1.1.0) j.0.now j.1.0.now j.1.1.0.now j.1.1.1.0.now
+
+  abbrev pub export_memory : Memory
+  export_memory =
+      let m = a.1.1.1.1.1.1.1.1.1.1 in
+      memory m.0.now m.1.0.now m.1.1.0.now m.1.1.1.0.now m.1.1.1.1.0.now
+
+  abbrev pub export_out : List Float
+  export_out = a.1.1.1.1.1.1.1.1.1.1.1.1.1.1.1.0.now
 
   abbrev pub export_seen : Res export.signature κs → AtExit export.ended κs → Outcome ℕ (List Float)
-  export_seen r e = outcome r (out_left κs forwarded (forwarded.0, e.1.1.1.1.1.1))
+  export_seen r e = outcome r e.1.1.1.1.1.1.1.1.1.1.1.1.1.1.1.0.now
 
   abbrev pub export_defined : Outcome ℕ (List Float)
-  export_defined = told (defined κs forwarded)
+  export_defined = told (result_call export_course export_memory export_out)
 
   abbrev pub ExportAnswers : Outcome ℕ (List Float) → Type 0
-  ExportAnswers = Tells (answer (result_rules (course_given κs forwarded) (memory_lent κs forwarded) (out_lent κs forwarded))) (out_lent κs forwarded)
+  ExportAnswers = Tells (answer (result_rules export_course export_memory export_out)) export_out
 
-abbrev pub compiled : Compiled (Outcome Refusal (List Float))
+abbrev pub compiled : Compiled (Outcome Answered (List Float))
 compiled = record { ended = function.ended; seen = seen; name = symbol.name; code = symbol.code }
 
 abbrev pub exported : Compiled (Outcome ℕ (List Float))

@@ -6,9 +6,9 @@ use native.Mathlib.Omega.{arith}
 use lib.ListN.{length}
 use lib.Ieee.{Float}
 use Rattle.quantizer.specs.Course.{Course}
-use Rattle.answer.specs.declared.Refusal.{Refusal}
+use Rattle.answer.specs.Refusals.{Answered}
 use Rattle.answer.specs.Outcome.{Outcome}
-use Rattle.run_stages.specs.declared.Advanced.{Advanced}
+use Rattle.run_stages.specs.Calls.{Advanced}
 use Rattle.run_stages.specs.State.{State}
 use Rattle.run_stages.specs.Stages.{advance, draws_of, hand_in}
 use Rattle.run_stages.specs.Calls.{Memory, memory, record_words, record_of, words_of, state_of, memory_of, advance_answer, hand_in_answer, advance_call, hand_in_call}
@@ -49,7 +49,7 @@ module _ (K : Course) where
 
   hand_in-whole : (m : Memory) (reduced : List Float) → (hand_in_answer K m reduced).number ≡ 0 → Whole (hand_in_call K m reduced).after
   unfolding hand_in_call
-  hand_in-whole m reduced h = written _ (hand_in K reduced (state_of m)) (ap (λ (o : Outcome Refusal Memory). o.after) (hand_in-done K m reduced h))
+  hand_in-whole m reduced h = written _ (hand_in K reduced (state_of m)) (ap (λ (o : Outcome Answered Memory). o.after) (hand_in-done K m reduced h))
 
   advance_drew : (m : Memory) (a : ℕ) → (advance_answer K m).number ≡ 0 → (advance_call K m a).answer.draws ≡ draws_of K a (state_of m)
   unfolding advance_call

@@ -30,7 +30,7 @@ use Rattle.quantizer.proofs.Bounds.{sample-sized}
 use Rattle.quantizer.proofs.Indexes.{target_in}
 use Rattle.quantizer.proofs.Lengths.{length_moved, length-moved_hints}
 use Rattle.answer.specs.Outcome.{Outcome}
-use Rattle.run_stages.specs.declared.Advanced.{Advanced}
+use Rattle.run_stages.specs.Calls.{Advanced}
 use Rattle.run_stages.specs.State.{State, draws}
 use Rattle.run_stages.specs.Stages.{due, subs_of, have_of, alpha_of, draw, draw_with, going, step, advance, draws_of}
 use Rattle.run_stages.specs.Calls.{Memory, state_of, advance_answer, advance_call}

@@ -13,7 +13,7 @@ use Rattle.job.specs.Job.{two}
 use Rattle.job.specs.Checks.{components_fit}
 use Rattle.quantizer.specs.Course.{Course, b}
 use Rattle.answer.specs.Outcome.{Outcome}
-use Rattle.run_stages.specs.declared.Advanced.{Advanced}
+use Rattle.run_stages.specs.Calls.{Advanced}
 use Rattle.run_stages.specs.State.{State, draws, stops}
 use Rattle.run_stages.specs.Stages.{going, step, advance, draws_of}
 use Rattle.run_stages.specs.Calls.{Memory, state_of, colours_room, advance_answer, hand_in_answer, result_answer, advance_call, hand_in_call}

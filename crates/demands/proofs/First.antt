@@ -1,4 +1,5 @@
 -- The ten public calls keep the first demand. Assumes nothing.
+use Rattle.std.specs.Prelude.{Result, Ok, Err}
 use Prim.Native.Nat.{ℕ}
 use mathlib.Core.Path.{◌≡◌, refl, sym, ap, subst, subst⁻¹, ◌∙◌}
 use mathlib.Core.Bool.{Bool, true, false, not, cond, ◌&&◌}
@@ -8,8 +9,8 @@ use lib.ListN.{length}
 use lib.Seq.{sets}
 use lib.Ieee.{Float}
 use borrow.Author.Tests.{ne_eqb}
-use Rattle.answer.specs.declared.Refusal.{Refusal}
-use Rattle.answer.specs.Rules.{refusal, nothing, Rule, rule, answer, numbered}
+use Rattle.answer.specs.Refusals.{Answered, refusal, nothing, answer_in}
+use Rattle.answer.specs.Rules.{Rule, rule, answer, numbered}
 use Rattle.answer.specs.Names.{Names}
 use Rattle.answer.specs.Outcome.{Outcome, outcome, decided}
 use Rattle.answer.proofs.Passing.{answer_then}
@@ -18,23 +19,17 @@ use Rattle.job.specs.Job.{Job, is_empty}
 use Rattle.job.specs.Checks.{tile_sized, plain_rules, plain_answer}
 use Rattle.job.specs.Bad.{plain_names}
 use Rattle.job.proofs.Indexes.{Placed, unplaced, plain-placed}
-use Rattle.fits_outcome.specs.Fits.{refusal_of_single, single_def}
-use Rattle.fits_outcome.specs.Pairs.{refusal_of_pair, pair_def}
+use Rattle.fits_outcome.specs.Fits.{single_def}
+use Rattle.fits_outcome.specs.Pairs.{pair_def}
 use Rattle.fits_check.specs.One.{one_rules, one_answer, single_answer}
-use Rattle.fits_outcome.specs.declared.Single.TheVariants as single
-use Rattle.fits_outcome.specs.declared.Pair.TheVariants as pair
 use Rattle.assign.specs.Assign.{TileMemory, room_for, assign_answer, assign_def}
 use Rattle.group_refusal.specs.Refusal.{Pixels, EntryRoom, group_answer}
 use Rattle.group_refusal.proofs.Names.{answer_names, accepted-nothing}
-use Rattle.group.specs.declared.Grouped.TheVariants as grouped
 use Rattle.group.specs.Group as groups
 use Rattle.bits.specs.Bits.{bits}
 use Rattle.format.specs.Format.{Res, fault, got, clear, Answer, refused, accepted, ended}
 use Rattle.sheet_format.specs.Sheet.{Sheet, edition_of, sheet, fault_of}
-use Rattle.sheet.specs.declared.Reading.TheVariants as reading
-use Rattle.sheet.specs.declared.Writing.{Writing}
-use Rattle.sheet.specs.declared.Writing.TheVariants as writing
-use Rattle.sheet.specs.Sheets.{Room, enough, found, refusal_of_reading, read_into, read_def, file_of, refusal_of_writing, stored_in, write_def}
+use Rattle.sheet.specs.Sheets.{Room, enough, found, read_into, read_def, file_of, stored_in, write_def}
 use Rattle.quantizer.specs.Course.{Course}
 use Rattle.run_stages.specs.Calls.{Memory, advanced, start_rules, advance_rules, hand_in_rules, result_rules, start_answer, advance_answer, hand_in_answer, result_answer, start_call, advance_call, hand_in_call, result_call}
 use Rattle.run_calls.specs.Names.{start_names, run_names, hand_in_names}
@@ -75,16 +70,16 @@ module _ (J : Job) (palette : List Float) where
           (λ _. unfold answer in unplaced (plain_names J palette) 0 refl))
 
   single_fit : (hints : List ℕ)
-      → Ruled (single_def J palette hints) refusal_of_single (one_rules J palette (length hints) ++ (rule 15 (not (is_empty J 0)) ∷ [])) single.Refused hints (plain_names J palette)
+      → Ruled (single_def J palette hints) answer_in (one_rules J palette (length hints) ++ (rule 15 (not (is_empty J 0)) ∷ [])) Err hints (plain_names J palette)
   unfolding single_def single_answer numbered
   single_fit hints =
-      ruled refusal_of_single single.Refused (λ e. refl) _ refl hints (one_rules J palette (length hints) ++ (rule 15 (not (is_empty J 0)) ∷ [])) refl (plain_names J palette)
+      ruled answer_in Err (λ e. refl) _ refl hints (one_rules J palette (length hints) ++ (rule 15 (not (is_empty J 0)) ∷ [])) refl (plain_names J palette)
       (plain-index (rule 2 (eqb J.T 1) ∷ []) (eqb (length hints) J.T) (rule 15 (not (is_empty J 0)) ∷ []) refl refl)
 
-  best_two : (hints : List ℕ) → Ruled (pair_def J palette hints) refusal_of_pair (one_rules J palette (length hints)) pair.Refused hints (plain_names J palette)
+  best_two : (hints : List ℕ) → Ruled (pair_def J palette hints) answer_in (one_rules J palette (length hints)) Err hints (plain_names J palette)
   unfolding pair_def one_answer numbered
   best_two hints =
-      ruled refusal_of_pair pair.Refused (λ e. refl) _ refl hints (one_rules J palette (length hints)) refl (plain_names J palette)
+      ruled answer_in Err (λ e. refl) _ refl hints (one_rules J palette (length hints)) refl (plain_names J palette)
       (plain-index (rule 2 (eqb J.T 1) ∷ []) (eqb (length hints) J.T) [] refl refl)
 
   assign : (h : TileMemory)
@@ -95,16 +90,16 @@ module _ (J : Job) (palette : List Float) where
       ruled itself itself (λ e. refl) _ refl h (plain_rules J palette room) refl (plain_names J palette) (plain-index [] room [] refl refl)
 
 -- ---- grouping: `group_answer` is 2, 3, then pixel by pixel 7 before 14
-grouping : (size : ℕ) (q : Pixels) (m : EntryRoom) → Call (groups.grouping size q m) groups.refusal_of (group_answer size q m) grouped.Refused m
+grouping : (size : ℕ) (q : Pixels) (m : EntryRoom) → Call (groups.grouping size q m) answer_in (group_answer size q m) Err m
 unfolding groups.grouping
-grouping size q m = decides groups.refusal_of grouped.Refused (λ e. refl) _ refl m (group_answer size q m) (λ z. sym (accepted-nothing size q m z))
+grouping size q m = decides answer_in Err (λ e. refl) _ refl m (group_answer size q m) (λ z. sym (accepted-nothing size q m z))
 
 -- ---- the sheet's reader: 2 for the tile size, 3 for room, 13 for too many bytes, then the first fault in field order (Sheets: 0, 2, 3, 12 and 13 exactly when)
-read_sheet : (size : ℕ) (bytes : List ℕ) (h : Room) → Call (read_def size bytes h) refusal_of_reading (refusal_in (found size bytes h)) reading.Refused h
+read_sheet : (size : ℕ) (bytes : List ℕ) (h : Room) → Call (read_def size bytes h) answer_in (refusal_in (found size bytes h)) Err h
 unfolding read_def
 read_sheet size bytes h = by (found size bytes h)
   where
-    by : (a : Answer Sheet) → Call (read_into (edition_of size) a h) refusal_of_reading (refusal_in a) reading.Refused h
+    by : (a : Answer Sheet) → Call (read_into (edition_of size) a h) answer_in (refusal_in a) Err h
     by (refused e) = record { only = λ x y p q. p ∙ sym q; numbers = refl; refuses = λ n. refl }
     by (accepted x) = record { only = λ x y p q. p ∙ sym q; numbers = refl; refuses = λ n. absurd (n refl) }
 
@@ -130,24 +125,24 @@ read_index size bytes h = by (tile_sized size) (enough h) (leb (length bytes) 65
 
 -- ---- its writer: as for fitting, then 13, then 3 for room
 module _ (J : Job) (palette : List Float) (bytes : List ℕ) where
-  abbrev unwritten : Refusal → Outcome Writing (List ℕ)
-  unwritten e = outcome (writing.Refused e) bytes
+  abbrev unwritten : Answered → Outcome (Result ℕ Answered) (List ℕ)
+  unwritten e = outcome (Err e) bytes
 
-  abbrev written : Outcome Writing (List ℕ)
-  written = outcome (writing.Bytes (length (file_of J palette))) (sets bytes 0 (file_of J palette))
+  abbrev written : Outcome (Result ℕ Answered) (List ℕ)
+  written = outcome (Ok (length (file_of J palette))) (sets bytes 0 (file_of J palette))
 
   in_order : (rules : List Rule) (p q : Bool) → numbered rules ≡ true
-      → decided (answer rules) (cond p (cond q written (unwritten (refusal 3 0))) (unwritten (refusal 13 0))) (writing.Refused (answer rules)) bytes
-      ≡ decided (answer (rules ++ (rule 13 p ∷ rule 3 q ∷ []))) written (writing.Refused (answer (rules ++ (rule 13 p ∷ rule 3 q ∷ [])))) bytes
+      → decided (answer rules) (cond p (cond q written (unwritten (refusal 3 0))) (unwritten (refusal 13 0))) (Err (answer rules)) bytes
+      ≡ decided (answer (rules ++ (rule 13 p ∷ rule 3 q ∷ []))) written (Err (answer (rules ++ (rule 13 p ∷ rule 3 q ∷ [])))) bytes
   unfolding decided
   in_order rules p q h =
       by (answer rules) (eqb (answer rules).number 0) p q refl
-      ∙ ap (λ (e : Refusal). cond (eqb e.number 0) written (unwritten e)) (sym joined)
+      ∙ ap (λ (e : Answered). cond (eqb e.number 0) written (unwritten e)) (sym joined)
     where
       joined : answer (rules ++ (rule 13 p ∷ rule 3 q ∷ [])) ≡ cond (eqb (answer rules).number 0) (cond p (cond q nothing (refusal 3 0)) (refusal 13 0)) (answer rules)
       joined = unfold answer in answer_then rules (rule 13 p ∷ rule 3 q ∷ []) h
 
-      by : (a : Refusal) (t p q : Bool) → eqb a.number 0 ≡ t
+      by : (a : Answered) (t p q : Bool) → eqb a.number 0 ≡ t
           → cond t (cond p (cond q written (unwritten (refusal 3 0))) (unwritten (refusal 13 0))) (unwritten a)
           ≡ (let e = cond t (cond p (cond q nothing (refusal 3 0)) (refusal 13 0)) a in cond (eqb e.number 0) written (unwritten e))
       by a true true true e = refl
@@ -155,12 +150,12 @@ module _ (J : Job) (palette : List Float) (bytes : List ℕ) where
       by a true false q e = refl
       by a false p q e = rw e
 
-  write_sheet : Ruled (write_def J palette bytes) refusal_of_writing (write_rules J palette bytes) writing.Refused bytes (plain_names J palette)
+  write_sheet : Ruled (write_def J palette bytes) answer_in (write_rules J palette bytes) Err bytes (plain_names J palette)
   unfolding write_def stored_in plain_answer numbered
   write_sheet =
-      subst⁻¹ (λ (d : Outcome Writing (List ℕ)). Ruled d refusal_of_writing (write_rules J palette bytes) writing.Refused bytes (plain_names J palette))
+      subst⁻¹ (λ (d : Outcome (Result ℕ Answered) (List ℕ)). Ruled d answer_in (write_rules J palette bytes) Err bytes (plain_names J palette))
       (in_order (plain_rules J palette true) (leb (length (file_of J palette)) 65536) (leb (length (file_of J palette)) (length bytes)) refl)
-      (ruled refusal_of_writing writing.Refused (λ e. refl) written refl bytes (write_rules J palette bytes) refl (plain_names J palette)
+      (ruled answer_in Err (λ e. refl) written refl bytes (write_rules J palette bytes) refl (plain_names J palette)
       (plain-index J palette [] true (rule 13 (leb (length (file_of J palette)) 65536) ∷ rule 3 (leb (length (file_of J palette)) (length bytes)) ∷ []) refl refl))
 
 pub first_demand : First

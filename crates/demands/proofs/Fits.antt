@@ -1,4 +1,5 @@
 -- The choice for a tile, and the calls that answer with it. Assumes nothing.
+use Rattle.std.specs.Prelude.{Ok, Err}
 use Prim.Native.Nat.{ℕ, ◌<◌}
 use mathlib.Core.Path.{◌≡◌, refl, sym, ap, ◌∙◌}
 use mathlib.Core.Bool.{Bool, true, false, not, cond}
@@ -13,8 +14,8 @@ use Rattle.lists.proofs.Tests.{and_l, and_r}
 use Rattle.ieee.specs.Terms.{Good}
 use Rattle.stats.specs.declared.Near.{Near}
 use Rattle.job.specs.Job.{Job, is_empty}
-use Rattle.answer.specs.declared.Refusal.{Refusal}
-use Rattle.answer.specs.Rules.{refusal, nothing, rule, answer, numbered}
+use Rattle.answer.specs.Refusals.{Answered, refusal, nothing}
+use Rattle.answer.specs.Rules.{rule, answer, numbered}
 use Rattle.answer.specs.Outcome.{Outcome, outcome, decided}
 use Rattle.answer.proofs.Outcomes.{decided-done}
 use Rattle.answer.proofs.Passing.{goes, fails, both_pass}
@@ -30,8 +31,6 @@ use Rattle.palette_tile.proofs.Present.{first_of-two, shown-present, tile-counte
 use Rattle.fits_outcome.specs.Fits.{single_def}
 use Rattle.fits_outcome.specs.Pairs.{pair_def}
 use Rattle.fits_check.specs.One.{one_rules, one_answer, single_answer}
-use Rattle.fits_outcome.specs.declared.Single.TheVariants as single
-use Rattle.fits_outcome.specs.declared.Pair.TheVariants as pair
 use Rattle.fits_two.proofs.Empty.{empty_one, empty_many}
 use Rattle.fits.proofs.Shown.{shown}
 use Rattle.fits_check.proofs.Passes.{one-tile, one_plain}
@@ -65,7 +64,7 @@ module _ (J : Job) (palette : List Float) (n have : ℕ) (P : Shown J palette n 
 
 -- ---- the single fit and best_two
 -- an answer that goes by the hints' number alone is one answer, whatever the hints and what is left in them
-any_hint : {R : Type 0} (table : ℕ → Refusal) (best : R) (refused : Refusal → R) (left : List ℕ → List ℕ) (h k : List ℕ) → length h ≡ length k
+any_hint : {R : Type 0} (table : ℕ → Answered) (best : R) (refused : Answered → R) (left : List ℕ → List ℕ) (h k : List ℕ) → length h ≡ length k
     → (decided (table (length h)) (outcome best (left h)) (refused (table (length h))) h).answer ≡ (decided (table (length k)) (outcome best (left k)) (refused (table (length k))) k).answer
 unfolding decided
 any_hint {R} table best refused left h k e =
@@ -79,7 +78,7 @@ module _ (J : Job) (palette : List Float) where
   -- a tile that passed is answered with its choice, which becomes its hint
   single_chooses : (hints : List ℕ) → (single_answer J palette (length hints)).number ≡ 0
       → Chosen J palette J.S J.C 0
-      × (single_def J palette hints ≡ outcome (single.Best (fit_at J palette J.S J.C 0)) (set hints 0 (winner J palette J.S J.C 0)))
+      × (single_def J palette hints ≡ outcome (Ok (fit_at J palette J.S J.C 0)) (set hints 0 (winner J palette J.S J.C 0)))
   single_chooses hints z =
       let first : (one_answer J palette (length hints)).number ≡ 0 = unfold single_answer one_answer numbered in (both_pass (one_rules J palette (length hints)) (rule 15 (not (is_empty J 0)) ∷ []) refl z).0 in (
         chosen J palette J.S J.C (shown J palette _ (one_plain J palette (length hints) first)) 0 (le_of_eq (sym (one-tile J palette (length hints) first))),
@@ -88,25 +87,25 @@ module _ (J : Job) (palette : List Float) where
 
   pair-chooses : (hints : List ℕ) → (one_answer J palette (length hints)).number ≡ 0
       → Chosen J palette J.S J.C 0
-      × (pair_def J palette hints ≡ outcome (pair.Best (two_at J palette J.S J.C 0)) (set hints 0 (winner J palette J.S J.C 0)))
+      × (pair_def J palette hints ≡ outcome (Ok (two_at J palette J.S J.C 0)) (set hints 0 (winner J palette J.S J.C 0)))
   pair-chooses hints z =
       let present = shown J palette _ (one_plain J palette (length hints) z) in
       let first : 0 < J.T = le_of_eq (sym (one-tile J palette (length hints) z)) in
       let c = chosen J palette J.S J.C present 0 first in
-      let answered : pair_def J palette hints ≡ outcome (pair.Best (two_at J palette J.S J.C 0)) (set hints 0 (two_at J palette J.S J.C 0).index) =
+      let answered : pair_def J palette hints ≡ outcome (Ok (two_at J palette J.S J.C 0)) (set hints 0 (two_at J palette J.S J.C 0).index) =
       unfold pair_def in decided-done (one_answer J palette (length hints)) _ _ hints z in (
         c,
-        answered ∙ ap (λ (k : ℕ). outcome (pair.Best (two_at J palette J.S J.C 0)) (set hints 0 k)) c.first,
+        answered ∙ ap (λ (k : ℕ). outcome (Ok (two_at J palette J.S J.C 0)) (set hints 0 k)) c.first,
       )
 
   -- whatever the hint: any two give one answer
   single_any_hint : (h k : List ℕ) → length h ≡ length k → (single_def J palette h).answer ≡ (single_def J palette k).answer
   unfolding single_def
-  single_any_hint = any_hint (single_answer J palette) (single.Best (fit_at J palette J.S J.C 0)) single.Refused (λ x. set x 0 (winner J palette J.S J.C 0))
+  single_any_hint = any_hint (single_answer J palette) (Ok (fit_at J palette J.S J.C 0)) Err (λ x. set x 0 (winner J palette J.S J.C 0))
 
   pair_any_hint : (h k : List ℕ) → length h ≡ length k → (pair_def J palette h).answer ≡ (pair_def J palette k).answer
   unfolding pair_def
-  pair_any_hint = any_hint (one_answer J palette) (pair.Best (two_at J palette J.S J.C 0)) pair.Refused (λ x. set x 0 (two_at J palette J.S J.C 0).index)
+  pair_any_hint = any_hint (one_answer J palette) (Ok (two_at J palette J.S J.C 0)) Err (λ x. set x 0 (two_at J palette J.S J.C 0).index)
 
   -- an empty tile, where all else passed: the single fit answers 15, and best_two as `empty_one` and `empty_many` say
   single_empty : (hints : List ℕ) → (one_answer J palette (length hints)).number ≡ 0 → is_empty J 0 ≡ true → single_answer J palette (length hints) ≡ refusal 15 0
@@ -122,17 +121,17 @@ assign_any_hints : (J : Job) (palette : List Float) (out h k : List ℕ) → len
 assign_any_hints J palette out h k e =
     (told h ∙ ap (λ (n : ℕ). cond (eqb (table n).number 0) nothing (table n)) e ∙ sym (told k), left h ∙ ap (λ (n : ℕ). cond (eqb (table n).number 0) all out) e ∙ sym (left k))
   where
-    table : ℕ → Refusal
+    table : ℕ → Answered
     table n = plain_answer J palette (room_for J.T n (length out))
 
     all : List ℕ
     all = subpalettes J palette out J.T
 
-    told_by : (t : Bool) (r : Refusal) (x y : TileMemory) → (cond t (outcome nothing x) (outcome r y)).answer ≡ cond t nothing r
+    told_by : (t : Bool) (r : Answered) (x y : TileMemory) → (cond t (outcome nothing x) (outcome r y)).answer ≡ cond t nothing r
     told_by true r x y = refl
     told_by false r x y = refl
 
-    left_by : (t : Bool) (r : Refusal) (x y : TileMemory) → (cond t (outcome nothing x) (outcome r y)).after.out ≡ cond t x.out y.out
+    left_by : (t : Bool) (r : Answered) (x y : TileMemory) → (cond t (outcome nothing x) (outcome r y)).after.out ≡ cond t x.out y.out
     left_by true r x y = refl
     left_by false r x y = refl
 
@@ -159,10 +158,10 @@ module _ (J : Job) (palette : List Float) (h : TileMemory) (z : (assign_answer J
 
   module _ (t : ℕ) (l : t < J.T) where
     out_at : get_or (assign_def J palette h).after.out t 0 ≡ subpalette_of J palette t
-    out_at = ap (λ (x : Outcome Refusal TileMemory). get_or x.after.out t 0) done ∙ (unfold assigned in subpalette_at J palette h.out J.T t (le_of_eq (sym room.1)) l)
+    out_at = ap (λ (x : Outcome Answered TileMemory). get_or x.after.out t 0) done ∙ (unfold assigned in subpalette_at J palette h.out J.T t (le_of_eq (sym room.1)) l)
 
     hint-left : get_or (assign_def J palette h).after.hints t 0 ≡ hint_of J palette h.hints t
-    hint-left = ap (λ (x : Outcome Refusal TileMemory). get_or x.after.hints t 0) done ∙ (unfold assigned in hint-at J palette h.hints J.T t (le_of_eq (sym room.0)) l)
+    hint-left = ap (λ (x : Outcome Answered TileMemory). get_or x.after.hints t 0) done ∙ (unfold assigned in hint-at J palette h.hints J.T t (le_of_eq (sym room.0)) l)
 
     -- each tile that is not empty gets its choice, whatever its hint was, and it becomes the hint
     assign-chooses : is_empty J t ≡ false

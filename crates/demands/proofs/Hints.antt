@@ -8,8 +8,8 @@ use lib.ListN.{length}
 use lib.Ieee.{Float}
 use borrow.Author.Tests.{eqb-true}
 use Rattle.job.specs.Job.{two}
-use Rattle.answer.specs.declared.Refusal.{Refusal}
-use Rattle.answer.specs.Rules.{nothing, Rule, rule, answer}
+use Rattle.answer.specs.Refusals.{Answered, nothing}
+use Rattle.answer.specs.Rules.{Rule, rule, answer}
 use Rattle.answer.specs.Outcome.{outcome, decided}
 use Rattle.job.specs.Checks.{colour_rule}
 use Rattle.quantizer.specs.Course.{Course}
@@ -40,7 +40,7 @@ memories s z e many =
     }
 
 -- ---- a call that is decided by its rules
-answers-alike : (e f : Refusal) (m x : Memory) (d c : ℕ) (s z : State) → e ≡ f → HintsApart m x → d ≡ c → Alike s z → (e.number ≡ 0 → length s.hints ≡ length z.hints)
+answers-alike : (e f : Answered) (m x : Memory) (d c : ℕ) (s z : State) → e ≡ f → HintsApart m x → d ≡ c → Alike s z → (e.number ≡ 0 → length s.hints ≡ length z.hints)
     → SameButHints (decided e (outcome (advanced nothing d) (memory_of s)) (advanced e 0) m) (decided f (outcome (advanced nothing c) (memory_of z)) (advanced f 0) x)
 unfolding decided
 answers-alike e f m x d c s z q h p a many = rw (sym q) (by (eqb e.number 0) refl)
@@ -51,7 +51,7 @@ answers-alike e f m x d c s z q h p a many = rw (sym q) (by (eqb e.number 0) ref
     by false k = record { answer = refl; after = h }
 
 -- one that makes no draw
-drawless-is : (e : Refusal) (after lent : Memory) → decided e (outcome (advanced nothing 0) after) (advanced e 0) lent ≡ drawless (decided e (outcome nothing after) e lent)
+drawless-is : (e : Answered) (after lent : Memory) → decided e (outcome (advanced nothing 0) after) (advanced e 0) lent ≡ drawless (decided e (outcome nothing after) e lent)
 unfolding decided
 drawless-is e after lent = by (eqb e.number 0)
   where
@@ -95,8 +95,8 @@ module _ (K : Course) where
         ap answer (rules (memory_room K m && colours_room K out) (memory_room K x && colours_room K out) (λ k. eqb k 7) (ap (λ (t : Bool). t && colours_room K out) room))
 
     -- what passed on one memory passes on the other
-    carried : {e f : Refusal} → e ≡ f → e.number ≡ 0 → f.number ≡ 0
-    carried q z = subst (λ (r : Refusal). r.number ≡ 0) q z
+    carried : {e f : Answered} → e ≡ f → e.number ≡ 0 → f.number ≡ 0
+    carried q z = subst (λ (r : Answered). r.number ≡ 0) q z
 
     -- ---- one call
     call_same : (c : Request) → SameButHints (called K m c) (called K x c)
@@ -121,7 +121,7 @@ module _ (K : Course) where
     result-same : (out : List Float) → result_call K m out ≡ result_call K x out
     unfolding result_call
     result-same out =
-        ap (λ (e : Refusal). decided e (outcome nothing m.palette) e out) (results_same out)
+        ap (λ (e : Answered). decided e (outcome nothing m.palette) e out) (results_same out)
         ∙ ap (λ (p : List Float). decided (result_answer K x out) (outcome nothing p) (result_answer K x out) out) h.palette
 
   -- ---- calls in a row

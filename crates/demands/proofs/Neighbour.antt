@@ -9,8 +9,8 @@ use lib.Dec.{eqb}
 use lib.ListN.{get_or}
 use lib.Ieee.{Float}
 use borrow.Author.Tests.{eq-eqb, eqb-true, not-true}
-use Rattle.answer.specs.declared.Refusal.{Refusal}
-use Rattle.answer.specs.Rules.{refusal, Rule, rule, answer, numbered}
+use Rattle.answer.specs.Refusals.{Answered, refusal}
+use Rattle.answer.specs.Rules.{Rule, rule, answer, numbered}
 use Rattle.answer.proofs.Passing.{goes, skips, fails}
 use Rattle.answer.proofs.Places.{numbers, number_passes}
 use Rattle.job.specs.Gives.{Sampled}
@@ -63,7 +63,7 @@ module _ (K L : Course) (g h : Bool) (D : Sampled K.job K.n K.samples g) (E : Sa
           | inr f ↦ sym (fails (rule 20 (eqb w (sizes_word L))) rest f)
         ];
         equal = λ same given. never_answered 20 refl rest none
-            (ap (λ (e : Refusal). e.number) (skips (rule 20 (eqb w (sizes_word L))) (answer rest) rest (eq-eqb w (sizes_word L) (q ∙ same_word same)) refl) ∙ given);
+            (ap (λ (e : Answered). e.number) (skips (rule 20 (eqb w (sizes_word L))) (answer rest) rest (eq-eqb w (sizes_word L) (q ∙ same_word same)) refl) ∙ given);
       }
 
 -- ---- behind the job's rules, which pass

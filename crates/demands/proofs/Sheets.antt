@@ -1,5 +1,6 @@
 -- The sheet's numbers, exactly when the table says: 0 for the bytes of a sheet that can be written, 2, 3, 12 and 13. Reader and writer undo each other; a sheet of
 -- one edition to the other's reader. Assumes nothing.
+use Rattle.std.specs.Prelude.{Err}
 use Prim.Native.Nat.{ℕ, ◌≤◌}
 use mathlib.Core.Path.{◌≡◌, refl, sym, ap, ap₂, subst, ◌∙◌}
 use mathlib.Core.Bool.{Bool, true, false, not, cond, ◌&&◌, ◌||◌, true≢false}
@@ -9,8 +10,7 @@ use lib.Pow.{are_bytes}
 use lib.ListN.{length}
 use lib.Ieee.{Float}
 use borrow.Author.Tests.{eq-eqb, leb-true}
-use Rattle.answer.specs.declared.Refusal.{Refusal}
-use Rattle.answer.specs.Rules.{refusal}
+use Rattle.answer.specs.Refusals.{Answered, refusal}
 use Rattle.answer.specs.Outcome.{outcome}
 use Rattle.bits.specs.Bits.{bits}
 use Rattle.format.specs.Format.{Res, fault, got, Answer, refused, accepted, clear, ended}
@@ -21,7 +21,6 @@ use Rattle.sheet_format.specs.Sheet.{Sheet, edition_of, fault_of, sheet, read_sh
 use Rattle.sheet_format.specs.Opened.{misopened}
 use Rattle.sheet_format.proofs.Editions.{proper}
 use Rattle.sheet_format.proofs.Faults.{failed, sheet-never, sheet-misopened}
-use Rattle.sheet.specs.declared.Reading.TheVariants as reading
 use Rattle.sheet.specs.Sheets.{Room, enough, read_into, read_def}
 use Rattle.sheet.proofs.Files.{encoded_bytes}
 use Rattle.sheet.proofs.Editions.{numbers_differ, other-edition, asks_for_its_size}
@@ -72,7 +71,7 @@ module _ (size : ℕ) (bytes : List ℕ) (h : Room) where
   few = leb (length bytes) 65536
 
   numbered : (k : ℕ) → eqb (number size bytes h) k ≡ cond (tile_sized size) (cond (enough h) (cond few (stopped k (fields size bytes)) (eqb 13 k)) (eqb 3 k)) (eqb 2 k)
-  numbered k = ap (λ (e : Refusal). eqb e.number k) (first_demand.read_sheet size bytes h).numbers ∙ by_fields k (tile_sized size) (enough h) few (fields size bytes)
+  numbered k = ap (λ (e : Answered). eqb e.number k) (first_demand.read_sheet size bytes h).numbers ∙ by_fields k (tile_sized size) (enough h) few (fields size bytes)
 
   -- a number that the fields never give
   unstopped : (k : ℕ) (x : Res Sheet) → eqb 0 k ≡ false → eqb 13 k ≡ false → failed k x ≡ false → stopped k x ≡ false
@@ -156,7 +155,7 @@ module _ (size : ℕ) (bytes : List ℕ) (h : Room) where
 
   number_0_of : tile_sized size ≡ true → enough h ≡ true → WellFormed E bytes → number size bytes h ≡ 0
   number_0_of t r W =
-      ap (λ (e : Refusal). e.number) (first_demand.read_sheet size bytes h).numbers
+      ap (λ (e : Answered). e.number) (first_demand.read_sheet size bytes h).numbers
       ∙ ap₂ (λ (a b : Bool). (refusal_in (cond a (cond b (read_sheet E bytes) (refused (refusal 3 0))) (refused (refusal 2 0)))).number) t r
       ∙ ap (λ (a : Answer Sheet). (refusal_in a).number) (well_read E bytes W)
 
@@ -175,7 +174,7 @@ module _ (size other : ℕ) (differ : Differ size other) (bytes : List ℕ) (W :
   turned_away : read_sheet (edition_of size) bytes ≡ refused (refusal 12 0)
   turned_away = other-edition (edition_of other) (proper other) bytes W.is (well_read (edition_of other) bytes W) (edition_of size) (numbers_differ size other differ.0 differ.1 differ.2)
 
-  told-other : (h : Room) → enough h ≡ true → read_def size bytes h ≡ outcome (reading.Refused (refusal 12 0)) h
+  told-other : (h : Room) → enough h ≡ true → read_def size bytes h ≡ outcome (Err (refusal 12 0)) h
   unfolding read_def
   told-other h r =
       ap₂ (λ (a b : Bool). read_into (edition_of size) (cond a (cond b (read_sheet (edition_of size) bytes) (refused (refusal 3 0))) (refused (refusal 2 0))) h) differ.0 r

@@ -1,38 +1,33 @@
 -- Every public call answers every input, checks its own arguments and ends: its contract asks nothing and has one outcome. A number is given exactly when
 -- the table says, in its order, with the index of the entry at fault; a refusal carries both, reports no draws and writes nothing. Assumes nothing.
-use Rattle.std.specs.Prelude.{ℕ, true, not, List, [], ◌∷◌, ◌++◌, leb, length, Float}
-use Rattle.answer.specs.declared.Refusal.{Refusal}
-use Rattle.answer.specs.Rules.{nothing, Rule, rule}
+use Rattle.std.specs.Prelude.{ℕ, true, not, List, [], ◌∷◌, ◌++◌, leb, length, Float, Err}
+use Rattle.answer.specs.Refusals.{Answered, nothing, answer_in}
+use Rattle.answer.specs.Rules.{Rule, rule}
 use Rattle.answer.specs.Names.{Table, Names}
 use Rattle.job.specs.Job.{Job, is_empty}
 use Rattle.job.specs.Checks.{plain_rules}
 use Rattle.job.specs.Bad.{plain_names}
-use Rattle.fits_outcome.specs.Fits.{refusal_of_single, single_def}
-use Rattle.fits_outcome.specs.Pairs.{refusal_of_pair, pair_def}
+use Rattle.fits_outcome.specs.Fits.{single_def}
+use Rattle.fits_outcome.specs.Pairs.{pair_def}
 use Rattle.fits_check.specs.One.{one_rules}
-use Rattle.fits_outcome.specs.declared.Single.TheVariants as single
-use Rattle.fits_outcome.specs.declared.Pair.TheVariants as pair
 use Rattle.assign.specs.Assign.{TileMemory, room_for, assign_def}
 use Rattle.group_refusal.specs.Refusal.{Pixels, EntryRoom, group_answer, pixel_names}
-use Rattle.group.specs.declared.Grouped.TheVariants as grouped
 use Rattle.group.specs.Group as groups
 use Rattle.format.specs.Format.{Answer, refused, accepted}
 use Rattle.sheet_format.specs.Sheet.{Sheet}
-use Rattle.sheet.specs.declared.Reading.TheVariants as reading
-use Rattle.sheet.specs.declared.Writing.TheVariants as writing
-use Rattle.sheet.specs.Sheets.{Room, found, refusal_of_reading, read_def, file_of, refusal_of_writing, write_def}
+use Rattle.sheet.specs.Sheets.{Room, found, read_def, file_of, write_def}
 use Rattle.quantizer.specs.Course.{Course}
 use Rattle.run_stages.specs.Calls.{Memory, advanced, start_rules, advance_rules, hand_in_rules, result_rules, start_call, advance_call, hand_in_call, result_call}
 use Rattle.run_calls.specs.Names.{start_names, run_names, hand_in_names}
 use Rattle.demands.specs.Calls.{Call, Ruled}
 
 -- ---- a call whose answer is nothing or a refusal
-abbrev pub itself : Refusal → Refusal
+abbrev pub itself : Answered → Answered
 itself e = e
 
 -- ---- the sheet's reader: what is `found`, 2 for the tile size, 3 for room, 13 for too many bytes, then the first fault in field order (Sheets: 0, 2, 3, 12 and 13
 -- exactly when). Only 7 has an index
-abbrev pub refusal_in : Answer Sheet → Refusal
+abbrev pub refusal_in : Answer Sheet → Answered
 refusal_in (refused e) = e
 refusal_in (accepted x) = nothing
 
@@ -50,15 +45,15 @@ pub record First : Type 0 where
   pub hand_in : (K : Course) (m : Memory) (reduced : List Float) → Ruled (hand_in_call K m reduced) itself (hand_in_rules K m reduced) itself m (hand_in_names K m reduced)
   pub result : (K : Course) (m : Memory) (out : List Float) → Ruled (result_call K m out) itself (result_rules K m out) itself out (run_names K m)
   pub single_fit : (J : Job) (palette : List Float) (hints : List ℕ)
-      → Ruled (single_def J palette hints) refusal_of_single (one_rules J palette (length hints) ++ (rule 15 (not (is_empty J 0)) ∷ [])) single.Refused hints (plain_names J palette)
+      → Ruled (single_def J palette hints) answer_in (one_rules J palette (length hints) ++ (rule 15 (not (is_empty J 0)) ∷ [])) Err hints (plain_names J palette)
   pub best_two : (J : Job) (palette : List Float) (hints : List ℕ)
-      → Ruled (pair_def J palette hints) refusal_of_pair (one_rules J palette (length hints)) pair.Refused hints (plain_names J palette)
+      → Ruled (pair_def J palette hints) answer_in (one_rules J palette (length hints)) Err hints (plain_names J palette)
   pub assign : (J : Job) (palette : List Float) (h : TileMemory)
       → Ruled (assign_def J palette h) itself (plain_rules J palette (room_for J.T (length h.hints) (length h.out))) itself h (plain_names J palette)
   -- `group_answer` is 2, 3, then pixel by pixel 7, which names the pixel, before 14
-  pub grouping : (size : ℕ) (q : Pixels) (m : EntryRoom) → Call (groups.grouping size q m) groups.refusal_of (group_answer size q m) grouped.Refused m
+  pub grouping : (size : ℕ) (q : Pixels) (m : EntryRoom) → Call (groups.grouping size q m) answer_in (group_answer size q m) Err m
   pub grouping_index : (size : ℕ) (q : Pixels) (m : EntryRoom) → Names (pixel_names q) (group_answer size q m)
-  pub read_sheet : (size : ℕ) (bytes : List ℕ) (h : Room) → Call (read_def size bytes h) refusal_of_reading (refusal_in (found size bytes h)) reading.Refused h
+  pub read_sheet : (size : ℕ) (bytes : List ℕ) (h : Room) → Call (read_def size bytes h) answer_in (refusal_in (found size bytes h)) Err h
   pub read_index : (size : ℕ) (bytes : List ℕ) (h : Room) → Names colour_names (refusal_in (found size bytes h))
   pub write_sheet : (J : Job) (palette : List Float) (bytes : List ℕ)
-      → Ruled (write_def J palette bytes) refusal_of_writing (write_rules J palette bytes) writing.Refused bytes (plain_names J palette)
+      → Ruled (write_def J palette bytes) answer_in (write_rules J palette bytes) Err bytes (plain_names J palette)

@@ -1,7 +1,6 @@
 -- A run belongs to the sizes of its job: a job of other sizes refuses it with 20, one of equal sizes never does. Assumes nothing.
 use Rattle.std.specs.Prelude.{ℕ, ◌≡◌, true, List, get_or, Float}
-use Rattle.answer.specs.declared.Refusal.{Refusal}
-use Rattle.answer.specs.Rules.{refusal}
+use Rattle.answer.specs.Refusals.{Answered, refusal}
 use Rattle.quantizer.specs.Course.{Course}
 use Rattle.run_stages.specs.Record.{sizes_word}
 use Rattle.run_stages.specs.Calls.{Memory, colours_room, start_answer, advance_answer, hand_in_answer, result_answer}
@@ -15,7 +14,7 @@ pub record SameSizes (K L : Course) : Type 0 where
   pub samples : K.n ≡ L.n
 
 -- 20 exactly when a size is another
-pub record ToldApart (K L : Course) (e : Refusal) : Type 0 where
+pub record ToldApart (K L : Course) (e : Answered) : Type 0 where
   pub other : (SameSizes K L → ⊥) → e ≡ refusal 20 0
   pub equal : SameSizes K L → e.number ≡ 20 → ⊥
 

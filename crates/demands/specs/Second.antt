@@ -1,9 +1,8 @@
 -- Results are proved against a definition: a tile that is not empty gets the subpalette of least rounded summed distance, the lowest index on a tie,
 -- whatever hint it starts from. In a run so does the tile of every sample drawn, and the sample moves one colour of that subpalette. Assumes nothing.
-use Rattle.std.specs.Prelude.{ℕ, ◌+◌, ◌-◌, ◌≤◌, ◌<◌, ◌≡◌, true, false, ◌≢◌, List, [], ◌∷◌, length, get_or, set, Float}
+use Rattle.std.specs.Prelude.{ℕ, ◌+◌, ◌-◌, ◌≤◌, ◌<◌, ◌≡◌, true, false, ◌≢◌, List, [], ◌∷◌, length, get_or, set, Float, Ok}
 use Rattle.std.specs.Float.{inf}
-use Rattle.answer.specs.declared.Refusal.{Refusal}
-use Rattle.answer.specs.Rules.{refusal}
+use Rattle.answer.specs.Refusals.{Answered, refusal}
 use Rattle.answer.specs.Outcome.{Outcome, outcome}
 use Rattle.cycle.specs.Cycle.{draw_one}
 use Rattle.color.specs.declared.Oklab.{Oklab}
@@ -18,12 +17,10 @@ use Rattle.palette_tile.specs.Tiles.{tile_at, present_in, fit_at, winner, two_at
 use Rattle.fits_check.specs.One.{one_answer, single_answer}
 use Rattle.fits_outcome.specs.Fits.{single_def}
 use Rattle.fits_outcome.specs.Pairs.{pair_def}
-use Rattle.fits_outcome.specs.declared.Single.TheVariants as single
-use Rattle.fits_outcome.specs.declared.Pair.TheVariants as pair
 use Rattle.assign_tiles.specs.Tiles.{TileMemory, tile_memory}
 use Rattle.assign.specs.Assign.{assign_answer, assign_def}
 use Rattle.quantizer.specs.Course.{Course, sample_tile, sample_colour}
-use Rattle.run_stages.specs.declared.Advanced.{Advanced}
+use Rattle.run_stages.specs.Calls.{Advanced}
 use Rattle.run_stages.specs.State.{State}
 use Rattle.run_stages.specs.Stages.{settle, cycle_of, subs_of, have_of, alpha_of, draw}
 use Rattle.run_stages.specs.Calls.{Memory, state_of, advanced, advance_answer, start_call, advance_call, hand_in_call, result_call}
@@ -55,7 +52,7 @@ module _ (J : Job) (palette : List Float) where
     -- a tile that passed is answered with its choice, which becomes its hint
     pub chooses : (hints : List ℕ) → (single_answer J palette (length hints)).number ≡ 0
         → Chosen J palette J.S J.C 0
-        × (single_def J palette hints ≡ outcome (single.Best (fit_at J palette J.S J.C 0)) (set hints 0 (winner J palette J.S J.C 0)))
+        × (single_def J palette hints ≡ outcome (Ok (fit_at J palette J.S J.C 0)) (set hints 0 (winner J palette J.S J.C 0)))
     -- any two hints give one answer
     pub any_hint : (h k : List ℕ) → length h ≡ length k → (single_def J palette h).answer ≡ (single_def J palette k).answer
     -- an empty tile, where all else passed, is refused
@@ -64,13 +61,13 @@ module _ (J : Job) (palette : List Float) where
   pub record BestTwo : Type 0 where
     pub chooses : (hints : List ℕ) → (one_answer J palette (length hints)).number ≡ 0
         → Chosen J palette J.S J.C 0
-        × (pair_def J palette hints ≡ outcome (pair.Best (two_at J palette J.S J.C 0)) (set hints 0 (winner J palette J.S J.C 0)))
+        × (pair_def J palette hints ≡ outcome (Ok (two_at J palette J.S J.C 0)) (set hints 0 (winner J palette J.S J.C 0)))
     pub any_hint : (h k : List ℕ) → length h ≡ length k → (pair_def J palette h).answer ≡ (pair_def J palette k).answer
     -- an empty tile: 0 at 0 and 1 at 0, or 0 at infinity where there is one subpalette
     pub empty_one : (hints : List ℕ) → (one_answer J palette (length hints)).number ≡ 0 → is_empty J 0 ≡ true → J.S ≡ 1
-        → pair_def J palette hints ≡ outcome (pair.Best (record { index = 0; dist = nought; next = 0; second = inf false })) (set hints 0 0)
+        → pair_def J palette hints ≡ outcome (Ok (record { index = 0; dist = nought; next = 0; second = inf false })) (set hints 0 0)
     pub empty_many : (hints : List ℕ) → (one_answer J palette (length hints)).number ≡ 0 → is_empty J 0 ≡ true → 2 ≤ J.S
-        → pair_def J palette hints ≡ outcome (pair.Best (record { index = 0; dist = nought; next = 1; second = nought })) (set hints 0 0)
+        → pair_def J palette hints ≡ outcome (Ok (record { index = 0; dist = nought; next = 1; second = nought })) (set hints 0 0)
 
   pub record Assign : Type 0 where
     -- each tile that is not empty gets its choice, whatever its hint was, and it becomes the hint
@@ -147,7 +144,7 @@ pub data Request : Type 0 where
   hand_in : List Float → Request
 
 -- a start and a hand_in make no draw
-abbrev pub drawless : Outcome Refusal Memory → Outcome Advanced Memory
+abbrev pub drawless : Outcome Answered Memory → Outcome Advanced Memory
 drawless x = outcome (advanced x.answer 0) x.after
 
 module _ (K : Course) where

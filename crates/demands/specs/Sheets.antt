@@ -1,11 +1,11 @@
 -- The numbers of the sheet's reader, exactly when the table says: 0 for the bytes of a sheet that can be written, 2, 3, 12 and 13. That reader and writer undo each
 -- other, and what a sheet is to a reader that is told the other edition's tile size. Assumes nothing.
-use Rattle.std.specs.Prelude.{ℕ, ◌≤◌, ◌≡◌, Bool, true, not, ◌&&◌, ◌||◌, List, T, leb, ltb, eqb, length, take, Float}
+use Rattle.std.specs.Prelude.{ℕ, ◌≤◌, ◌≡◌, Bool, true, not, ◌&&◌, ◌||◌, List, T, leb, ltb, eqb, length, take, Float, Ok, Err}
 use Rattle.std.proofs.Math.Pow.{are_bytes}
 use Rattle.std.proofs.lemmas.List.Edits.{sets}
 use Rattle.std.specs.Float.{binary32}
 use Rattle.std.specs.Float.Ieee.{fits}
-use Rattle.answer.specs.Rules.{refusal}
+use Rattle.answer.specs.Refusals.{refusal, answer_in}
 use Rattle.answer.specs.Outcome.{outcome}
 use Rattle.bits.specs.Bits.{bits}
 use Rattle.format.specs.Format.{Res, fault, got, clear, encode}
@@ -15,9 +15,7 @@ use Rattle.sheet_format.specs.declared.Edition.{Edition}
 use Rattle.sheet_format.specs.Sheet.{Sheet, edition_of, sheet}
 use Rattle.sheet_format.specs.Lists.{floats}
 use Rattle.sheet_format.specs.Opened.{misopened}
-use Rattle.sheet.specs.declared.Reading.TheVariants as reading
-use Rattle.sheet.specs.declared.Writing.TheVariants as writing
-use Rattle.sheet.specs.Sheets.{Singles, job_in, Room, room, enough, refusal_of_reading, read_def, write_def}
+use Rattle.sheet.specs.Sheets.{Singles, job_in, Room, room, enough, read_def, write_def}
 use Rattle.fit_lines.specs.Lines.{refused_line}
 use Rattle.sheet_parts.specs.Texts.{text_at, text_for}
 
@@ -37,7 +35,7 @@ unended (got x r) = not (ltb (length r) 8 && clear r)
 module _ (size : ℕ) (bytes : List ℕ) where
   -- of a reader that is told the tile size
   abbrev pub number : Room → ℕ
-  number h = (refusal_of_reading (read_def size bytes h).answer).number
+  number h = (answer_in (read_def size bytes h).answer).number
 
   -- what the fields give, before anything is asked of what stands behind them
   abbrev pub fields : Res Sheet
@@ -62,14 +60,14 @@ module _ (size : ℕ) (bytes : List ℕ) where
 -- ---- reader and writer undo each other, in either edition
 pub record Inverse : Type 0 where
   -- what is written for a job of floats of 32 bits is read as the same job by a reader that is told its tile size; what isn't filled stays
-  pub read_back : (J : Job) (palette : List Float) (old : List ℕ) (n : ℕ) (new : List ℕ) → outcome (writing.Bytes n) new ≡ write_def J palette old
+  pub read_back : (J : Job) (palette : List Float) (old : List ℕ) (n : ℕ) (new : List ℕ) → outcome (Ok n) new ≡ write_def J palette old
       → T (fits binary32 J.weight) → Singles J.colours → Singles palette → (h : Room) → enough h ≡ true
       → read_def J.size (take n new) h
-      ≡ outcome (reading.Sheet (sizes_of J.size J.S J.C J.T 0 J.weight))
+      ≡ outcome (Ok (sizes_of J.size J.S J.C J.T 0 J.weight))
       (room (sets h.tiles 0 J.tiles) (sets h.colours 0 J.colours) (sets h.counts 0 J.counts) (sets h.palette 0 palette))
   -- the job that a sheet holds is written as the same bytes
   pub write_back : (size : ℕ) (bytes : List ℕ) (W : WellFormed (edition_of size) bytes) (old : List ℕ) → length bytes ≤ length old
-      → write_def (job_in (edition_of size) W.is) (floats W.is.palette) old ≡ outcome (writing.Bytes (length bytes)) (sets old 0 bytes)
+      → write_def (job_in (edition_of size) W.is) (floats W.is.palette) old ≡ outcome (Ok (length bytes)) (sets old 0 bytes)
 
 -- ---- editions
 abbrev pub Differ : ℕ → ℕ → Type 0
@@ -78,7 +76,7 @@ Differ size other = (tile_sized size ≡ true) × (tile_sized other ≡ true) ×
 pub record Editions : Type 0 where
   -- a sheet of one edition is 12 to a reader that is told the other's tile size, and a program that is told it prints that line and no tile
   pub other : (size other : ℕ) → Differ size other → (bytes : List ℕ) → WellFormed (edition_of other) bytes → (h : Room) → enough h ≡ true
-      → read_def size bytes h ≡ outcome (reading.Refused (refusal 12 0)) h
+      → read_def size bytes h ≡ outcome (Err (refusal 12 0)) h
   pub no_tile : (size other : ℕ) → Differ size other → (bytes : List ℕ) → WellFormed (edition_of other) bytes → (f : Job → List Float → List ℕ)
       → text_at f size bytes ≡ refused_line 12
   -- a program that looks at the edition first reads a sheet of either as what it is

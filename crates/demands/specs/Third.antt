@@ -3,7 +3,7 @@
 use Rattle.std.specs.Prelude.{ℕ, ◌+◌, ◌-◌, ◌*◌, ◌/◌, ◌≤◌, ◌<◌, ◌≡◌, true, List, [], ◌∷◌, length, get_or, take, Float}
 use Rattle.lists.specs.Count.{count}
 use Rattle.lists.specs.Firsts.{firsts}
-use Rattle.answer.specs.Rules.{nothing}
+use Rattle.answer.specs.Refusals.{nothing}
 use Rattle.answer.specs.Outcome.{outcome}
 use Rattle.cycle.specs.Cycle.{draw_at}
 use Rattle.cycle.specs.Even.{Even}

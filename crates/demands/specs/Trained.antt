@@ -3,7 +3,7 @@
 use Rattle.std.specs.Prelude.{ℕ, ◌≤◌, ◌<◌, ◌≡◌, List, T, length, take}
 use Rattle.std.proofs.Math.Pow.{are_bytes}
 use Rattle.std.proofs.lemmas.List.Edits.{sets}
-use Rattle.answer.specs.declared.Refusal.{Refusal}
+use Rattle.answer.specs.Refusals.{Answered}
 use Rattle.color.specs.Color.{Bounded}
 use Rattle.answer.specs.Outcome.{outcome}
 use Rattle.format.specs.Format.{refused, accepted}
@@ -60,7 +60,7 @@ module _ (bytes room : List ℕ) where
     pub sheet : (x : Sheet) → read_sheet edition bytes ≡ accepted x → 1 ≤ samples x → samples x ≤ 16384 → ReadBack x
     pub none : (x : Sheet) → read_sheet edition bytes ≡ accepted x → samples x ≡ 0 → Line 1
     pub many : (x : Sheet) → read_sheet edition bytes ≡ accepted x → 16384 < samples x → Line 2
-    pub no_sheet : (e : Refusal) → read_sheet edition bytes ≡ refused e → Line e.number
+    pub no_sheet : (e : Answered) → read_sheet edition bytes ≡ refused e → Line e.number
 
 -- for all bytes, in room for any sheet; in less room nothing is written
 pub record Trained : Type 0 where
