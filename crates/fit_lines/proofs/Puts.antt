@@ -2,29 +2,12 @@
 use mathlib.Core.Path.{◌≡◌, refl, sym, ap, ap₂, ◌∙◌}
 use Prim.Native.Nat.{ℕ, zero, suc, ◌+◌, ◌-◌, ◌/◌, ◌%◌, ◌≤◌, ◌<◌}
 use native.Mathlib.Omega.{arith}
-use native.Mathlib.Numerals.{add-one}
 use mathlib.Core.List.{List, [], ◌∷◌}
-use lib.ListN.{length, get_or, drop, set}
-use lib.Seq.{sets, drop-cons, set_comm}
+use lib.ListN.{length, set}
+use lib.Seq.{sets, set_comm}
 use Rattle.bits.proofs.Fields.{sets_append}
 use Rattle.io.specs.Digits.{last_digits, hex_digit_ascii}
 use Rattle.fit_lines.proofs.Lengths.{length_digits}
-
--- ---- from the front: what is left to store gives the whole g
-pub word_again : (w l m g : List ℕ) (at i : ℕ) → i < length w → m ≡ set l (at + i) (get_or w i 0) → sets l (at + i) (drop i w) ≡ g → sets m (at + (i + 1)) (drop (i + 1) w) ≡ g
-word_again w l m g at i h e inv =
-    let a : at + (i + 1) ≡ suc (at + i) = omega arith in
-    let split : drop i w ≡ get_or w i 0 ∷ drop (i + 1) w = drop-cons w i 0 h ∙ ap (λ (n : ℕ). get_or w i 0 ∷ drop n w) (sym (add-one i)) in
-    ap₂ (λ (x : List ℕ) (j : ℕ). sets x j (drop (i + 1) w)) e a ∙ sym (ap (sets l (at + i)) split) ∙ inv
-
-none_left : (w : List ℕ) (i : ℕ) → length w ≤ i → drop i w ≡ []
-none_left [] zero h = refl
-none_left [] (suc i) h = refl
-none_left (x ∷ w) zero h = absurd (omega arith)
-none_left (x ∷ w) (suc i) h = none_left w i (omega arith)
-
-pub word_end : (w l g : List ℕ) (at i : ℕ) → length w ≤ i → sets l (at + i) (drop i w) ≡ g → l ≡ g
-word_end w l g at i h inv = sym (ap (sets l (at + i)) (none_left w i h)) ∙ inv
 
 -- ---- from the back: a store behind others can come first
 later : (x l : List ℕ) (p j a : ℕ) → p + length x ≤ j → sets (set l j a) p x ≡ set (sets l p x) j a

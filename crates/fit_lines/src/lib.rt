@@ -11,20 +11,21 @@ fn put_word(out: &mut [u8], at: usize, word: &[u8]) -> usize
     requires { at + length word.now ≤ length out.old }
     ensures { Stored out.old out.new at result word.now }
 {
-    let mut i = 0;
-    while i < word.len() {
-        let j = at + i;
-        out[j] = word[i];
-        i += 1;
-    }
-    at + i
+    let next = at + word.len();
+    out[at..next].copy_from_slice(word);
+    next
 }
 
+// A digit in ASCII.
 fn glyph(d: u32) -> u8
     requires { d < 16 }
     ensures { result ≡ hex_digit_ascii d }
 {
-    if d < 10 { 48 + d as u8 } else { 87 + d as u8 }
+    if d < 10 {
+        b'0' + d as u8
+    } else {
+        b'a' + (d - 10) as u8
+    }
 }
 
 // The last k digits of n in `base`, the most significant first.
@@ -33,9 +34,7 @@ fn put_digits(out: &mut [u8], at: usize, n: u32, base: u32, k: usize) -> usize
     ensures { Stored out.old out.new at result (last_digits base k n) }
 {
     let mut rest = n;
-    let mut i = k;
-    while i > 0 {
-        i -= 1;
+    for i in (0..k).rev() {
         let j = at + i;
         out[j] = glyph(rest % base);
         rest /= base;

@@ -29,10 +29,8 @@ fn count_blanks(tiles: &[u32], t: usize) -> u32
     ensures { result ≡ blanks_of tiles.now t }
 {
     let mut n = 0;
-    let mut i = 0;
-    while i < t {
+    for i in 0..t {
         n += if job::is_empty(tiles, i) { 1 } else { 0 };
-        i += 1;
     }
     n
 }
@@ -82,12 +80,10 @@ fn put_tiles(
         × ((k : ℕ) → get_or loads.new k 0 ≡ load_of (job_of z tiles.now colours.now counts.now) palette.now k z.t) }
 {
     let mut q = at;
-    let mut i = 0;
-    while i < z.t {
+    for i in 0..z.t {
         let found = tile_found(z, tiles, colours, counts, palette, hints, i);
         q = fit_lines::put_tile(out, q, i as u32, found);
         count_tile(tiles, i, found.sub, loads);
-        i += 1;
     }
     q
 }
@@ -98,10 +94,8 @@ fn put_loads(s: usize, loads: &[u32], out: &mut [u8], at: usize) -> usize
     ensures { Stored out.old out.new at result (load_lines (λ k. get_or loads.now k 0) s) }
 {
     let mut q = at;
-    let mut k = 0;
-    while k < s {
+    for k in 0..s {
         q = fit_lines::put_load(out, q, k as u32, loads[k]);
-        k += 1;
     }
     q
 }

@@ -7,7 +7,6 @@ use native.Mathlib.Nat.{le_trans, le_refl}
 use native.Mathlib.Omega.{arith}
 use lib.ListN.{get_or, length}
 use lib.Dec.{T}
-use lib.IntN.{pos}
 use lib.Ieee.{Float, binary32, of_bits}
 use lib.Ieee.Positive.{positive}
 use lib.Ieee.Bits.{of_bits-fits}

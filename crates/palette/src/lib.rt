@@ -1,12 +1,21 @@
-// Parts of one flat palette, and the nearest colour of one; the lesser of two indexes.
+// Parts of one flat palette, and the nearest colour of one.
 // Each function gives what its definition in specs/Palette.antt says; no definition reads a hint.
 #![tactic(auto)]
 
-ghost use Rattle.std.specs.Prelude.{◌≡◌, ◌+◌, ◌*◌, ◌≤◌, min, length};
+ghost use Rattle.std.specs.Prelude.{◌≡◌, ◌+◌, ◌*◌, ◌≤◌, length};
 ghost use Rattle.palette.specs.Palette.{sub_of, nearest_of};
 
 use color::Oklab;
 use stats::Near;
+
+// Four of a kind, one for each of four colours of a tile, one after the other: each is a lane of its own.
+#[derive(Clone, Copy)]
+pub struct Four<T> {
+    pub first: T,
+    pub second: T,
+    pub third: T,
+    pub fourth: T,
+}
 
 // Subpalette i of a flat palette with room for c colours in each, of which the first `have` are present.
 pub fn part(pal: &[f32], c: usize, have: usize, i: usize) -> &[f32]
@@ -22,26 +31,13 @@ pub fn part(pal: &[f32], c: usize, have: usize, i: usize) -> &[f32]
 pub fn nearest(s: &[f32], q: Oklab, w: f32) -> Near
     ensures { result ≡ nearest_of s.now q w }
 {
-    let n = s.len() / 3;
     let mut best = Near {
         index: 0,
-        dist: 1.0 / 0.0,
+        dist: f32::INFINITY,
     };
-    let mut i = 0;
-    while i < n {
+    for i in 0..s.len() / 3 {
         let d = color::oklab_sqdist(color::colour(s, i), q, w);
         best = stats::step_near(best, i, d);
-        i += 1;
     }
     best
-}
-
-// What reads a hint as an index that is there.
-pub fn least(a: usize, b: usize) -> usize
-    ensures { result ≡ min a b }
-{
-    if a < b {
-        return a;
-    }
-    b
 }

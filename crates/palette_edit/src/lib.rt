@@ -42,11 +42,7 @@ pub fn copy_subpalette(pal: &mut [f32], c: usize, have: usize, from: usize, to: 
     let size = 3 * have;
     let f = from * (3 * c);
     let t = to * (3 * c);
-    let mut j = 0;
-    while j < size {
-        pal[t + j] = pal[f + j];
-        j += 1;
-    }
+    pal.copy_within(f..f + size, t);
 }
 
 // A palette of n subpalettes gets subpalette `from` once more, as its next.

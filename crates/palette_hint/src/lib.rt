@@ -22,10 +22,9 @@ pub fn best_fit(
     requires { Fits (palette_with pal.now c have n) (tile_with tile.now counts.now) w × ((1 ≤ length counts.now) × Hinted n hints.old t) }
     ensures { (result ≡ best_fit (palette_with pal.now c have n) (tile_with tile.now counts.now) w) × (hints.new ≡ set hints.old t result.index) }
 {
-    let hint = palette::least(hints[t] as usize, n - 1);
+    let hint = (hints[t] as usize).min(n - 1);
     let best = palette_fit::best_from(pal, c, have, n, tile, counts, w, hint);
-    let winner = best.index;
-    hints[t] = winner as u32;
+    hints[t] = best.index as u32;
     best
 }
 
@@ -44,9 +43,8 @@ pub fn best_two(
     requires { Fits (palette_with pal.now c have n) (tile_with tile.now counts.now) w × Hinted n hints.old t }
     ensures { (result ≡ best_two (palette_with pal.now c have n) (tile_with tile.now counts.now) w) × (hints.new ≡ set hints.old t result.index) }
 {
-    let hint = palette::least(hints[t] as usize, n - 1);
+    let hint = (hints[t] as usize).min(n - 1);
     let two = palette_two_fit::best_two_from(pal, c, have, n, tile, counts, w, hint);
-    let winner = two.index;
-    hints[t] = winner as u32;
+    hints[t] = two.index as u32;
     two
 }

@@ -6,6 +6,7 @@ use mathlib.Core.Logic.{◌⊎◌, inl, inr}
 use mathlib.Core.List.{List}
 use native.Mathlib.Nat.{le_refl}
 use native.Mathlib.Omega.{arith}
+use Rattle.std.proofs.Common.{None, Some}
 use lib.Ieee.{Float, inf, binary32, lt}
 use Rattle.ieee.specs.Terms.{Good, key32, rank}
 use Rattle.ieee.proofs.Keys.{key-top}
@@ -17,7 +18,6 @@ use Rattle.stats.proofs.ScanTwo.{run_end}
 use Rattle.palette.specs.Palette.{Palette, Tile, sub_of, tile_distance, dist_at, Measured, Fits}
 use Rattle.palette.proofs.Parts.{sub_measured}
 use Rattle.palette.proofs.Sums.{dist-good}
-use Rattle.palette_distance.specs.declared.Within.TheVariants.{Over, Sum}
 use Rattle.palette_distance.specs.Distance.{within_of, Walked}
 use Rattle.palette_distance.proofs.Walks.{sum_case, over_case}
 use Rattle.palette_two.specs.PaletteTwo.{ahead, closer, weighed, best_two}
@@ -45,7 +45,7 @@ module _ (P : Palette) (X : Tile) (w : Float) (F : Fits P X w) (hint : ℕ) (H :
           let m : Measured s X w = sub_measured P F.palette i l X w F.tile F.weight s e in
           record { sub = m.sub; tile = m.tile; weight = m.weight; clear = R.good.pos }
 
-      pub turn-over : Over ≡ within_of s X w b.second → Runner (dist_at P X w) P.subs hint (i + 1) b
+      pub turn-over : None ≡ within_of s X w b.second → Runner (dist_at P X w) P.subs hint (i + 1) b
       unfolding dist_at
       turn-over a =
           let o = over_case (lt b.second (dist_at P X w i)) (dist_at P X w i) (a ∙ ap (λ (z : List Float). within_of z X w b.second) e) in
@@ -90,7 +90,7 @@ module _ (P : Palette) (X : Tile) (w : Float) (F : Fits P X w) (hint : ℕ) (H :
             let f = farther_rank b i (dist_at P X w i) (good i l) R.good k q in
             run_drops (dist_at P X w) P.subs hint good H N i b R l (behind p) (met f.0 R.met) f.1
 
-        pub turn-weighs : (d : Float) (r : Two) → Sum d ≡ within_of s X w b.second → r ≡ weighed b i d → Runner (dist_at P X w) P.subs hint (i + 1) r
+        pub turn-weighs : (d : Float) (r : Two) → Some d ≡ within_of s X w b.second → r ≡ weighed b i d → Runner (dist_at P X w) P.subs hint (i + 1) r
         unfolding dist_at
         turn-weighs d r a q =
             let o = sum_case (lt b.second (dist_at P X w i)) (dist_at P X w i) d (a ∙ ap (λ (z : List Float). within_of z X w b.second) e) in

@@ -5,7 +5,6 @@ ghost use Rattle.std.specs.Prelude.{◌≡◌, ◌<◌};
 ghost use Rattle.palette.specs.Palette.{palette_with, tile_with, Fits};
 ghost use Rattle.palette_two.specs.PaletteTwo.{best_two};
 
-use palette_distance::Within;
 use stats::Two;
 
 // Indexes and distances of the subpalette that fits a tile best and of the next best. The search starts at the hint.
@@ -27,7 +26,7 @@ pub fn best_two_from(
         index: hint,
         dist: first,
         next: hint,
-        second: 1.0 / 0.0,
+        second: f32::INFINITY,
     };
     for i in 0..n {
         if i == hint {
@@ -35,8 +34,7 @@ pub fn best_two_from(
         }
         // Anything over the runner-up can't change the outcome; a lower index at its distance can.
         let sub = palette::part(pal, c, have, i);
-        let Within::Sum(d) = palette_distance::distance_within(sub, tile, counts, w, b.second)
-        else {
+        let Some(d) = palette_distance::distance_within(sub, tile, counts, w, b.second) else {
             continue;
         };
         b = palette_two::weigh(b, i, d);

@@ -169,10 +169,6 @@ module _ {A : Type 0} (F : Format A) (s : List ℕ) (n i q k : ℕ) (g : Step) (
       → behind t (step_at (times (n - (i + 1)) F) s z) ≡ g
   turn-got a z t o h e = next-got F (λ a. times (n - (i + 1)) F) s q k g (more h) a z t o e
 
--- the same of a tile's colours, at the sum of the counts so far
-pub colours-start : (E : Edition) (s : List ℕ) (n q : ℕ) → behind 0 (step_at (colours E (n - 0) 0) s q) ≡ step_at (colours E n 0) s q
-colours-start E s n q = behind-none (step_at (colours E (n - 0) 0) s q) ∙ ap (λ (m : ℕ). step_at (colours E m 0) s q) (sub-zero n)
-
 module _ (E : Edition) (s : List ℕ) (n i q k sum : ℕ) (g : Step) (inv : behind k (step_at (colours E (n - i) sum) s q) ≡ g) where
   pub colours_end : n ≤ i → q ≤ 8 * length s → reached q k ≡ g
   colours_end h l = let e : n - i ≡ 0 = omega arith in at_end Colour s q k (colours E (n - i) sum) g (ap (λ (m : ℕ). colours E m sum) e) l inv

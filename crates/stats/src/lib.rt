@@ -6,7 +6,7 @@ ghost use Rattle.std.specs.Prelude.{◌≡◌};
 ghost use Rattle.stats.specs.Stats.{step_near, step_two, with_other};
 
 // Index and value of the smallest.
-#[derive(Drop)]
+#[derive(Clone, Copy)]
 pub struct Near {
     pub index: usize,
     pub dist: f32,
@@ -46,10 +46,9 @@ pub fn smallest_two(b: Two, i: usize, d: f32) -> Two
         }
     } else if d < b.second {
         Two {
-            index: b.index,
-            dist: b.dist,
             next: i,
             second: d,
+            ..b
         }
     } else {
         b
@@ -62,12 +61,7 @@ pub fn with_other(b: Two, n: usize) -> Two
     ensures { result ≡ with_other n b }
 {
     if b.next == b.index && n > 1 {
-        return Two {
-            index: b.index,
-            dist: b.dist,
-            next: 1,
-            second: b.second,
-        };
+        return Two { next: 1, ..b };
     }
     b
 }

@@ -30,15 +30,12 @@ fn extreme(values: &[f32], greatest: bool) -> usize
     requires { NoNan (value_at values.now) (length values.now) }
     ensures { result ≡ cond greatest (argmax_of (value_at values.now) (length values.now)) (argmin_of (value_at values.now) (length values.now)) }
 {
-    let n = values.len();
     let mut best = 0;
-    let mut i = 0;
-    while i < n {
-        let rises = total_key(values[best]) <= total_key(values[i]);
+    for (i, x) in values.iter().enumerate() {
+        let rises = total_key(values[best]) <= total_key(*x);
         if rises == greatest {
             best = i;
         }
-        i += 1;
     }
     best
 }

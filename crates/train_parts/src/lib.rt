@@ -20,13 +20,7 @@ pub fn samples_room() -> [u32; 32768]
 fn cut_one(x: f32) -> f32
     ensures { result ≡ cut_one x }
 {
-    if x > job::MOST_COMPONENT {
-        return job::MOST_COMPONENT;
-    }
-    if x < -job::MOST_COMPONENT {
-        return -job::MOST_COMPONENT;
-    }
-    x
+    x.clamp(-job::MOST_COMPONENT, job::MOST_COMPONENT)
 }
 
 // Each component, cut to -2..2. What stands behind them is not said.
@@ -35,10 +29,8 @@ pub fn cut(from: &[f32]) -> [f32; 768]
     ensures { (768 ≡ length result) × (take (length from.now) result ≡ cut from.now) }
 {
     let mut to = sheet_parts::palette_room();
-    let mut i = 0;
-    while i < from.len() {
-        to[i] = cut_one(from[i]);
-        i += 1;
+    for (i, x) in from.iter().enumerate() {
+        to[i] = cut_one(*x);
     }
     to
 }

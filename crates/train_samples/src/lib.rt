@@ -14,10 +14,8 @@ fn count_tile(part: &[u32]) -> usize
     ensures { result ≡ units part.now }
 {
     let mut n = 0;
-    let mut k = 0;
-    while k < part.len() {
-        n += job::wide(part[k]);
-        k += 1;
+    for m in part {
+        n += job::wide(*m);
     }
     n
 }
@@ -28,11 +26,9 @@ pub fn count_samples(t: usize, tiles: &[u32], counts: &[u32]) -> usize
     ensures { result ≡ units_to tiles.now counts.now t }
 {
     let mut n = 0;
-    let mut i = 0;
-    while i < t {
+    for i in 0..t {
         let part = job::counts_part(tiles, counts, i);
         n += count_tile(part);
-        i += 1;
     }
     n
 }
@@ -43,12 +39,10 @@ fn put_alike(samples: &mut [u32], at: usize, i: u32, k: u32, m: u32) -> usize
     ensures { Stored samples.old samples.new at result (alike i k m) }
 {
     let mut q = at;
-    let mut done = 0u32;
-    while done < m {
+    for _done in 0..m {
         samples[q] = i;
         samples[q + 1] = k;
         q += 2;
-        done += 1;
     }
     q
 }
@@ -59,10 +53,8 @@ fn put_tile(samples: &mut [u32], at: usize, i: u32, part: &[u32]) -> usize
     ensures { Stored samples.old samples.new at result (tile_samples i part.now (length part.now)) }
 {
     let mut q = at;
-    let mut k = 0;
-    while k < part.len() {
-        q = put_alike(samples, q, i, k as u32, part[k]);
-        k += 1;
+    for (k, m) in part.iter().enumerate() {
+        q = put_alike(samples, q, i, k as u32, *m);
     }
     q
 }
@@ -73,11 +65,9 @@ pub fn put_samples(t: usize, tiles: &[u32], counts: &[u32], samples: &mut [u32])
     ensures { Stored samples.old samples.new 0 result (samples_to tiles.now counts.now t) }
 {
     let mut q = 0;
-    let mut i = 0;
-    while i < t {
+    for i in 0..t {
         let part = job::counts_part(tiles, counts, i);
         q = put_tile(samples, q, i as u32, part);
-        i += 1;
     }
     q
 }

@@ -1,4 +1,5 @@
 -- `glyph` meets its contract, by its test. Assumes nothing.
+use native.Mathlib.Omega.{arith}
 use borrow.Author.Tests.{lt-ltb, le-ltb}
 use Rattle.fit_lines.proofs.glyph.Goals as goal
 
@@ -6,4 +7,4 @@ pub returns-then-d-lt10 : goal.returns-then-d-lt10
 returns-then-d-lt10 c = rw (lt-ltb c.args.d 10 c.if-d-lt10.true)
 
 pub returns-else-d-lt10 : goal.returns-else-d-lt10
-returns-else-d-lt10 c = rw (le-ltb c.args.d 10 c.if-d-lt10.false)
+returns-else-d-lt10 c = rw (le-ltb c.args.d 10 c.if-d-lt10.false) (omega arith)

@@ -14,7 +14,7 @@ use Rattle.fit_tiles.proofs.count_blanks.Goals.{then-is_empty, else-is_empty}
 
 pub loop-i-init : goal.loop-i-init
 unfolding blanks_of sum
-loop-i-init c = (omega arith, refl)
+loop-i-init c = refl
 
 pub overflow_add-n : goal.overflow_add-n
 overflow_add-n c =
@@ -31,10 +31,10 @@ loop-i-preserved c =
       | then-is_empty w ↦ w.n-is ∙ ap hit (sym w.if-is_empty.true ∙ is)
       | else-is_empty w ↦ w.n-is ∙ ap hit (sym w.if-is_empty.false ∙ is)
     ] in
-    (omega arith, sum_more blank turn.i turn.n c.if-is_empty.n turn.invariant.1 one)
+    sum_more blank turn.i turn.n c.if-is_empty.n turn.invariant one
 
 pub returns : goal.returns
 returns c =
     let turn = c.loop-i in
     let e : turn.i ≡ c.args.t = omega arith in
-    turn.invariant.1 ∙ ap (blanks_of c.args.tiles.now) e
+    turn.invariant ∙ ap (blanks_of c.args.tiles.now) e

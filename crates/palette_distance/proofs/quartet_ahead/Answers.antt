@@ -18,4 +18,4 @@ quartet_at-requires c = (c.requires, omega arith)
 pub returns : goal.returns
 returns c =
     let a = c.args in
-    λ l. own_quartet (tile_with a.tile.now a.counts.now) a.k _ _ c.least.ensures c.quartet_at.ensures l
+    λ l. own_quartet (tile_with a.tile.now a.counts.now) a.k _ _ c.min.ensures c.quartet_at.ensures l

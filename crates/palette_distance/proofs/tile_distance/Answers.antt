@@ -7,22 +7,22 @@ use Rattle.palette_distance.proofs.tile_distance.Goals as goal
 
 pub loop-j-init : goal.loop-j-init
 unfolding total_of
-loop-j-init c = (omega arith, refl)
+loop-j-init c = refl
 
 pub quartet_at-requires : goal.quartet_at-requires
 quartet_at-requires c = (c.requires.tile, omega arith)
 
 pub loop-j-preserved : goal.loop-j-preserved
-loop-j-preserved c = (omega arith, quartet_step _ _ _ _ _ (omega arith) _ c.quartet_at.ensures _ _ c.loop-j.invariant.1 c.add_quartet-sum.ensures)
+loop-j-preserved c = quartet_step _ _ _ _ _ (omega arith) _ c.quartet_at.ensures _ _ c.loop-j.invariant c.add_quartet-sum.ensures
 
 pub loop-k-init : goal.loop-k-init
-loop-k-init c = (omega arith, c.loop-j.invariant.1 ∙ ap (total_of _ _ _) (omega arith))
+loop-k-init c = c.loop-j.invariant ∙ ap (total_of _ _ _) (omega arith)
 
 pub term-sum-requires : goal.term-sum-requires
 term-sum-requires c = (c.requires, omega arith)
 
 pub loop-k-preserved : goal.loop-k-preserved
-loop-k-preserved c = (omega arith, total-step _ _ _ _ _ _ c.loop-k.invariant.1 c.term-sum.ensures)
+loop-k-preserved c = total-step _ _ _ _ _ _ c.loop-k.invariant c.term-sum.ensures
 
 pub returns : goal.returns
-returns c = c.loop-k.invariant.1 ∙ ap (total_of _ _ _) (omega arith)
+returns c = c.loop-k.invariant ∙ ap (total_of _ _ _) (omega arith)

@@ -2,7 +2,7 @@
 -- four colours. Assumes nothing.
 use mathlib.Core.Path.{sym, ap, ◌∙◌}
 use mathlib.Core.Bool.{Bool}
-use Rattle.palette_distance.specs.declared.Within.TheVariants.{Over, Sum}
+use Rattle.std.proofs.Common.{None, Some}
 use Rattle.palette_distance.specs.Distance.{pick_within, four_within, with_four}
 use Rattle.palette_distance.proofs.Walks.{over-at-one, over-at-two, over-at-three, at-four}
 use Rattle.palette_distance.proofs.within_quartet.Goals as goal
@@ -29,7 +29,7 @@ pub returns-then-loses : goal.returns-then-loses
 returns-then-loses c =
     let a = c.args in
     let d = c.nearest_four-d.result in
-    sym (ap (λ (t : Bool). pick_within t Over (Sum (with_four a.four.counts a.sum d))) c.if-loses.true)
+    sym (ap (λ (t : Bool). pick_within t None (Some (with_four a.four.counts a.sum d))) c.if-loses.true)
     ∙ at-four a.four.counts a.sum a.limit a.tie d c.if-one-limit.false c.if-two-limit.false c.if-three-limit.false c.loses.result c.loses.ensures
     ∙ ap (four_within a.four.counts a.sum a.limit a.tie) c.nearest_four-d.ensures
 
@@ -37,6 +37,6 @@ pub returns : goal.returns
 returns c =
     let a = c.args in
     let d = c.nearest_four-d.result in
-    sym (ap (λ (t : Bool). pick_within t Over (Sum (with_four a.four.counts a.sum d))) c.if-loses.false)
+    sym (ap (λ (t : Bool). pick_within t None (Some (with_four a.four.counts a.sum d))) c.if-loses.false)
     ∙ at-four a.four.counts a.sum a.limit a.tie d c.if-one-limit.false c.if-two-limit.false c.if-three-limit.false c.loses.result c.loses.ensures
     ∙ ap (four_within a.four.counts a.sum a.limit a.tie) c.nearest_four-d.ensures

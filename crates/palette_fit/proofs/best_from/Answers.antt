@@ -60,7 +60,7 @@ loop-j-preserved c =
     let a = c.args in
     let j = c.loop-j.j in
     let v = c.loop-j.invariant in
-    let r = four_won _ _ _ (4 * j) (4 * (j + 1)) (omega arith) _ (v.next (omega arith)) _ v.total _ _ _ c.in-Sum.ensures in
+    let r = four_won _ _ _ (4 * j) (4 * (j + 1)) (omega arith) _ (v.next (omega arith)) _ v.total _ _ _ c.in-Some.ensures in
     record {
       total = r.0;
       unlost = λ h. r.1;

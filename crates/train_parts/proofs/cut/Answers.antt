@@ -1,5 +1,4 @@
 -- `cut` meets its contract. The loop's invariant: what stands before i is cut. Assumes nothing.
-use Prim.Native.Nat.{◌-◌}
 use native.Mathlib.Omega.{arith}
 use lib.ListN.{length-set}
 use Rattle.train_parts.proofs.Cuts.{none-cut, cut-more, all-cut}
@@ -7,21 +6,20 @@ use mathlib.Core.Path.{sym}
 use Rattle.train_parts.proofs.cut.Goals as goal
 
 pub loop-i-init : goal.loop-i-init
-loop-i-init c = (omega arith, sym c.palette_room-to.ensures, none-cut c.args.from.now c.palette_room-to.result)
+loop-i-init c = (sym c.palette_room-to.ensures, none-cut c.args.from.now c.palette_room-to.result)
 
 pub loop-i-preserved : goal.loop-i-preserved
 loop-i-preserved c =
     let turn = c.loop-i in (
-      omega arith,
-      simp length-set turn.invariant.1,
+      simp length-set turn.invariant.0,
       cut-more c.args.from.now c.palette_room-to.result turn.i turn.to c.cut_one.result
-          (omega (arith, c.requires, c.palette_room-to.ensures)) c.loop-i-test.true turn.invariant.2 c.cut_one.ensures,
+          (omega (arith, c.requires, c.palette_room-to.ensures)) c.loop-i-test.true turn.invariant.1 c.cut_one.ensures,
     )
 
 pub returns : goal.returns
 returns c =
     let turn = c.loop-i in (
-      sym turn.invariant.1,
-      all-cut c.args.from.now c.palette_room-to.result turn.i turn.to turn.invariant.0 c.loop-i-test.false
-          turn.invariant.2,
+      sym turn.invariant.0,
+      all-cut c.args.from.now c.palette_room-to.result turn.i turn.to (omega arith) c.loop-i-test.false
+          turn.invariant.1,
     )

@@ -1,5 +1,5 @@
 -- `count_samples` meets its contract. The loop's invariant: the tiles passed are counted. Assumes nothing.
-use Prim.Native.Nat.{◌+◌, ◌-◌}
+use Prim.Native.Nat.{◌+◌}
 use mathlib.Core.Path.{◌≡◌, sym, ap, ◌∙◌}
 use native.Mathlib.Omega.{arith}
 use Rattle.train_samples.specs.Samples.{units, units_to}
@@ -7,7 +7,7 @@ use Rattle.train_samples.proofs.Counts.{no_tile, tile-more, few-units}
 use Rattle.train_samples.proofs.count_samples.Goals as goal
 
 pub loop-i-init : goal.loop-i-init
-loop-i-init c = (omega arith, sym (no_tile c.args.tiles.now c.args.counts.now))
+loop-i-init c = sym (no_tile c.args.tiles.now c.args.counts.now)
 
 pub counts_part-part-requires : goal.counts_part-part-requires
 counts_part-part-requires c = c.requires.placed _ c.loop-i-test.true
@@ -18,18 +18,15 @@ count_tile-n-requires c = omega (arith, ap units c.counts_part-part.ensures, c.r
 pub overflow_add-n : goal.overflow_add-n
 overflow_add-n c =
     let a = c.args in
-    let more = tile-more a.tiles.now a.counts.now c.loop-i.i c.loop-i.n _ c.loop-i.invariant.1 c.counts_part-part.ensures c.count_tile-n.ensures in
+    let more = tile-more a.tiles.now a.counts.now c.loop-i.i c.loop-i.n _ c.loop-i.invariant c.counts_part-part.ensures c.count_tile-n.ensures in
     omega (arith, more, few-units a.tiles.now a.counts.now a.t c.requires (c.loop-i.i + 1) (omega (arith, c.loop-i-test.true)), c.requires.few)
 
 pub loop-i-preserved : goal.loop-i-preserved
 loop-i-preserved c =
-    let a = c.args in (
-      omega arith,
-      tile-more a.tiles.now a.counts.now c.loop-i.i c.loop-i.n _ c.loop-i.invariant.1 c.counts_part-part.ensures
-          c.count_tile-n.ensures,
-    )
+    let a = c.args in
+    tile-more a.tiles.now a.counts.now c.loop-i.i c.loop-i.n _ c.loop-i.invariant c.counts_part-part.ensures c.count_tile-n.ensures
 
 pub returns : goal.returns
 returns c =
     let all : c.loop-i.i ≡ c.args.t = omega arith in
-    c.loop-i.invariant.1 ∙ ap (units_to c.args.tiles.now c.args.counts.now) all
+    c.loop-i.invariant ∙ ap (units_to c.args.tiles.now c.args.counts.now) all

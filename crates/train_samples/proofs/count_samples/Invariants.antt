@@ -1,11 +1,7 @@
 -- `count_samples` meets its contract. The loop's invariant: the tiles passed are counted. Assumes nothing.
-use Prim.Native.Nat.{◌≤◌, ◌-◌}
 use mathlib.Core.Path.{◌≡◌}
 use Rattle.train_samples.specs.Samples.{units_to}
 use Rattle.train_samples.proofs.count_samples.Given as goal
 
 abbrev pub invariant-loop-i : goal.invariant-loop-i
-invariant-loop-i l = (l.i ≤ l.t) × (l.n ≡ units_to l.tiles l.counts l.i)
-
-abbrev pub decreases-loop-i : goal.decreases-loop-i
-decreases-loop-i l = l.t - l.i
+invariant-loop-i l = l.n ≡ units_to l.tiles l.counts l.i

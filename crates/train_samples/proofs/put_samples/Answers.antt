@@ -1,6 +1,5 @@
 -- `put_samples` meets its contract. The loop's invariant: the samples of the tiles passed stand there. Assumes nothing.
-use Prim.Native.Nat.{◌-◌}
-use mathlib.Core.Path.{◌≡◌, refl, ◌∙◌}
+use mathlib.Core.Path.{◌≡◌}
 use native.Mathlib.Omega.{arith}
 use Rattle.train_samples.specs.Samples.{samples_to}
 use Rattle.train_samples.proofs.Stores.{nothing, samples-more, part_fits_lem}
@@ -8,7 +7,7 @@ use Rattle.train_samples.proofs.put_samples.Goals as goal
 
 pub loop-i-init : goal.loop-i-init
 unfolding samples_to
-loop-i-init c = (omega arith, refl, nothing _ _)
+loop-i-init c = nothing _ _
 
 pub counts_part-part-requires : goal.counts_part-part-requires
 counts_part-part-requires c = c.requires.0.placed _ c.loop-i-test.true
@@ -18,16 +17,12 @@ overflow_cast-i c = omega (arith, c.requires.0.few)
 
 pub put_tile-q-requires : goal.put_tile-q-requires
 put_tile-q-requires c =
-    part_fits_lem _ _ _ c.requires.0 _ _ _ _ _ c.loop-i-test.true c.loop-i.invariant.2 c.counts_part-part.ensures
-    (omega (arith, c.loop-i.invariant.1, c.requires.1))
+    part_fits_lem _ _ _ c.requires.0 _ _ _ _ _ c.loop-i-test.true c.loop-i.invariant c.counts_part-part.ensures
+    (omega (arith, c.loop-i.auto.samples, c.requires.1))
 
 pub loop-i-preserved : goal.loop-i-preserved
-loop-i-preserved c = (
-  omega arith,
-  c.put_tile-q.auto.samples ∙ c.loop-i.invariant.1,
-  samples-more _ _ _ _ _ _ _ _ _ c.loop-i.invariant.2
-      (rw c.counts_part-part.ensures at c.put_tile-q.ensures),
-)
+loop-i-preserved c =
+    samples-more _ _ _ _ _ _ _ _ _ c.loop-i.invariant (rw c.counts_part-part.ensures at c.put_tile-q.ensures)
 
 pub returns : goal.returns
-returns c = let e : c.loop-i.i ≡ c.args.t = omega arith in rw e at c.loop-i.invariant.2
+returns c = let e : c.loop-i.i ≡ c.args.t = omega arith in rw e at c.loop-i.invariant

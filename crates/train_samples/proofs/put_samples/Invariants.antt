@@ -1,13 +1,7 @@
 -- `put_samples` meets its contract. The loop's invariant: the samples of the tiles passed stand there. Assumes nothing.
-use Prim.Native.Nat.{◌≤◌, ◌-◌}
-use mathlib.Core.Path.{◌≡◌}
-use lib.ListN.{length}
 use Rattle.fit_lines.specs.Lines.{Stored}
 use Rattle.train_samples.specs.Samples.{samples_to}
 use Rattle.train_samples.proofs.put_samples.Given as goal
 
 abbrev pub invariant-loop-i : goal.invariant-loop-i
-invariant-loop-i l = (l.i ≤ l.t) × (length l.samples ≡ length l.initial.samples) × Stored l.initial.samples l.samples 0 l.q (samples_to l.tiles l.counts l.i)
-
-abbrev pub decreases-loop-i : goal.decreases-loop-i
-decreases-loop-i l = l.t - l.i
+invariant-loop-i l = Stored l.initial.samples l.samples 0 l.q (samples_to l.tiles l.counts l.i)

@@ -1,6 +1,5 @@
 -- `put_tile` meets its contract. The loop's invariant: the samples of the colours passed stand there. Assumes nothing.
-use Prim.Native.Nat.{◌-◌}
-use mathlib.Core.Path.{◌≡◌, refl, ◌∙◌}
+use mathlib.Core.Path.{◌≡◌}
 use native.Mathlib.Omega.{arith}
 use lib.ListN.{length}
 use Rattle.train_samples.specs.Samples.{tile_samples}
@@ -9,16 +8,16 @@ use Rattle.train_samples.proofs.put_tile.Goals as goal
 
 pub loop-k-init : goal.loop-k-init
 unfolding tile_samples
-loop-k-init c = (omega arith, refl, nothing _ _)
+loop-k-init c = nothing _ _
 
 pub put_alike-q-requires : goal.put_alike-q-requires
 put_alike-q-requires c =
     let turn = c.loop-k in let a = c.args in
     next_fits a.part.now turn.k a.at turn.q _ c.loop-k-test.true
-    (tile-place a.samples.now turn.samples a.at turn.q a.i a.part.now turn.k turn.invariant.2) (omega (arith, turn.invariant.1, c.requires.1))
+    (tile-place a.samples.now turn.samples a.at turn.q a.i a.part.now turn.k turn.invariant) (omega (arith, turn.auto.samples, c.requires.1))
 
 pub loop-k-preserved : goal.loop-k-preserved
-loop-k-preserved c = (omega arith, c.put_alike-q.auto.samples ∙ c.loop-k.invariant.1, tile-more _ _ _ _ _ _ _ _ _ c.loop-k.invariant.2 c.put_alike-q.ensures)
+loop-k-preserved c = tile-more _ _ _ _ _ _ _ _ _ c.loop-k.invariant c.put_alike-q.ensures
 
 pub returns : goal.returns
-returns c = let e : c.loop-k.k ≡ length c.args.part.now = omega arith in rw e at c.loop-k.invariant.2
+returns c = let e : c.loop-k.k ≡ length c.args.part.now = omega arith in rw e at c.loop-k.invariant

@@ -1,12 +1,9 @@
 -- `palette_distance::least_by_fours` meets its contract. The loop's invariant: the least of the four lanes is that of the first 4·k gaps.
 -- Assumes nothing.
-use Prim.Native.Nat.{◌*◌, ◌≤◌, ◌-◌}
+use Prim.Native.Nat.{◌*◌}
 use Rattle.stats.proofs.Lesser.{Lanes}
 use Rattle.palette.specs.Palette.{gap}
 use Rattle.palette_distance.proofs.near.least_by_fours.Given as goal
 
 abbrev pub invariant-loop-k : goal.invariant-loop-k
-invariant-loop-k l = (l.k ≤ l.fours) × Lanes (gap l.s l.q l.w) (4 * l.k) l.first l.second l.third l.fourth
-
-abbrev pub decreases-loop-k : goal.decreases-loop-k
-decreases-loop-k l = l.fours - l.k
+invariant-loop-k l = Lanes (gap l.s l.q l.w) (4 * l.k) l.first l.second l.third l.fourth
