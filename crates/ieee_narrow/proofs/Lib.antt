@@ -1,5 +1,2 @@
--- Why the conversion by bits is the conversion. Assumes nothing.
-pub mod Rounds
-pub mod Packs
-pub mod Bands
-pub mod Fields
+-- The library's definition of the conversion is ours. Assumes nothing.
+pub mod Rounded

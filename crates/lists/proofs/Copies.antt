@@ -1,16 +1,15 @@
--- A loop that copies the first places of one row to another, place by place, and what the copy leaves: the row written has them, every other row keeps its own.
+-- What a copy of the first places of one row to another leaves: the row written has them, every other row keeps its own.
 -- Over any type of items. Assumes nothing.
 use Prim.Native.Nat.{ℕ, ◌+◌, ◌*◌, ◌≤◌, ◌<◌}
-use mathlib.Core.Path.{◌≡◌, sym, ap, ◌∙◌}
+use mathlib.Core.Path.{◌≡◌, sym, ◌∙◌}
 use mathlib.Core.Logic.{◌≢◌, inl, inr}
 use mathlib.Core.List.{List}
-use native.Mathlib.Nat.{le_antisymm, le_trans, le_of_eq, mul-le-mul_right, suc-mul}
-use native.Mathlib.Numerals.{add-one}
+use native.Mathlib.Nat.{le_trans, le_of_eq, mul-le-mul_right, suc-mul}
 use native.Mathlib.Omega.{arith}
-use lib.ListN.{get_or, length, set, drop, length-take, length-drop}
-use lib.Seq.{paste, get_or-take, get_or-drop, length-paste, paste-suc, ext_get_or}
+use lib.ListN.{get_or, length, drop, length-take, length-drop}
+use lib.Seq.{paste, get_or-take, get_or-drop, length-paste, ext_get_or}
 use Rattle.lists.specs.Parts.{part, copied}
-use Rattle.lists.proofs.Runs.{lt_or_ge, lt_or_gt, paste-before, paste_in, paste-after}
+use Rattle.lists.proofs.Runs.{lt_or_gt, paste-before, paste_in, paste-after}
 
 -- ---- row i ends where a later row j begins, or before
 pub row_before : (i j stride : ℕ) → i < j → i * stride + stride ≤ j * stride
@@ -31,27 +30,6 @@ module _ {A : Type 0} (z : A) (s : List A) (stride width i : ℕ) where
 module _ {A : Type 0} (z : A) (s : List A) (stride width from to : ℕ) (W : width ≤ stride) (F : from * stride + width ≤ length s) (G : to * stride + width ≤ length s) where
   source-length : length (part s stride width from) ≡ width
   source-length = part_length z s stride width from F
-
-  -- what a turn reads is not yet overwritten
-  pub copy_reads : (j : ℕ) → j < width → get_or (paste s (to * stride) (part s stride width from) j) (from * stride + j) z ≡ get_or (part s stride width from) j z
-  copy_reads j l =
-      elim (lt_or_ge from to) [
-        | inl g ↦ paste-before z s (to * stride) (part s stride width from) j (omega arith) (omega (arith, source-length)) (from * stride + j) (omega (arith, row_before from to stride g))
-        | inr g ↦ paste-after z s (to * stride) (part s stride width from) j (omega arith) (omega (arith, source-length)) (from * stride + j) (omega (arith, mul-le-mul_right stride g))
-      ]
-      ∙ sym (part_at z s stride width from j l)
-
-  -- one place more, at the code's `j + 1`
-  pub copy_more : (l : List A) (j : ℕ) → j < width → l ≡ paste s (to * stride) (part s stride width from) j
-      → set l (to * stride + j) (get_or l (from * stride + j) z) ≡ paste s (to * stride) (part s stride width from) (j + 1)
-  copy_more l j h e =
-      ap (λ (x : List A). set x (to * stride + j) (get_or x (from * stride + j) z)) e
-      ∙ ap (set (paste s (to * stride) (part s stride width from) j) (to * stride + j)) (copy_reads j h)
-      ∙ paste-suc s (to * stride) (part s stride width from) j z (omega arith) (omega (arith, source-length))
-      ∙ ap (paste s (to * stride) (part s stride width from)) (sym (add-one j))
-
-  pub copy_done : (l : List A) (j : ℕ) → j ≤ width → width ≤ j → l ≡ paste s (to * stride) (part s stride width from) j → l ≡ copied s stride width from to
-  copy_done l j p q e = e ∙ ap (paste s (to * stride) (part s stride width from)) (le_antisymm p q)
 
   pub copy_length : (j : ℕ) → j ≤ width → length (paste s (to * stride) (part s stride width from) j) ≡ length s
   copy_length j h = length-paste s (to * stride) (part s stride width from) j (omega arith) (omega (arith, source-length))

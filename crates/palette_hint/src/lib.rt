@@ -1,4 +1,5 @@
-// The best fit and the best two for a tile, from its hint, which then names the best.
+// The best fit and the best two for a tile, from its hint, which then names the best. (Two functions: what they ask and give differs,
+// and one over a closure for the search would have to state its contract anew.)
 #![tactic(auto)]
 
 ghost use Rattle.std.specs.Prelude.{◌≡◌, ◌≤◌, length, set};

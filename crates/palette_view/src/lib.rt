@@ -1,5 +1,6 @@
 // A view of a subpalette: a struct that refers to the caller's colours, three numbers each, and thin functions over it.
-// The functions at the end have plain parameters. Assumes nothing.
+// The functions at the end have plain parameters, the one for the nearest and one for the nearest two: each has a result and a definition
+// of its own, and one generic function would need a trait with a law for two calls. Assumes nothing.
 #![tactic(auto)]
 
 ghost use Rattle.std.specs.Prelude.{◌≡◌};
