@@ -45,9 +45,7 @@ pub fn assign_tiles(
         ≡ assigned (job_of z tiles.now colours.now counts.now) palette.now
         (tile_memory hints.old out.old) z.t }
 {
-    let mut i = 0usize;
-    while i < z.t {
+    for i in 0..z.t {
         assign_tile(z, tiles, colours, counts, palette, hints, out, i);
-        i += 1;
     }
 }

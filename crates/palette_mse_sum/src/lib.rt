@@ -16,15 +16,12 @@ fn tile_tally(s: &[f32], tile: &[f32], counts: &[u32], w: f32, from: Tally) -> T
     requires { Summed s.now (tile_with tile.now counts.now) w × (from.count + most_tile_size * length counts.now < 18446744073709551616) }
     ensures { result ≡ tile_tally s.now (tile_with tile.now counts.now) w from (length counts.now) }
 {
-    let n = counts.len();
     let mut total = from.total;
     let mut count = from.count;
-    let mut k = 0;
-    while k < n {
+    for (k, &pixels) in counts.iter().enumerate() {
         let near = palette_distance::near::nearest_distance(s, tile, k, w);
-        total = total + (near as f64) * (counts[k] as f64);
-        count = count + (counts[k] as u64);
-        k += 1;
+        total += (near as f64) * (pixels as f64);
+        count += pixels as u64;
     }
     Tally { total, count }
 }
@@ -87,10 +84,8 @@ pub fn mse(
         total: 0.0,
         count: 0,
     };
-    let mut i = 0;
-    while i < z.t {
+    for i in 0..z.t {
         sum = tile_step(z, tiles, colours, counts, pal, n, have, hints, i, sum);
-        i += 1;
     }
     mean(sum)
 }

@@ -2,10 +2,9 @@
 // The functions stand in the crates above, one a stage. Here is only what they share.
 #![tactic(auto)]
 
-// The place to copy, the place to copy it to, and whether to.
-#[derive(Drop)]
+// The place to copy, and the place that gives way to the copy.
+#[derive(Clone, Copy)]
 pub struct Swap {
     pub from: usize,
     pub to: usize,
-    pub gives: bool,
 }

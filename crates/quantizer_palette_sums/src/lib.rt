@@ -17,8 +17,8 @@ fn add_two(total: &mut [f32], removed: &mut [f32], r: Two)
     ensures { shares total.new removed.new ≡ share_with r (shares total.old removed.old) }
 {
     let i = r.index;
-    total[i] = total[i] + r.dist;
-    removed[i] = removed[i] + r.second;
+    total[i] += r.dist;
+    removed[i] += r.second;
 }
 
 // What each subpalette has, and what would be added without it; the hints then name each tile's best. An empty tile goes through
@@ -37,10 +37,8 @@ pub fn palette_sums(
     ensures { (shares total.new removed.new ≡ shares_of (job_of z tiles.now colours.now counts.now) pal.now z.t)
         × (hints.new ≡ pair_hints (job_of z tiles.now colours.now counts.now) pal.now hints.old z.t) }
 {
-    let mut i = 0;
-    while i < z.t {
+    for i in 0..z.t {
         let r = palette_tile::tile_two(z, tiles, colours, counts, pal, z.s, z.c, hints, i);
         add_two(total, removed, r);
-        i += 1;
     }
 }

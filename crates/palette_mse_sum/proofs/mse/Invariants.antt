@@ -1,5 +1,4 @@
 -- `palette_mse_sum::mse` meets its contract. The loop's invariant: the sum and the hints are those after the first i tiles. Assumes nothing.
-use Prim.Native.Nat.{◌-◌}
 use Rattle.job.specs.Job.{job_of}
 use Rattle.palette_tile.specs.Tiles.{hint_step}
 use Rattle.palette_tile.proofs.Walks.{Walked}
@@ -10,6 +9,3 @@ abbrev pub invariant-loop-i : goal.invariant-loop-i
 invariant-loop-i l =
     let J = job_of l.z l.tiles l.colours l.counts in
     Walked J.T (tally_step J l.pal l.n l.have) nothing l.sum l.i × Walked J.T (hint_step J l.pal l.n l.have) l.initial.hints l.hints l.i
-
-abbrev pub decreases-loop-i : goal.decreases-loop-i
-decreases-loop-i l = l.z.t - l.i

@@ -1,5 +1,4 @@
 -- `quantizer_palette_sums::palette_sums` meets its contract. The loop's invariant: the sums and the hints are those after the first i tiles. Assumes nothing.
-use Prim.Native.Nat.{◌-◌}
 use Rattle.job.specs.Job.{job_of}
 use Rattle.quantizer.specs.Replacing.{shares}
 use Rattle.quantizer_palette_sums.proofs.Pairs.{Pairing}
@@ -7,6 +6,3 @@ use Rattle.quantizer_palette_sums.proofs.palette_sums.Given as goal
 
 abbrev pub invariant-loop-i : goal.invariant-loop-i
 invariant-loop-i l = Pairing (job_of l.z l.tiles l.colours l.counts) l.pal l.initial.hints l.hints (shares l.total l.removed) l.i
-
-abbrev pub decreases-loop-i : goal.decreases-loop-i
-decreases-loop-i l = l.z.t - l.i
