@@ -2,6 +2,15 @@
 // The functions stand in the crates above, one a stage. Here is only what they share.
 #![tactic(auto)]
 
+use job::Job;
+
+// A course of training as it is lent: a job, and two numbers a sample, a tile and a colour's place in it.
+#[derive(Clone, Copy)]
+pub struct Course<'a> {
+    pub job: Job<'a>,
+    pub samples: &'a [u32],
+}
+
 // The place to copy, and the place that gives way to the copy.
 #[derive(Clone, Copy)]
 pub struct Swap {
