@@ -7,6 +7,7 @@ ghost use Rattle.job.specs.Job.{most_subpalettes, most_colours};
 ghost use Rattle.run_stages.specs.Record.{order_fits, working_rules};
 
 use answer::Refusal;
+use run_stages::Stage;
 
 // The magnitude of a working component, at most.
 const MOST_WORKING: f32 = 4.0;
@@ -15,14 +16,7 @@ const MOST_WORKING: f32 = 4.0;
 pub fn order_fits(n: usize, order: &[u32]) -> bool
     ensures { result ≡ order_fits n order.now }
 {
-    let mut i = 0usize;
-    while i < order.len() {
-        if job::wide(order[i]) >= n {
-            return false;
-        }
-        i += 1;
-    }
-    true
+    order.iter().all(|entry| job::wide(*entry) < n)
 }
 
 // Number 16: the colours of the first palette, then in stage 2 those of the second, which go on counting from `cells`.
@@ -34,8 +28,8 @@ pub fn check_working(cells: usize, stage: u64, palette: &[f32], least: &[f32]) -
     if a.number != 0 {
         return a;
     }
-    if stage != 2 {
-        return answer::DONE;
+    match Stage::try_from(stage) {
+        Ok(Stage::Replacing) => job::check_colours(16, cells, least, MOST_WORKING),
+        _ => answer::DONE,
     }
-    job::check_colours(16, cells, least, MOST_WORKING)
 }
