@@ -6,15 +6,6 @@ ghost use Rattle.std.specs.Prelude.{◌≡◌};
 ghost use Rattle.run_stages.specs.State.{placed, noted};
 ghost use Rattle.run_stages.specs.Named.{number_of, Names};
 
-use answer::Refusal;
-
-// What an advance answers: the refusal, or nothing and the draws made.
-#[derive(Drop)]
-pub struct Advanced {
-    pub refusal: Refusal,
-    pub draws: u64,
-}
-
 // The record's words by name: generator state, stage, rounds finished in the stage, draws left in the round, draws made, the bits of
 // the least error, and the job's sizes.
 #[derive(Clone, Copy)]
