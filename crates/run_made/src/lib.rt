@@ -3,6 +3,7 @@
 #![tactic(auto)]
 
 ghost use Rattle.std.specs.Prelude.{◌≡◌, true};
+ghost use Rattle.answer.specs.Refusals.{refusal_of};
 ghost use Rattle.answer.specs.Rules.{answer};
 ghost use Rattle.run_stages.specs.Record.{place_fits, made_by, record_rules};
 ghost use Rattle.run_record.specs.Sized.{plain, Sized};
@@ -25,24 +26,24 @@ fn made_by(z: Sizes, r: Record) -> u64
 }
 
 // Number 20 or 10, or nothing.
-pub fn check_record(z: Sizes, r: Record) -> Refusal
+pub fn check_record(z: Sizes, r: Record) -> Result<(), Refusal>
     requires { Sized z }
-    ensures { result ≡ answer (record_rules (plain z) r) }
+    ensures { refusal_of result ≡ answer (record_rules (plain z) r) }
 {
     let sizes = run_record::sizes_word(z);
     let ours = r.sizes == sizes;
     let placed = run_place::place_fits(z, r);
     if !ours {
-        return answer::OTHER_SIZES; // word 6
+        return Err(Refusal::OtherSizes); // word 6
     }
     if !placed {
-        return answer::RECORD; // words 1 to 3
+        return Err(Refusal::Record); // words 1 to 3
     }
     if r.made != made_by(z, r) {
-        return answer::RECORD; // word 4
+        return Err(Refusal::Record); // word 4
     }
     if !run_place::error_fits(r) {
-        return answer::RECORD; // word 5
+        return Err(Refusal::Record); // word 5
     }
-    answer::DONE
+    Ok(())
 }
