@@ -9,8 +9,8 @@ use lib.ListN.{length, get_or}
 use borrow.Author.Tests.{eq-eqb, ne_eqb, lt-ltb, ltb-true}
 use Rattle.lists.specs.Every.{every}
 use Rattle.lists.proofs.Loops.{every-at, every-all}
-use Rattle.answer.specs.declared.Refusal.{Refusal}
-use Rattle.answer.specs.Rules.{nothing, Rule, answer}
+use Rattle.answer.specs.Refusals.{Answered, nothing}
+use Rattle.answer.specs.Rules.{Rule, answer}
 use Rattle.answer.proofs.Passing.{skips, none}
 use Rattle.job.specs.Checks.{colour_rule}
 use Rattle.job.proofs.Bad.{none-bad}
@@ -35,6 +35,6 @@ module _ (cells stage : ℕ) (xs : List Float) where
   unfolding looked_at
   not-looked_at h = skips least_rule nothing [] (rw (ne_eqb stage 2 h) (none-bad four)) none
 
-  pub looked_at_lem : stage ≡ 2 → (r : Refusal) → r ≡ answer (colour_rule 16 cells four xs ∷ []) → r ≡ answer (least_rule ∷ [])
+  pub looked_at_lem : stage ≡ 2 → (r : Answered) → r ≡ answer (colour_rule 16 cells four xs ∷ []) → r ≡ answer (least_rule ∷ [])
   unfolding looked_at
   looked_at_lem h r e = rw (eq-eqb stage 2 h) e

@@ -2,6 +2,7 @@
 #![tactic(auto)]
 
 ghost use Rattle.std.specs.Prelude.{◌≡◌, ◌*◌, ◌≤◌};
+ghost use Rattle.answer.specs.Refusals.{refusal_of};
 ghost use Rattle.answer.specs.Rules.{answer};
 ghost use Rattle.job.specs.Job.{most_subpalettes, most_colours};
 ghost use Rattle.run_stages.specs.Record.{order_fits, working_rules};
@@ -20,16 +21,23 @@ pub fn order_fits(n: usize, order: &[u32]) -> bool
 }
 
 // Number 16: the colours of the first palette, then in stage 2 those of the second, which go on counting from `cells`.
-pub fn check_working(cells: usize, stage: u64, palette: &[f32], least: &[f32]) -> Refusal
+pub fn check_working(
+    cells: usize,
+    stage: u64,
+    palette: &[f32],
+    least: &[f32],
+) -> Result<(), Refusal>
     requires { cells ≤ most_subpalettes * most_colours }
-    ensures { result ≡ answer (working_rules cells stage palette.now least.now) }
+    ensures { refusal_of result ≡ answer (working_rules cells stage palette.now least.now) }
 {
-    let a = job::check_colours(16, 0, palette, MOST_WORKING);
-    if a.number != 0 {
-        return a;
+    if let Some(i) = job::bad_colour(0, palette, MOST_WORKING) {
+        return Err(Refusal::WorkingColour(i));
     }
-    match Stage::try_from(stage) {
-        Ok(Stage::Replacing) => job::check_colours(16, cells, least, MOST_WORKING),
-        _ => answer::DONE,
+    if !matches!(Stage::try_from(stage), Ok(Stage::Replacing)) {
+        return Ok(());
     }
+    if let Some(i) = job::bad_colour(cells, least, MOST_WORKING) {
+        return Err(Refusal::WorkingColour(i));
+    }
+    Ok(())
 }
