@@ -1,12 +1,6 @@
 -- `palette_tile::tile_two` meets its contract: the parts are the tile's, and the job gives what the best two ask. Assumes nothing.
-use Rattle.palette_tile.proofs.Asks.{colours_asked, counts_asked, two_asked, two-done}
+use Rattle.palette_tile.proofs.Asks.{two_asked, two-done}
 use Rattle.palette_tile.proofs.tile_two.Goals as goal
-
-pub tile_part-tile-requires : goal.tile_part-tile-requires
-tile_part-tile-requires c = colours_asked _ _ _ _ _ _ c.requires
-
-pub counts_part-part-requires : goal.counts_part-part-requires
-counts_part-part-requires c = counts_asked _ _ _ _ _ _ c.requires
 
 pub best_two-requires : goal.best_two-requires
 best_two-requires c = two_asked _ _ _ _ _ _ c.requires _ _ c.tile_part-tile.ensures c.counts_part-part.ensures

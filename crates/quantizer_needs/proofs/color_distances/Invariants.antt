@@ -1,6 +1,5 @@
 -- `quantizer_needs::color_distances` meets its contract. The loop's invariant: the sums and the hints are those after the first i tiles. Assumes nothing.
-use Prim.Native.Nat.{◌-◌}
-use Rattle.job.specs.Job.{job_of}
+use Rattle.job.specs.Job.{job_in}
 use Rattle.palette_tile.specs.Tiles.{winner, hint_step}
 use Rattle.palette_tile.proofs.Walks.{Walked}
 use Rattle.quantizer.specs.Sums.{zeros, places}
@@ -9,8 +8,5 @@ use Rattle.quantizer_needs.proofs.color_distances.Given as goal
 
 abbrev pub invariant-loop-i : goal.invariant-loop-i
 invariant-loop-i l =
-    let J = job_of l.z l.tiles l.colours l.counts in
+    let J = job_in l.job in
     Walked J.T (λ k. need_step J l.pal l.have (winner J l.pal J.S l.have k) k) (zeros places) l.total l.i × Walked J.T (hint_step J l.pal J.S l.have) l.initial.hints l.hints l.i
-
-abbrev pub decreases-loop-i : goal.decreases-loop-i
-decreases-loop-i l = l.z.t - l.i
