@@ -3,51 +3,32 @@
 #![tactic(auto)]
 
 ghost use Rattle.std.specs.Prelude.{◌≡◌};
-ghost use Rattle.job.specs.Job.{job_of};
+ghost use Rattle.job.specs.Job.{job_in};
 ghost use Rattle.assign_tiles.specs.Tiles.{tile_memory, assign_step, assigned, CanAssign, Turn};
 
-use job::Sizes;
+use job::Job;
 
 // Writes tile i's subpalette, and its hint where it is not empty.
-fn assign_tile(
-    z: Sizes,
-    tiles: &[u32],
-    colours: &[f32],
-    counts: &[u32],
-    palette: &[f32],
-    hints: &mut [u32],
-    out: &mut [u32],
-    i: usize,
-)
-    requires { Turn (job_of z tiles.now colours.now counts.now) palette.now (tile_memory hints.old out.old) i }
-    ensures { tile_memory hints.new out.new ≡ assign_step (job_of z tiles.now colours.now counts.now) palette.now i (tile_memory hints.old out.old) }
+fn assign_tile(job: &Job, palette: &[f32], hints: &mut [u32], out: &mut [u32], i: usize)
+    requires { Turn (job_in job.now) palette.now (tile_memory hints.old out.old) i }
+    ensures { tile_memory hints.new out.new ≡ assign_step (job_in job.now) palette.now i (tile_memory hints.old out.old) }
 {
-    if job::is_empty(tiles, i) {
+    if job.is_empty(i) {
         out[i] = 0;
         return;
     }
-    let best = palette_tile::tile_fit(z, tiles, colours, counts, palette, z.s, z.c, hints, i);
+    let best = palette_tile::tile_fit(job, palette, job.sizes.s, job.sizes.c, hints, i);
     let sub = best.index as u32;
     out[i] = sub;
 }
 
-pub fn assign_tiles(
-    z: Sizes,
-    tiles: &[u32],
-    colours: &[f32],
-    counts: &[u32],
-    palette: &[f32],
-    hints: &mut [u32],
-    out: &mut [u32],
-)
-    requires { CanAssign (job_of z tiles.now colours.now counts.now) palette.now (tile_memory hints.old out.old) }
+pub fn assign_tiles(job: &Job, palette: &[f32], hints: &mut [u32], out: &mut [u32])
+    requires { CanAssign (job_in job.now) palette.now (tile_memory hints.old out.old) }
     ensures { tile_memory hints.new out.new
-        ≡ assigned (job_of z tiles.now colours.now counts.now) palette.now
-        (tile_memory hints.old out.old) z.t }
+        ≡ assigned (job_in job.now) palette.now
+        (tile_memory hints.old out.old) job.now.sizes.t }
 {
-    let mut i = 0usize;
-    while i < z.t {
-        assign_tile(z, tiles, colours, counts, palette, hints, out, i);
-        i += 1;
+    for i in 0..job.sizes.t {
+        assign_tile(job, palette, hints, out, i);
     }
 }

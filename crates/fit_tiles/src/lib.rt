@@ -5,12 +5,12 @@
 ghost use Rattle.std.specs.Prelude.{◌≡◌, ◌+◌, ◌<◌, ℕ, ◌*◌, ◌≤◌, not, eqb, length, get_or, set};
 ghost use Rattle.fit_lines.specs.Lines.{Stored};
 ghost use Rattle.lists.specs.Count.{hit};
-ghost use Rattle.job.specs.Job.{job_of, size_of, most_tiles};
+ghost use Rattle.job.specs.Job.{job_in, size_of, most_tiles};
 ghost use Rattle.palette_tile.specs.Tiles.{Shown, Paired};
 ghost use Rattle.fit_tiles.specs.Text.{found_of, tile_lines, load_lines, load_of, blanks_of, fit_text, most_text};
 
 use fit_lines::Found;
-use job::Sizes;
+use job::Job;
 
 // The load of subpalette `sub` with its tile i: an empty one adds nothing.
 fn count_tile(tiles: &[u32], i: usize, sub: u32, loads: &mut [u32])
@@ -37,25 +37,22 @@ fn count_blanks(tiles: &[u32], t: usize) -> u32
 
 // Tile i: an empty one has subpalette 0, distance 0 and next 0.
 fn tile_found(
-    z: Sizes,
-    tiles: &[u32],
-    colours: &[f32],
-    counts: &[u32],
+    job: &Job,
     palette: &[f32],
     hints: &mut [u32],
     i: usize,
 ) -> Found
-    requires { Paired (job_of z tiles.now colours.now counts.now) palette.now z.s z.c hints.old i }
-    ensures { result ≡ found_of (job_of z tiles.now colours.now counts.now) palette.now i }
+    requires { Paired (job_in job.now) palette.now job.now.sizes.s job.now.sizes.c hints.old i }
+    ensures { result ≡ found_of (job_in job.now) palette.now i }
 {
-    if job::is_empty(tiles, i) {
+    if job.is_empty(i) {
         return Found {
             sub: 0,
             dist: 0,
             next: 0,
         };
     }
-    let best = palette_tile::tile_two(z, tiles, colours, counts, palette, z.s, z.c, hints, i);
+    let best = palette_tile::tile_two(job, palette, job.sizes.s, job.sizes.c, hints, i);
     let sub = best.index as u32;
     let dist = f32::to_bits(best.dist);
     let next = best.next as u32;
@@ -64,26 +61,23 @@ fn tile_found(
 
 // A line for each tile, and how many tiles each subpalette has, the empty ones left out.
 fn put_tiles(
-    z: Sizes,
-    tiles: &[u32],
-    colours: &[f32],
-    counts: &[u32],
+    job: &Job,
     palette: &[f32],
     hints: &mut [u32],
     loads: &mut [u32],
     out: &mut [u8],
     at: usize,
 ) -> usize
-    requires { Shown (job_of z tiles.now colours.now counts.now) palette.now z.s z.c × (length hints.old ≡ z.t)
-        × (z.s ≤ length loads.old) × ((k : ℕ) → get_or loads.old k 0 ≡ 0) × (at + 43 * z.t ≤ length out.old) }
-    ensures { Stored out.old out.new at result (tile_lines (job_of z tiles.now colours.now counts.now) palette.now z.t)
-        × ((k : ℕ) → get_or loads.new k 0 ≡ load_of (job_of z tiles.now colours.now counts.now) palette.now k z.t) }
+    requires { Shown (job_in job.now) palette.now job.now.sizes.s job.now.sizes.c × (length hints.old ≡ job.now.sizes.t)
+        × (job.now.sizes.s ≤ length loads.old) × ((k : ℕ) → get_or loads.old k 0 ≡ 0) × (at + 43 * job.now.sizes.t ≤ length out.old) }
+    ensures { Stored out.old out.new at result (tile_lines (job_in job.now) palette.now job.now.sizes.t)
+        × ((k : ℕ) → get_or loads.new k 0 ≡ load_of (job_in job.now) palette.now k job.now.sizes.t) }
 {
     let mut q = at;
-    for i in 0..z.t {
-        let found = tile_found(z, tiles, colours, counts, palette, hints, i);
+    for i in 0..job.sizes.t {
+        let found = tile_found(job, palette, hints, i);
         q = fit_lines::put_tile(out, q, i as u32, found);
-        count_tile(tiles, i, found.sub, loads);
+        count_tile(job.tiles, i, found.sub, loads);
     }
     q
 }
@@ -102,22 +96,19 @@ fn put_loads(s: usize, loads: &[u32], out: &mut [u8], at: usize) -> usize
 
 // All lines of a job and a palette that passed their checks.
 pub fn put_fit(
-    z: Sizes,
-    tiles: &[u32],
-    colours: &[f32],
-    counts: &[u32],
+    job: &Job,
     palette: &[f32],
     hints: &mut [u32],
     out: &mut [u8],
 ) -> usize
-    requires { Shown (job_of z tiles.now colours.now counts.now) palette.now z.s z.c × (length hints.old ≡ z.t) × (most_text ≤ length out.old) }
-    ensures { Stored out.old out.new 0 result (fit_text (job_of z tiles.now colours.now counts.now) palette.now) }
+    requires { Shown (job_in job.now) palette.now job.now.sizes.s job.now.sizes.c × (length hints.old ≡ job.now.sizes.t) × (most_text ≤ length out.old) }
+    ensures { Stored out.old out.new 0 result (fit_text (job_in job.now) palette.now) }
 {
     let mut loads = [0u32; 16];
-    let a = fit_lines::put_head(out, 0, z.t as u32, z.s as u32);
+    let a = fit_lines::put_head(out, 0, job.sizes.t as u32, job.sizes.s as u32);
     let b = put_tiles(
-        z, tiles, colours, counts, palette, hints, &mut loads, out, a,
+        job, palette, hints, &mut loads, out, a,
     );
-    let c = put_loads(z.s, &loads, out, b);
-    fit_lines::put_blank(out, c, count_blanks(tiles, z.t))
+    let c = put_loads(job.sizes.s, &loads, out, b);
+    fit_lines::put_blank(out, c, count_blanks(job.tiles, job.sizes.t))
 }

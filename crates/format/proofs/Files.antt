@@ -11,8 +11,7 @@ use lib.Seq.{take_at, drop_at, length-take-le}
 use Rattle.bits.specs.Bits.{bits_of, num, bits}
 use Rattle.bits.proofs.Numbers.{length-bits_of, num-bits_of, bits_of-num}
 use Rattle.bits.proofs.Bytes.{length-bits}
-use Rattle.answer.specs.declared.Refusal.{Refusal}
-use Rattle.answer.specs.Rules.{refusal}
+use Rattle.answer.specs.Refusals.{Answered, refusal}
 use Rattle.format.specs.Format.{Res, fault, got, Format, Answer, refused, accepted, clear, ended, read_of, bytes_of, bytes_for, encode}
 use Rattle.format.proofs.Tests.{and_l, and_r, and_in}
 use Rattle.format.proofs.Lawful.{Lawful}
@@ -52,7 +51,7 @@ module _ {A : Type 0} where
   cond_accepts true a h = refl
   cond_accepts false a h = absurd h
 
-  never : (n : Refusal) (a : A) → ◌≡◌ {A = Answer A} (refused n) (accepted a) → ⊥
+  never : (n : Answered) (a : A) → ◌≡◌ {A = Answer A} (refused n) (accepted a) → ⊥
   never n a e = let z : ◌≡◌ {A = ℕ} 0 1 = cc in omega arith
 
   accepted-same : (a b : A) → ◌≡◌ {A = Answer A} (accepted a) (accepted b) → a ≡ b
@@ -62,13 +61,13 @@ module _ {A : Type 0} where
   cond-accepted true a b e = (tt, accepted-same a b e)
   cond-accepted false a b e = absurd (never (refusal 13 0) b e)
 
-  pub ended-accepted : (blame : ℕ → ℕ → Refusal) (x : Res A) (b : A) → ended blame x ≡ accepted b → (r : List Bool) × (x ≡ got b r) × (length r < 8) × T (clear r)
+  pub ended-accepted : (blame : ℕ → ℕ → Answered) (x : Res A) (b : A) → ended blame x ≡ accepted b → (r : List Bool) × (x ≡ got b r) × (length r < 8) × T (clear r)
   ended-accepted blame (fault n i) b e = absurd (never (blame n i) b e)
   ended-accepted blame (got a r) b e =
       let c = cond-accepted (ltb (length r) 8 && clear r) a b e in
       (r, ap (λ (o : A). got o r) c.1, ltb→lt (length r) 8 (and_l (ltb (length r) 8) (clear r) c.0), and_r (ltb (length r) 8) (clear r) c.0)
 
-module _ {A : Type 0} (blame : ℕ → ℕ → Refusal) (F : Format A) (L : Lawful F) where
+module _ {A : Type 0} (blame : ℕ → ℕ → Answered) (F : Format A) (L : Lawful F) where
   -- what is written is read back
   pub decode_encode : (a : A) → T (F.good a) → read_of blame F (encode F a) ≡ accepted a
   decode_encode a h =

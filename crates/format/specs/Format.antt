@@ -2,8 +2,7 @@
 -- a fault says how many it stands behind; and a format's bits as a file.
 -- Definitions only. Assumes nothing.
 use Rattle.std.specs.Prelude.{ℕ, zero, suc, pred, ◌+◌, ◌-◌, ◌*◌, ◌/◌, ◌^◌, Bool, true, false, ◌&&◌, cond, List, [], ◌∷◌, ◌++◌, leb, ltb, eqb, length, take, drop, replicate}
-use Rattle.answer.specs.declared.Refusal.{Refusal}
-use Rattle.answer.specs.Rules.{refusal}
+use Rattle.answer.specs.Refusals.{Answered, refusal}
 use Rattle.bits.specs.Bits.{bits_of, num, bits}
 
 -- what reading finds: a fault's number and how many indexed values stand before it, or a value and the bits behind it
@@ -127,15 +126,15 @@ clear (true ∷ l) = false
 clear (false ∷ l) = clear l
 
 pub data Answer (A : Type 0) : Type 0 where
-  refused : Refusal → Answer A
+  refused : Answered → Answer A
   accepted : A → Answer A
 
 -- `blame` makes a refusal of a fault's number and what it stands behind; bits behind the last field name no entry
-abbrev pub ended : {A : Type 0} → (ℕ → ℕ → Refusal) → Res A → Answer A
+abbrev pub ended : {A : Type 0} → (ℕ → ℕ → Answered) → Res A → Answer A
 ended blame (fault n i) = refused (blame n i)
 ended blame (got a r) = cond (ltb (length r) 8 && clear r) (accepted a) (refused (refusal 13 0))
 
-abbrev pub read_of : {A : Type 0} → (ℕ → ℕ → Refusal) → Format A → List ℕ → Answer A
+abbrev pub read_of : {A : Type 0} → (ℕ → ℕ → Answered) → Format A → List ℕ → Answer A
 read_of blame F s = ended blame (F.parse (bits s))
 
 -- n bytes of bits

@@ -3,7 +3,7 @@
 #![tactic(auto)]
 
 // A sum of distances times counts, and the pixels counted.
-#[derive(Drop)]
+#[derive(Clone, Copy)]
 pub struct Tally {
     pub total: f64,
     pub count: u64,

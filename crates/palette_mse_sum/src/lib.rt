@@ -3,12 +3,12 @@
 #![tactic(auto)]
 
 ghost use Rattle.std.specs.Prelude.{◌≡◌, ◌+◌, ◌*◌, ◌<◌, length};
-ghost use Rattle.job.specs.Job.{job_of, most_tile_size};
+ghost use Rattle.job.specs.Job.{job_in, most_tile_size};
 ghost use Rattle.palette.specs.Palette.{tile_with};
 ghost use Rattle.palette_tile.specs.Tiles.{hint_step, hints_of, Shown};
 ghost use Rattle.palette_mse.specs.Mse.{tile_tally, tally_step, mean_error, mse_of, Summed, Turn, Meaned};
 
-use job::Sizes;
+use job::Job;
 use palette_mse::Tally;
 
 // A tile's distances times counts, added to a sum in f64.
@@ -16,25 +16,19 @@ fn tile_tally(s: &[f32], tile: &[f32], counts: &[u32], w: f32, from: Tally) -> T
     requires { Summed s.now (tile_with tile.now counts.now) w × (from.count + most_tile_size * length counts.now < 18446744073709551616) }
     ensures { result ≡ tile_tally s.now (tile_with tile.now counts.now) w from (length counts.now) }
 {
-    let n = counts.len();
     let mut total = from.total;
     let mut count = from.count;
-    let mut k = 0;
-    while k < n {
+    for (k, &pixels) in counts.iter().enumerate() {
         let near = palette_distance::near::nearest_distance(s, tile, k, w);
-        total = total + (near as f64) * (counts[k] as f64);
-        count = count + (counts[k] as u64);
-        k += 1;
+        total += (near as f64) * (pixels as f64);
+        count += pixels as u64;
     }
     Tally { total, count }
 }
 
 // Tile i's part in the sum; its hint is written, where it is not empty.
 fn tile_step(
-    z: Sizes,
-    tiles: &[u32],
-    colours: &[f32],
-    counts: &[u32],
+    job: &Job,
     pal: &[f32],
     n: usize,
     have: usize,
@@ -42,19 +36,19 @@ fn tile_step(
     i: usize,
     sum: Tally,
 ) -> Tally
-    requires { Turn (job_of z tiles.now colours.now counts.now) pal.now n have hints.old i sum }
-    ensures { (result ≡ tally_step (job_of z tiles.now colours.now counts.now) pal.now n have i sum)
-        × (hints.new ≡ hint_step (job_of z tiles.now colours.now counts.now) pal.now n have i hints.old) }
+    requires { Turn (job_in job.now) pal.now n have hints.old i sum }
+    ensures { (result ≡ tally_step (job_in job.now) pal.now n have i sum)
+        × (hints.new ≡ hint_step (job_in job.now) pal.now n have i hints.old) }
 {
-    if job::is_empty(tiles, i) {
+    if job.is_empty(i) {
         return sum;
     }
-    let best = palette_tile::tile_fit(z, tiles, colours, counts, pal, n, have, hints, i);
+    let best = palette_tile::tile_fit(job, pal, n, have, hints, i);
     let winner = best.index;
-    let sub = palette::part(pal, z.c, have, winner);
-    let tile = job::tile_part(tiles, colours, i);
-    let part = job::counts_part(tiles, counts, i);
-    tile_tally(sub, tile, part, z.weight, sum)
+    let sub = palette::part(pal, job.sizes.c, have, winner);
+    let tile = job.tile_part(i);
+    let part = job.counts_part(i);
+    tile_tally(sub, tile, part, job.sizes.weight, sum)
 }
 
 // The mean in f32 of a sum in f64; 0 where nothing counts.
@@ -69,28 +63,17 @@ fn mean(sum: Tally) -> f32
 }
 
 // Mean squared error of n subpalettes of `have` colours over the tiles that are not empty.
-pub fn mse(
-    z: Sizes,
-    tiles: &[u32],
-    colours: &[f32],
-    counts: &[u32],
-    pal: &[f32],
-    n: usize,
-    have: usize,
-    hints: &mut [u32],
-) -> f32
-    requires { Shown (job_of z tiles.now colours.now counts.now) pal.now n have × (length hints.old ≡ z.t) }
-    ensures { (result ≡ mse_of (job_of z tiles.now colours.now counts.now) pal.now n have)
-        × (hints.new ≡ hints_of (job_of z tiles.now colours.now counts.now) pal.now n have hints.old z.t) }
+pub fn mse(job: &Job, pal: &[f32], n: usize, have: usize, hints: &mut [u32]) -> f32
+    requires { Shown (job_in job.now) pal.now n have × (length hints.old ≡ job.now.sizes.t) }
+    ensures { (result ≡ mse_of (job_in job.now) pal.now n have)
+        × (hints.new ≡ hints_of (job_in job.now) pal.now n have hints.old job.now.sizes.t) }
 {
     let mut sum = Tally {
         total: 0.0,
         count: 0,
     };
-    let mut i = 0;
-    while i < z.t {
-        sum = tile_step(z, tiles, colours, counts, pal, n, have, hints, i, sum);
-        i += 1;
+    for i in 0..job.sizes.t {
+        sum = tile_step(job, pal, n, have, hints, i, sum);
     }
     mean(sum)
 }

@@ -15,7 +15,6 @@ use Rattle.color.proofs.Means.{mean_within}
 use Rattle.job.specs.Job.{Job, size_of, tile_of}
 use Rattle.job.specs.Gives.{Sampled}
 use Rattle.job.proofs.Tiles.{tile-length, tile-bounded}
-use Rattle.palette_edit.specs.Edits.{colour_copied, sub_copied}
 use Rattle.palette_edit.proofs.Kept.{place-room, length-sub_copied}
 use Rattle.palette_edit.proofs.Gentle.{Gentle, nudged-bounded, colour_copied-bounded, sub_copied-bounded}
 use Rattle.palette_tile.specs.Tiles.{Shown}
@@ -24,11 +23,13 @@ use Rattle.quantizer.specs.declared.Swap.{Swap}
 use Rattle.quantizer.specs.Course.{Course, sample_tile, sample_place, sample_colour}
 use Rattle.quantizer.specs.Seeding.{seed_mean, seeded, duplicated}
 use Rattle.quantizer.specs.Growing.{split_of, grown_by, grown}
-use Rattle.quantizer.specs.Replacing.{Shares, shares_of, spread_of, owner_of, swap_in, colour_swapped, sub_swapped, recoloured, colours_replaced, sub_replaced, replaced}
+use Rattle.std.specs.Prelude.{Some}
+use Rattle.quantizer.proofs.Swaps.{colour_either, sub_either, swap-below}
+use Rattle.quantizer.specs.Replacing.{Shares, shares_of, spread_of, owner_of, swap_in, recoloured, colours_replaced, sub_replaced, replaced}
 use Rattle.quantizer.specs.Drawing.{target_of, moved}
 use Rattle.quantizer.specs.Lengths.{Wide}
 use Rattle.quantizer.proofs.Lengths.{shares-wide, spread_wide, length-grown_by, length-colour_copied}
-use Rattle.quantizer.proofs.Indexes.{split_below, from_below, to_below, shown-subs, row-placed, target_in}
+use Rattle.quantizer.proofs.Indexes.{split_below, shown-subs, row-placed, target_in}
 
 -- ---- seeding
 module _ (K : Course) (room : Bool) (D : Sampled K.job K.n K.samples room) where
@@ -91,51 +92,42 @@ module _ (J : Job) (pal : List Float) (S : Shown J pal J.S J.C) (k : ℕ) (B : B
 
   module _ (A : Shares) (W : Wide A places) where
     recoloured-kept : (i : ℕ) → i ≤ J.S → Kept pal k (recoloured J pal A i)
-    unfolding recoloured colour_swapped
+    unfolding recoloured
     recoloured-kept zero h = stays
     recoloured-kept (suc i) h =
         let q = recoloured J pal A i in
-        let s = swap_in A (i * J.C) J.C in
         let before = recoloured-kept i (omega arith) in
         let row = row-placed J pal J.S J.C S i h in
-        either-kept pal k s.gives (colour_copied q J.C i s.from s.to) q
-        (record {
+        colour_either (Kept pal k) q before J.C i (swap_in A (i * J.C) J.C)
+        (λ s e. record {
           size = length-colour_copied q J.C i s.from s.to ∙ before.size;
           bound = colour_copied-bounded q k J.C i s.from s.to before.bound
-              (place-room J.S J.C i s.from (length q) h (from_below A (i * J.C) J.C (omega (arith, W.had)) (omega (arith, W.lost)) S.some) (omega (arith, rows J pal S.room, before.size)));
+              (place-room J.S J.C i s.from (length q) h (swap-below A (i * J.C) J.C (omega (arith, W.had)) (omega (arith, W.lost)) S.some s e).0 (omega (arith, rows J pal S.room, before.size)));
         })
-        before
 
   colours-kept : Kept pal k (colours_replaced J pal)
   unfolding colours_replaced
   colours-kept = either-kept pal k (ltb 1 J.C) _ pal (recoloured-kept (spread_of J pal (owner_of J pal) J.T) (spread_wide J pal (owner_of J pal) J.T) J.S (le_refl J.S)) stays
 
   sub-kept : (q : List Float) → Kept pal k q → Kept pal k (sub_replaced J pal q)
-  unfolding sub_replaced sub_swapped
+  unfolding sub_replaced
   sub-kept q Q =
       either-kept pal k (ltb 1 J.S) _ q
-      (either-kept pal k swap.gives (sub_copied q J.C J.C swap.from swap.to) q
-      (record {
-        size = length-sub_copied q J.C J.C swap.from swap.to (le_refl J.C) (room swap.from from_in) (room swap.to to_in) ∙ Q.size;
-        bound = sub_copied-bounded q k J.C J.C swap.from swap.to (le_refl J.C) (room swap.from from_in) (room swap.to to_in) Q.bound;
-      })
-      Q)
+      (sub_either (Kept pal k) q Q J.C (swap_in (shares_of J pal J.T) 0 J.S)
+      (λ s e. let B = below s e in record {
+        size = length-sub_copied q J.C J.C s.from s.to (le_refl J.C) (room s.from B.0) (room s.to B.1) ∙ Q.size;
+        bound = sub_copied-bounded q k J.C J.C s.from s.to (le_refl J.C) (room s.from B.0) (room s.to B.1) Q.bound;
+      }))
       Q
     where
-      swap : Swap
-      swap = swap_in (shares_of J pal J.T) 0 J.S
-
       W : Wide (shares_of J pal J.T) 16
       W = shares-wide J pal J.T
 
       few : J.S ≤ 16
       few = shown-subs J pal J.S J.C S
 
-      from_in : swap.from < J.S
-      from_in = from_below (shares_of J pal J.T) 0 J.S (omega (arith, W.had, few)) (omega (arith, W.lost, few)) S.subs
-
-      to_in : swap.to < J.S
-      to_in = to_below (shares_of J pal J.T) 0 J.S (omega (arith, W.had, few)) (omega (arith, W.lost, few)) S.subs
+      below : (s : Swap) → swap_in (shares_of J pal J.T) 0 J.S ≡ Some s → (s.from < J.S) × (s.to < J.S)
+      below = swap-below (shares_of J pal J.T) 0 J.S (omega (arith, W.had, few)) (omega (arith, W.lost, few)) S.subs
 
       room : (i : ℕ) → i < J.S → i * (3 * J.C) + 3 * J.C ≤ length q
       room i l = row_in J q (Q.size ∙ S.room) i l

@@ -21,20 +21,12 @@ use Rattle.palette_tile.specs.Tiles.{fit_at, winner, Shown}
 use Rattle.palette_tile.proofs.Present.{shown-present, winner-below, pair-below, part-colours, part-nearest}
 use Rattle.palette_tile.proofs.Turns.{fit-below}
 use Rattle.quantizer.specs.Sums.{sums_at, greatest, places}
-use Rattle.quantizer.proofs.Choices.{greatest-below, smallest-below}
+use Rattle.quantizer.proofs.Choices.{greatest-below}
 use Rattle.quantizer.specs.Seeding.{worst_of}
 use Rattle.quantizer.specs.Growing.{needs_of, split_of}
-use Rattle.quantizer.specs.Replacing.{Shares, pair_at, owner_of, swap_in}
+use Rattle.quantizer.specs.Replacing.{pair_at, owner_of}
 use Rattle.quantizer.specs.Drawing.{target_of}
 use Rattle.quantizer.proofs.Lengths.{length-distances, length_needs}
-
--- ---- among sums
-module _ (A : Shares) (from size : ℕ) (had : from + size ≤ length A.had) (lost : from + size ≤ length A.lost) (some : 1 ≤ size) where
-  pub from_below : (swap_in A from size).from < size
-  from_below = greatest-below A.had from size had some
-
-  pub to_below : (swap_in A from size).to < size
-  to_below = smallest-below A.lost from size lost some
 
 -- ---- what is present of a job's palette
 module _ (J : Job) (pal : List Float) (n have : ℕ) (S : Shown J pal n have) where

@@ -2,6 +2,7 @@ pub mod Owners
 pub mod Indexes
 pub mod Lists
 pub mod Choices
+pub mod Swaps
 pub mod Bounds
 pub mod Unused
 pub mod NoNans

@@ -1,6 +1,6 @@
 -- Replacing the weakest: in each subpalette the colour whose loss adds least gives way to a copy of the one that has most, then so does a subpalette,
 -- where the loss is less than half of what the other has. Every colour is present. Nothing here reads a hint. Definitions only. Assumes nothing.
-use Rattle.std.specs.Prelude.{ℕ, zero, suc, ◌+◌, ◌*◌, Bool, cond, not, ◌&&◌, List, get_or, length, set, pos, eqb, ltb, Float}
+use Rattle.std.specs.Prelude.{ℕ, zero, suc, ◌+◌, ◌*◌, Bool, cond, not, ◌&&◌, List, get_or, length, set, pos, eqb, ltb, Float, Option, Some, None}
 use Rattle.std.specs.Float.{nan, binary32}
 use Rattle.std.specs.Float.Ieee.{mul, lt, of_int, of_bits}
 use Rattle.color.specs.Color.{colour_at}
@@ -72,23 +72,25 @@ spread_of J pal owner t = walk (λ i. spread_step J pal (owner i) i) (no_shares 
 abbrev pub gives_way : Float → Float → Bool
 gives_way lost had = lt lost (mul binary32 (of_bits binary32 0x3f000000) had)
 
-abbrev pub swap_at : List Float → List Float → ℕ → ℕ → Swap
-swap_at had lost from to = record { from = from; to = to; gives = not (eqb to from) && gives_way (get_or lost to nan) (get_or had from nan) }
+abbrev pub swap_at : List Float → List Float → ℕ → ℕ → Option Swap
+swap_at had lost from to = cond (not (eqb to from) && gives_way (get_or lost to nan) (get_or had from nan)) (Some (record { from = from; to = to })) None
 
 -- the last that has most, and the first without which least is lost
-abbrev pub swap_of : List Float → List Float → Swap
+abbrev pub swap_of : List Float → List Float → Option Swap
 swap_of had lost = swap_at had lost (greatest had) (smallest lost)
 
 -- of the sums of `size` places from `from` on
-abbrev pub swap_in : Shares → ℕ → ℕ → Swap
+abbrev pub swap_in : Shares → ℕ → ℕ → Option Swap
 swap_in A from size = swap_of (sums_at A.had from size) (sums_at A.lost from size)
 
--- a colour of subpalette i, or a subpalette, is copied over another
-unfoldable pub colour_swapped : List Float → ℕ → ℕ → Swap → List Float
-colour_swapped pal c i s = cond s.gives (colour_copied pal c i s.from s.to) pal
+-- a colour of subpalette i, or a subpalette, is copied over another, where one gives way
+unfoldable pub colour_swapped : List Float → ℕ → ℕ → Option Swap → List Float
+colour_swapped pal c i None = pal
+colour_swapped pal c i (Some s) = colour_copied pal c i s.from s.to
 
-unfoldable pub sub_swapped : List Float → ℕ → Swap → List Float
-sub_swapped pal c s = cond s.gives (sub_copied pal c c s.from s.to) pal
+unfoldable pub sub_swapped : List Float → ℕ → Option Swap → List Float
+sub_swapped pal c None = pal
+sub_swapped pal c (Some s) = sub_copied pal c c s.from s.to
 
 -- a colour in each of the first i subpalettes
 unfoldable pub recoloured : Job → List Float → Shares → ℕ → List Float

@@ -2,10 +2,18 @@
 // The functions stand in the crates above, one a stage. Here is only what they share.
 #![tactic(auto)]
 
-// The place to copy, the place to copy it to, and whether to.
-#[derive(Drop)]
+use job::Job;
+
+// A course of training as it is lent: a job, and two numbers a sample, a tile and a colour's place in it.
+#[derive(Clone, Copy)]
+pub struct Course<'a> {
+    pub job: Job<'a>,
+    pub samples: &'a [u32],
+}
+
+// The place to copy, and the place that gives way to the copy.
+#[derive(Clone, Copy)]
 pub struct Swap {
     pub from: usize,
     pub to: usize,
-    pub gives: bool,
 }

@@ -3,12 +3,13 @@ use Prim.Native.Nat.{ℕ, ◌+◌, ◌≤◌, ◌<◌}
 use mathlib.Core.Path.{◌≡◌, sym, ap, subst⁻¹, ◌∙◌}
 use native.Mathlib.Omega.{arith}
 use lib.ListN.{length, take, drop}
+use Rattle.std.specs.Prelude.{Option, Some}
 use Rattle.quantizer.specs.declared.Swap.{Swap}
 use Rattle.quantizer.specs.Replacing.{Shares, swap_of, swap_in}
 use Rattle.quantizer.proofs.Lists.{length-sums}
 use Rattle.quantizer.specs.Goods.{AllGood}
 use Rattle.quantizer.proofs.Goods.{sums_no_nan}
-use Rattle.quantizer.proofs.Indexes.{from_below, to_below}
+use Rattle.quantizer.proofs.Swaps.{swap-below}
 use Rattle.quantizer_choice.specs.Choosing.{Choosing}
 
 module _ (A : Shares) (from size : ℕ) (had : from + size ≤ length A.had) (lost : from + size ≤ length A.lost) (some : 1 ≤ size) where
@@ -22,8 +23,8 @@ module _ (A : Shares) (from size : ℕ) (had : from + size ≤ length A.had) (lo
         lost_real = sums_no_nan A.lost from size lost h;
       })
 
-  pub part-below : (r : Swap) → r ≡ swap_in A from size → (r.from < size) × (r.to < size)
-  part-below r p = subst⁻¹ (λ (x : Swap). (x.from < size) × (x.to < size)) p (from_below A from size had lost some, to_below A from size had lost some)
+  pub part-below : (r : Option Swap) → r ≡ swap_in A from size → (s : Swap) → r ≡ Some s → (s.from < size) × (s.to < size)
+  part-below r p s e = swap-below A from size had lost some s (sym p ∙ e)
 
-pub part_swap : (A : Shares) (from size m : ℕ) → m ≡ size → (r : Swap) → r ≡ swap_of (take m (drop from A.had)) (take m (drop from A.lost)) → r ≡ swap_in A from size
+pub part_swap : (A : Shares) (from size m : ℕ) → m ≡ size → (r : Option Swap) → r ≡ swap_of (take m (drop from A.had)) (take m (drop from A.lost)) → r ≡ swap_in A from size
 part_swap A from size m e r p = p ∙ ap (λ (k : ℕ). swap_of (take k (drop from A.had)) (take k (drop from A.lost))) e

@@ -11,22 +11,12 @@ use quantizer::Swap;
 const MIN_FACTOR: f32 = 0.5;
 
 // The place that has most, and the one without which least is lost: it gives way where that is less than half of what the first has.
-pub fn choose(had: &[f32], lost: &[f32]) -> Swap
+pub fn choose(had: &[f32], lost: &[f32]) -> Option<Swap>
     requires { Choosing had.now lost.now }
     ensures { result ≡ swap_of had.now lost.now }
 {
     let from = stats_extremes::argmax(had);
     let to = stats_extremes::argmin(lost);
-    if to == from {
-        return Swap {
-            from,
-            to,
-            gives: false,
-        };
-    }
-    Swap {
-        from,
-        to,
-        gives: lost[to] < MIN_FACTOR * had[from],
-    }
+    let gives_way = to != from && lost[to] < MIN_FACTOR * had[from];
+    gives_way.then_some(Swap { from, to })
 }

@@ -49,9 +49,7 @@ pub fn color_sums(
     ensures { shares total.new second.new
         ≡ spread_of (job_of z tiles.now colours.now counts.now) pal.now (owner_of (job_of z tiles.now colours.now counts.now) pal.now) z.t }
 {
-    let mut i = 0;
-    while i < z.t {
+    for i in 0..z.t {
         color_step(z, tiles, colours, counts, pal, hints, i, total, second);
-        i += 1;
     }
 }

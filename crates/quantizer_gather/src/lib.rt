@@ -54,9 +54,7 @@ pub fn gather_all(
     ensures { (gather sums.new cnts.new ≡ gather_of (job_of z tiles.now colours.now counts.now) pal.now z.t)
         × (hints.new ≡ hints_of (job_of z tiles.now colours.now counts.now) pal.now z.s z.c hints.old z.t) }
 {
-    let mut i = 0;
-    while i < z.t {
+    for i in 0..z.t {
         gather_step(z, tiles, colours, counts, pal, hints, i, sums, cnts);
-        i += 1;
     }
 }

@@ -16,7 +16,7 @@ fn add_at(sums: &mut [f32], cnts: &mut [u32], p: usize, q: Oklab, m: u32)
 {
     let x = color::colour(sums, p);
     color::put(sums, p, color::plus_times(x, q, m));
-    cnts[p] = cnts[p] + m;
+    cnts[p] += m;
 }
 
 // A tile's colours go to the colours of `sub` that are nearest to them, whose sums begin at `base`.
@@ -33,13 +33,9 @@ pub fn gather_tile(
     ensures { gather sums.new cnts.new
         ≡ tile_gather sub.now (tile_with tile.now counts.now) w base (gather sums.old cnts.old) (length counts.now) }
 {
-    let n = counts.len();
-    let mut k = 0;
-    while k < n {
+    for (k, &pixels) in counts.iter().enumerate() {
         let q = color::colour(tile, k);
         let near = palette::nearest(sub, q, w);
-        let i = near.index;
-        add_at(sums, cnts, base + i, q, counts[k]);
-        k += 1;
+        add_at(sums, cnts, base + near.index, q, pixels);
     }
 }

@@ -47,9 +47,7 @@ pub fn grow_palette(
         hints,
         &mut total_color_distances,
     );
-    let mut i = 0;
-    while i < z.s {
+    for i in 0..z.s {
         split_color(pal, z.c, have, i, &total_color_distances);
-        i += 1;
     }
 }

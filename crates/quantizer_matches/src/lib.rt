@@ -19,13 +19,10 @@ pub fn for_each_match(
     requires { Matched sub.now (tile_with tile.now counts.now) base (length total.old) }
     ensures { total.new ≡ tile_needs sub.now (tile_with tile.now counts.now) w base total.old (length counts.now) }
 {
-    let n = counts.len();
-    let mut k = 0;
-    while k < n {
+    for (k, &pixels) in counts.iter().enumerate() {
         let near = palette::nearest(sub, color::colour(tile, k), w);
         let p = base + near.index;
-        let m = counts[k] as f32;
-        total[p] = total[p] + near.dist * m;
-        k += 1;
+        let m = pixels as f32;
+        total[p] += near.dist * m;
     }
 }

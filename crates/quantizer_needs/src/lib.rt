@@ -58,9 +58,7 @@ pub fn color_distances(
     if have == 1 {
         return;
     }
-    let mut i = 0;
-    while i < z.t {
+    for i in 0..z.t {
         tile_step(z, tiles, colours, counts, pal, have, hints, i, total);
-        i += 1;
     }
 }

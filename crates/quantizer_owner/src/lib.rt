@@ -9,8 +9,5 @@ pub fn nearest_palette_of(s: usize, hints: &[u32], i: usize) -> usize
     requires { i < length hints.now }
     ensures { result ≡ owner_in s hints.now i }
 {
-    if s > 1 {
-        return hints[i] as usize;
-    }
-    0
+    if s > 1 { hints[i] as usize } else { 0 }
 }

@@ -3,12 +3,12 @@
 #![tactic(auto)]
 
 ghost use Rattle.std.specs.Prelude.{◌≡◌, ◌<◌, length};
-ghost use Rattle.job.specs.Job.{job_of, most_subpalettes};
+ghost use Rattle.job.specs.Job.{job_in, most_subpalettes};
 ghost use Rattle.palette_tile.specs.Tiles.{Shown};
 ghost use Rattle.quantizer.specs.Sums.{zeros};
 ghost use Rattle.quantizer.specs.Replacing.{shares, share_with, shares_of, pair_hints};
 
-use job::Sizes;
+use job::Job;
 use stats::Two;
 
 // A tile's best two, to the sums of the best.
@@ -17,30 +17,25 @@ fn add_two(total: &mut [f32], removed: &mut [f32], r: Two)
     ensures { shares total.new removed.new ≡ share_with r (shares total.old removed.old) }
 {
     let i = r.index;
-    total[i] = total[i] + r.dist;
-    removed[i] = removed[i] + r.second;
+    total[i] += r.dist;
+    removed[i] += r.second;
 }
 
 // What each subpalette has, and what would be added without it; the hints then name each tile's best. An empty tile goes through
 // best_two too, so that its hint becomes 0.
 pub fn palette_sums(
-    z: Sizes,
-    tiles: &[u32],
-    colours: &[f32],
-    counts: &[u32],
+    job: &Job,
     pal: &[f32],
     hints: &mut [u32],
     total: &mut [f32],
     removed: &mut [f32],
 )
-    requires { Shown (job_of z tiles.now colours.now counts.now) pal.now z.s z.c × ((length hints.old ≡ z.t) × ((total.old ≡ zeros most_subpalettes) × (removed.old ≡ zeros most_subpalettes))) }
-    ensures { (shares total.new removed.new ≡ shares_of (job_of z tiles.now colours.now counts.now) pal.now z.t)
-        × (hints.new ≡ pair_hints (job_of z tiles.now colours.now counts.now) pal.now hints.old z.t) }
+    requires { Shown (job_in job.now) pal.now job.now.sizes.s job.now.sizes.c × ((length hints.old ≡ job.now.sizes.t) × ((total.old ≡ zeros most_subpalettes) × (removed.old ≡ zeros most_subpalettes))) }
+    ensures { (shares total.new removed.new ≡ shares_of (job_in job.now) pal.now job.now.sizes.t)
+        × (hints.new ≡ pair_hints (job_in job.now) pal.now hints.old job.now.sizes.t) }
 {
-    let mut i = 0;
-    while i < z.t {
-        let r = palette_tile::tile_two(z, tiles, colours, counts, pal, z.s, z.c, hints, i);
+    for i in 0..z.t {
+        let r = palette_tile::tile_two(job, pal, job.sizes.s, job.sizes.c, hints, i);
         add_two(total, removed, r);
-        i += 1;
     }
 }

@@ -7,18 +7,14 @@ use lib.ListN.{length}
 use lib.Dec.{ltb}
 use lib.Ieee.{Float}
 use Rattle.job.specs.Job.{Job}
-use Rattle.palette_edit.specs.Edits.{colour_copied}
 use Rattle.quantizer.specs.declared.Swap.{Swap}
 use Rattle.quantizer.specs.Replacing.{Shares, owner_of, spread_of, colour_swapped, recoloured, colours_replaced}
 use Rattle.quantizer.proofs.Lengths.{length-colour_copied}
+use Rattle.quantizer.proofs.Swaps.{colour_either}
+use Rattle.std.specs.Prelude.{Option}
 
-length-colour_swapped : (pal : List Float) (c i : ℕ) (s : Swap) → length (colour_swapped pal c i s) ≡ length pal
-unfolding colour_swapped
-length-colour_swapped pal c i s = either s.gives
-  where
-    either : (b : Bool) → length (cond b (colour_copied pal c i s.from s.to) pal) ≡ length pal
-    either true = length-colour_copied pal c i s.from s.to
-    either false = refl
+length-colour_swapped : (pal : List Float) (c i : ℕ) (o : Option Swap) → length (colour_swapped pal c i o) ≡ length pal
+length-colour_swapped pal c i o = colour_either (λ (x : List Float). length x ≡ length pal) pal refl c i o (λ s e. length-colour_copied pal c i s.from s.to)
 
 pub length-recoloured : (J : Job) (pal : List Float) (A : Shares) (i : ℕ) → length (recoloured J pal A i) ≡ length pal
 unfolding recoloured

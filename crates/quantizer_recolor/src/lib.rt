@@ -47,9 +47,7 @@ pub fn replace_colors(
         &mut total_color_mse,
         &mut second_color_mse,
     );
-    let mut i = 0;
-    while i < z.s {
+    for i in 0..z.s {
         replace_color(pal, z.c, i, &total_color_mse, &second_color_mse);
-        i += 1;
     }
 }

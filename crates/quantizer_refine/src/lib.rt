@@ -15,10 +15,8 @@ fn write_means(pal: &mut [f32], n: usize, sums: &[f32], cnts: &[u32])
     requires { Meaning pal.old n (gather sums.now cnts.now) }
     ensures { pal.new ≡ means_of pal.old (gather sums.now cnts.now) n }
 {
-    let mut p = 0;
-    while p < n {
+    for p in 0..n {
         quantizer_mean::mean_at(pal, p, sums, cnts);
-        p += 1;
     }
 }
 

@@ -12,6 +12,7 @@ use borrow.Author.Tests.{lt-ltb, le-ltb}
 use Rattle.job.specs.Job.{Job}
 use Rattle.palette_tile.specs.Tiles.{Shown}
 use Rattle.palette_tile.proofs.Present.{shown-part}
+use Rattle.std.specs.Prelude.{Option, Some, None, IfSome}
 use Rattle.quantizer.specs.declared.Swap.{Swap}
 use Rattle.quantizer.specs.Replacing.{Shares, shares_of, pair_at, pair_hints, owner_of, swap_of, swap_in, sub_swapped, colours_replaced, sub_replaced, replaced, replaced_hints}
 use Rattle.quantizer.specs.Lengths.{Wide}
@@ -25,7 +26,7 @@ use Rattle.quantizer_choice.proofs.Parts.{part_choosing, part-below, part_swap}
 use Rattle.quantizer_owner.specs.Owner.{owner_in}
 use Rattle.quantizer_color_sums.specs.Asked.{Owned}
 use Rattle.quantizer_recolor.proofs.Lengths.{length-colours_replaced}
-use Rattle.quantizer_replace.specs.Weakest.{no_swap, weakest_of}
+use Rattle.quantizer_replace.specs.Weakest.{weakest_of}
 
 -- ---- the sums of the subpalettes may be chosen among
 module _ (J : Job) (pal : List Float) (S : Shown J pal J.S J.C) (A : Shares) (E : A ≡ shares_of J pal J.T) where
@@ -41,10 +42,10 @@ module _ (J : Job) (pal : List Float) (S : Shown J pal J.S J.C) (A : Shares) (E 
 
 module _ (J : Job) (pal : List Float) (S : Shown J pal J.S J.C) (hints : List ℕ) (L : length hints ≡ J.T) where
   -- ---- one subpalette: no best two, no swap
-  pub one-palette : J.S ≡ 1 → (no_swap ≡ weakest_of J pal) × (hints ≡ replaced_hints J pal hints)
+  pub one-palette : J.S ≡ 1 → (None ≡ weakest_of J pal) × (hints ≡ replaced_hints J pal hints)
   unfolding weakest_of replaced_hints
   one-palette e = (
-    sym (ap (λ (b : Bool). cond b (swap_in (shares_of J pal J.T) 0 J.S) no_swap) alone),
+    sym (ap (λ (b : Bool). cond b (swap_in (shares_of J pal J.T) 0 J.S) None) alone),
     sym (ap (λ (b : Bool). cond b (pair_hints J pal hints J.T) hints) alone),
   )
     where
@@ -53,11 +54,11 @@ module _ (J : Job) (pal : List Float) (S : Shown J pal J.S J.C) (hints : List �
 
   -- ---- more
   module _ (A : Shares) (E : A ≡ shares_of J pal J.T) where
-    pub palettes_chosen : (J.S ≡ 1 → ⊥) → (r : Swap) → r ≡ swap_of (take (J.S - 0) (drop 0 A.had)) (take (J.S - 0) (drop 0 A.lost)) → (after : List ℕ) → after ≡ pair_hints J pal hints J.T
+    pub palettes_chosen : (J.S ≡ 1 → ⊥) → (r : Option Swap) → r ≡ swap_of (take (J.S - 0) (drop 0 A.had)) (take (J.S - 0) (drop 0 A.lost)) → (after : List ℕ) → after ≡ pair_hints J pal hints J.T
         → (r ≡ weakest_of J pal) × (after ≡ replaced_hints J pal hints)
     unfolding weakest_of replaced_hints
     palettes_chosen f r p after q = (
-      part_swap A 0 J.S (J.S - 0) (omega arith) r p ∙ ap (λ (x : Shares). swap_in x 0 J.S) E ∙ sym (ap (λ (b : Bool). cond b (swap_in (shares_of J pal J.T) 0 J.S) no_swap) many),
+      part_swap A 0 J.S (J.S - 0) (omega arith) r p ∙ ap (λ (x : Shares). swap_in x 0 J.S) E ∙ sym (ap (λ (b : Bool). cond b (swap_in (shares_of J pal J.T) 0 J.S) None) many),
       q ∙ sym (ap (λ (b : Bool). cond b (pair_hints J pal hints J.T) hints) many),
     )
       where
@@ -82,27 +83,23 @@ module _ (J : Job) (pal : List Float) (S : Shown J pal J.S J.C) (hints : List �
       owns t l false = refl
 
 -- ---- the swap, on the palette whose colours are replaced
-no_swap-stays : (pal : List Float) (c : ℕ) → sub_swapped pal c no_swap ≡ pal
-unfolding sub_swapped
-no_swap-stays pal c = refl
-
 swap_where_many : (J : Job) (pal q : List Float) → sub_swapped q J.C (weakest_of J pal) ≡ sub_replaced J pal q
-unfolding weakest_of sub_replaced
+unfolding weakest_of sub_replaced sub_swapped
 swap_where_many J pal q = either (ltb 1 J.S)
   where
-    swap : Swap
+    swap : Option Swap
     swap = swap_in (shares_of J pal J.T) 0 J.S
 
-    either : (b : Bool) → sub_swapped q J.C (cond b swap no_swap) ≡ cond b (sub_swapped q J.C swap) q
+    either : (b : Bool) → sub_swapped q J.C (cond b swap None) ≡ cond b (sub_swapped q J.C swap) q
     either true = refl
-    either false = no_swap-stays q J.C
+    either false = refl
 
 module _ (J : Job) (pal : List Float) (S : Shown J pal J.S J.C) where
-  weakest_below : ((weakest_of J pal).from < J.S) × ((weakest_of J pal).to < J.S)
+  weakest-below : (s : Swap) → weakest_of J pal ≡ Some s → (s.from < J.S) × (s.to < J.S)
   unfolding weakest_of
-  weakest_below = either (ltb 1 J.S)
+  weakest-below = either (ltb 1 J.S)
     where
-      swap : Swap
+      swap : Option Swap
       swap = swap_in (shares_of J pal J.T) 0 J.S
 
       wide : Wide (shares_of J pal J.T) 16
@@ -111,16 +108,20 @@ module _ (J : Job) (pal : List Float) (S : Shown J pal J.S J.C) where
       few : J.S ≤ 16
       few = shown-subs J pal J.S J.C S
 
-      either : (b : Bool) → ((cond b swap no_swap).from < J.S) × ((cond b swap no_swap).to < J.S)
-      either true = part-below (shares_of J pal J.T) 0 J.S (omega (arith, wide.had, few)) (omega (arith, wide.lost, few)) S.subs swap refl
-      either false = (S.subs, S.subs)
+      either : (b : Bool) (s : Swap) → cond b swap None ≡ Some s → (s.from < J.S) × (s.to < J.S)
+      either true s e = part-below (shares_of J pal J.T) 0 J.S (omega (arith, wide.had, few)) (omega (arith, wide.lost, few)) S.subs swap refl s e
+      either false s e = cc
 
-  module _ (swap : Swap) (W : swap ≡ weakest_of J pal) (q : List Float) (Q : q ≡ colours_replaced J pal) where
-    pub swap_room : (swap.from * (3 * J.C) + 3 * J.C ≤ length q) × (swap.to * (3 * J.C) + 3 * J.C ≤ length q)
-    swap_room = (room swap.from (subst⁻¹ (λ (x : Swap). x.from < J.S) W weakest_below.0), room swap.to (subst⁻¹ (λ (x : Swap). x.to < J.S) W weakest_below.1))
+  module _ (swap : Option Swap) (W : swap ≡ weakest_of J pal) (q : List Float) (Q : q ≡ colours_replaced J pal) where
+    pub swap_room : IfSome swap (λ s. (s.from * (3 * J.C) + 3 * J.C ≤ length q) × (s.to * (3 * J.C) + 3 * J.C ≤ length q))
+    swap_room = each swap refl
       where
         room : (i : ℕ) → i < J.S → i * (3 * J.C) + 3 * J.C ≤ length q
         room i l = omega (arith, (shown-part J pal J.S J.C S i l).1, ap length Q, length-colours_replaced J pal)
+
+        each : (o : Option Swap) → swap ≡ o → IfSome o (λ s. (s.from * (3 * J.C) + 3 * J.C ≤ length q) × (s.to * (3 * J.C) + 3 * J.C ≤ length q))
+        each None e = tt
+        each (Some s) e = let B = weakest-below s (sym W ∙ e) in (room s.from B.0, room s.to B.1)
 
     pub all-replaced : (after : List Float) → after ≡ sub_swapped q J.C swap → after ≡ replaced J pal
     unfolding replaced

@@ -19,18 +19,14 @@ fn weakest_palette(
     counts: &[u32],
     pal: &[f32],
     hints: &mut [u32],
-) -> Swap
+) -> Option<Swap>
     requires { Shown (job_of z tiles.now colours.now counts.now) pal.now z.s z.c × (length hints.old ≡ z.t) }
     ensures { (result ≡ weakest_of (job_of z tiles.now colours.now counts.now) pal.now)
         × (hints.new ≡ replaced_hints (job_of z tiles.now colours.now counts.now) pal.now hints.old) }
 {
     let subs = z.s;
     if subs == 1 {
-        return Swap {
-            from: 0,
-            to: 0,
-            gives: false,
-        };
+        return None;
     }
     let mut total_palette_mse = [0.0f32; 16];
     let mut removed_palette_mse = [0.0f32; 16];

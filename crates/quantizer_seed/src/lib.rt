@@ -21,11 +21,9 @@ pub fn mean_oklab(tiles: &[u32], colours: &[f32], samples: &[u32]) -> Oklab
         a: 0.0,
         b: 0.0,
     };
-    let mut i = 0;
-    while i < n {
+    for i in 0..n {
         let q = quantizer_sample::sample_colour(tiles, colours, samples, i);
         sum = color::plus(sum, q);
-        i += 1;
     }
     color::over(sum, n)
 }

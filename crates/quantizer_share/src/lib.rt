@@ -12,6 +12,6 @@ pub fn add_match(total: &mut [f32], second: &mut [f32], p: usize, r: Two, m: u32
     ensures { shares total.new second.new ≡ add_shares (shares total.old second.old) p r m }
 {
     let f = m as f32;
-    total[p] = total[p] + r.dist * f;
-    second[p] = second[p] + r.second * f;
+    total[p] += r.dist * f;
+    second[p] += r.second * f;
 }

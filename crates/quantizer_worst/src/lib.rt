@@ -31,7 +31,7 @@ fn distance_step(
     }
     let best = palette_tile::tile_fit(z, tiles, colours, counts, pal, subs, 1, hints, i);
     let winner = best.index;
-    distances[winner] = distances[winner] + best.dist;
+    distances[winner] += best.dist;
 }
 
 // Of the `subs` subpalettes present, of one colour each, the last of greatest summed distance.
@@ -49,8 +49,7 @@ pub fn worst(
         × (hints.new ≡ hints_of (job_of z tiles.now colours.now counts.now) pal.now subs 1 hints.old z.t) }
 {
     let mut distances = [0.0f32; 16];
-    let mut i = 0;
-    while i < z.t {
+    for i in 0..z.t {
         distance_step(
             z,
             tiles,
@@ -62,7 +61,6 @@ pub fn worst(
             i,
             &mut distances,
         );
-        i += 1;
     }
     stats_extremes::argmax(&distances[0..subs])
 }

@@ -10,7 +10,8 @@ use lib.Ieee.{Float}
 use lib.ListN.{length}
 use borrow.Author.Tests.{eqb-true}
 use Rattle.lists.proofs.Tests.{and_l, and_r}
-use Rattle.answer.specs.Rules.{refusal, Rule, rule, answer, Passed}
+use Rattle.answer.specs.Refusals.{refusal}
+use Rattle.answer.specs.Rules.{Rule, rule, answer, Passed}
 use Rattle.answer.specs.Names.{Table, Names, never}
 use Rattle.answer.proofs.Places.{rule_then, plain_then, aside}
 use Rattle.job.specs.Job.{two}

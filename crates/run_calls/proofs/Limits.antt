@@ -1,7 +1,7 @@
 -- What is within a bound passes the test of it: components, order entries, and the bits of an error. Assumes nothing.
 use Prim.Native.Nat.{ℕ, ◌*◌, ◌≤◌, ◌<◌}
 use mathlib.Core.Path.{◌≡◌, refl, sym, ap, ◌∙◌}
-use mathlib.Core.Bool.{Bool, true, false}
+use mathlib.Core.Bool.{Bool, true, false, true≢false}
 use mathlib.Core.List.{List}
 use native.Mathlib.Nat.{le_trans, le_of_eq, mul-le-mul_right, mul_right_comm, mul-one}
 use native.Mathlib.Omega.{arith}
@@ -10,7 +10,7 @@ use lib.Dec.{T, lit≤, lit<}
 use lib.ListN.{length, get_or}
 use lib.Ieee.{Float, nan, inf, fin, binary32, up, down, le, neg, is_nan, of_bits, to_bits}
 use lib.Ieee.Bits.{of_bits-fits, to_bits-of_bits}
-use borrow.Author.Tests.{eq-eqb, lt-ltb, ltb-true}
+use borrow.Author.Tests.{eqb-false, lt-ltb, ltb-true}
 use Rattle.ieee.proofs.Order.{le_fin←}
 use Rattle.ieee.specs.Terms.{Within, Good, key}
 use Rattle.ieee.proofs.Within.{wider}
@@ -19,7 +19,8 @@ use Rattle.lists.proofs.Tests.{and_i}
 use Rattle.lists.proofs.Loops.{every-at, every-all}
 use Rattle.color.specs.Color.{Bounded}
 use Rattle.job.specs.Job.{two}
-use Rattle.job.proofs.First.{first-none}
+use Rattle.job.proofs.First.{first-bound}
+use Rattle.job.proofs.Bad.{first_fails}
 use Rattle.job.specs.Checks.{within, component_fits, first_bad, components_fit}
 use Rattle.job.proofs.Ready.{components_within}
 use Rattle.palette_mse.proofs.Fine.{Error}
@@ -55,7 +56,14 @@ module _ (n : ℕ) (b : ℤ) (k : ℕ) (exact : n * up b ≡ k * down b) where
 -- a list within a bound passes the limit's test
 listed : (k : ℕ) (limit : Float) → ((x : Float) → Within x k 1 → within limit x ≡ true) → (xs : List Float) → Bounded xs k → components_fit limit xs ≡ true
 unfolding first_bad component_fits
-listed k limit f xs B = eq-eqb (first_bad limit xs) (length xs) (sym (first-none (component_fits limit xs) (length xs) (every-all (component_fits limit xs) (length xs) (λ i l. f (get_or xs i nan) (B i l)))))
+listed k limit f xs B = by (components_fit limit xs) refl
+  where
+    by : (b : Bool) → components_fit limit xs ≡ b → components_fit limit xs ≡ true
+    by true h = h
+    by false h =
+        let past = eqb-false (first_bad limit xs) (length xs) h in
+        let l : first_bad limit xs < length xs = omega (arith, past, first-bound (component_fits limit xs) (length xs)) in
+        absurd (true≢false (sym (f _ (B (first_bad limit xs) l)) ∙ first_fails (component_fits limit xs) (length xs) past))
 
 -- ---- handed-in colours: within 2
 two-exact : (x : Float) → Within x 2 1 → within two x ≡ true

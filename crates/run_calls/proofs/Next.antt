@@ -11,8 +11,7 @@ use lib.Dec.{eqb}
 use lib.Ieee.{Float}
 use borrow.Author.Tests.{eqb-true}
 use Rattle.lists.proofs.Tests.{or_case}
-use Rattle.answer.specs.declared.Refusal.{Refusal}
-use Rattle.answer.specs.Rules.{nothing}
+use Rattle.answer.specs.Refusals.{Answered, nothing}
 use Rattle.answer.specs.Outcome.{Outcome, outcome, decided}
 use Rattle.answer.proofs.Outcomes.{decided-done}
 use Rattle.color.proofs.Sizes.{bounded_wider}
@@ -21,8 +20,7 @@ use Rattle.job.proofs.Ready.{two-within, components_within}
 use Rattle.quantizer.specs.Course.{Course, b}
 use Rattle.run_stages.specs.State.{State, draws, stops}
 use Rattle.run_stages.specs.Stages.{advance, draws_of, start, hand_in}
-use Rattle.run_stages.specs.declared.Advanced.{Advanced}
-use Rattle.run_stages.specs.Calls.{Memory, state_of, memory_of, advanced, colours_room, start_answer, advance_answer, hand_in_answer, result_answer, start_call, advance_call, hand_in_call}
+use Rattle.run_stages.specs.Calls.{Memory, state_of, memory_of, advanced, colours_room, start_answer, advance_answer, hand_in_answer, result_answer, start_call, advance_call, hand_in_call, Advanced}
 use Rattle.run_calls.proofs.Cases.{by-test}
 use Rattle.run_calls.proofs.Split.{advance-add, draws-add}
 use Rattle.run_calls.proofs.Place.{made-at_3, made-at_end}
@@ -54,13 +52,13 @@ module _ (K : Course) (m : Memory) where
   hand_in-done reduced h = decided-done (hand_in_answer K m reduced) _ _ m h
 
   pub started-state : (seed : ℕ) → (start_answer K m).number ≡ 0 → state_of (start_call K m seed).after ≡ start K seed m.hints
-  started-state seed h = ap (λ (x : Outcome Refusal Memory). state_of x.after) (start-done seed h) ∙ held-state (start K seed m.hints)
+  started-state seed h = ap (λ (x : Outcome Answered Memory). state_of x.after) (start-done seed h) ∙ held-state (start K seed m.hints)
 
   pub advanced-state : (a : ℕ) → (advance_answer K m).number ≡ 0 → state_of (advance_call K m a).after ≡ advance K a (state_of m)
   advanced-state a h = ap (λ (x : Outcome Advanced Memory). state_of x.after) (advance-done a h) ∙ held-state (advance K a (state_of m))
 
   pub handed_state : (reduced : List Float) → (hand_in_answer K m reduced).number ≡ 0 → state_of (hand_in_call K m reduced).after ≡ hand_in K reduced (state_of m)
-  handed_state reduced h = ap (λ (x : Outcome Refusal Memory). state_of x.after) (hand_in-done reduced h) ∙ held-state (hand_in K reduced (state_of m))
+  handed_state reduced h = ap (λ (x : Outcome Answered Memory). state_of x.after) (hand_in-done reduced h) ∙ held-state (hand_in K reduced (state_of m))
 
 -- at a stop no draw is due, and the stage is no 2
 pub quiet_at : (k : ℕ) → stops k ≡ true → (draws k ≡ false) × (k ≤ 6) × (k ≢ 2)
@@ -81,7 +79,7 @@ module _ (K : Course) where
   pub start_leaves : (m : Memory) (seed : ℕ) → (start_answer K m).number ≡ 0 → Accepted K (start_call K m seed).after
   start_leaves m seed h =
       let o = start_opened K m h in
-      subst (λ (x : Outcome Refusal Memory). Accepted K x.after) (sym (start-done K m seed h))
+      subst (λ (x : Outcome Answered Memory). Accepted K x.after) (sym (start-done K m seed h))
       (holds K (start K seed m.hints) o.0 (start-fit K true (job-passed K true o.0) seed m.hints o.1.hints))
 
   pub advance_leaves : (m : Memory) (a : ℕ) → (advance_answer K m).number ≡ 0 → Accepted K (advance_call K m a).after
@@ -97,7 +95,7 @@ module _ (K : Course) where
       let A = o.0 in
       let q = quiet_at (state_of m).rec.stage o.1 in
       let H : Held K reduced = record { size = eqb-true (length reduced) (3 * (K.job.S * K.job.C)) o.2; bound = bounded_wider reduced 2 4 (omega arith) (components_within two reduced 2 two-within o.3) } in
-      subst (λ (x : Outcome Refusal Memory). Accepted K x.after) (sym (hand_in-done K m reduced h))
+      subst (λ (x : Outcome Answered Memory). Accepted K x.after) (sym (hand_in-done K m reduced h))
       (holds K (hand_in K reduced (state_of m)) A.passed (hand_in-fit K true (job-passed K true A.passed) reduced (state_of m) H A.fit q.0 q.1 q.2))
 
   -- ---- two allotments, with no stop between, and their sum
@@ -149,5 +147,5 @@ module _ (K : Course) where
   unfolding memory_of
   start-straight z m seed h =
       let D = job-passed K true (start_opened K m h).0 in
-      ap (λ (x : Outcome Refusal Memory). get_or x.after.words 1 0) (start-done K m seed h)
+      ap (λ (x : Outcome Answered Memory). get_or x.after.words 1 0) (start-done K m seed h)
       ∙ straight K D.ready.sizes.subs D.ready.sizes.some z seed m.hints

@@ -10,9 +10,9 @@ ghost use Rattle.run_stages.specs.Stages.{cycle_of, subs_of, have_of, alpha_of};
 
 use cycle::SampleCycle;
 use prng::Prng;
-use run_stages::Record;
+use run_stages::{Record, Stage};
 
-// How far a colour moves: 0.3, in stage 4 0.5.
+// How far a colour moves: 0.3, at the final draws 0.5.
 const NUDGE: f32 = 0.3;
 
 const LAST_NUDGE: f32 = 0.5;
@@ -21,43 +21,42 @@ const LAST_NUDGE: f32 = 0.5;
 pub fn is_finished(stage: u64) -> bool
     ensures { result ≡ eqb stage 7 }
 {
-    stage == 7
+    matches!(Stage::try_from(stage), Ok(Stage::Finished))
 }
 
 // The subpalettes present.
+#[tactic(auto, unfolding(run_stages::specs::Stages::subs_of))]
 pub fn subs_of(s: usize, r: Record) -> usize
     requires { r.rounds ≤ 16 }
     ensures { result ≡ subs_of s r }
 {
-    let rounds = r.rounds as usize;
-    if r.stage == 0 {
-        return rounds + 2;
+    match Stage::try_from(r.stage) {
+        Ok(Stage::Seeding) => r.rounds as usize + 2,
+        _ => s,
     }
-    s
 }
 
 // The colours of each that are present.
+#[tactic(auto, unfolding(run_stages::specs::Stages::have_of))]
 pub fn have_of(c: usize, r: Record) -> usize
     requires { r.rounds ≤ 16 }
     ensures { result ≡ have_of c r }
 {
-    let rounds = r.rounds as usize;
-    if r.stage == 0 {
-        return 1;
+    match Stage::try_from(r.stage) {
+        Ok(Stage::Seeding) => 1,
+        Ok(Stage::Growing) => r.rounds as usize + 2,
+        _ => c,
     }
-    if r.stage == 1 {
-        return rounds + 2;
-    }
-    c
 }
 
+#[tactic(auto, unfolding(run_stages::specs::Stages::alpha_of))]
 pub fn alpha_of(r: Record) -> f32
     ensures { result ≡ alpha_of r }
 {
-    if r.stage == 4 {
-        return LAST_NUDGE;
+    match Stage::try_from(r.stage) {
+        Ok(Stage::FinalDraws) => LAST_NUDGE,
+        _ => NUDGE,
     }
-    NUDGE
 }
 
 // The cycle of samples, without its order.

@@ -12,7 +12,7 @@ ghost use Rattle.run_refine.specs.Refines.{Handed};
 
 use answer::Refusal;
 use job::Sizes;
-use run_stages::Record;
+use run_stages::{Record, Stage};
 
 // What follows a stop, with the colours handed in as the palette.
 fn after_stop(
@@ -32,14 +32,14 @@ fn after_stop(
         ≡ hand_in (course_of z tiles.now colours.now counts.now samples.now) palette.old
         (state_with order.now hints.old palette.old least.now r) }
 {
-    if r.stage == 3 {
-        return run_refine::final_draws(z.n, r);
+    match Stage::try_from(r.stage) {
+        Ok(Stage::Reducing) => run_refine::final_draws(z.n, r),
+        Ok(Stage::Refining) => {
+            run_refine::refine_four(z, tiles, colours, counts, palette, hints);
+            r.placed(Stage::Refined, 0, 0)
+        }
+        _ => r.placed(Stage::Finished, 0, 0),
     }
-    if r.stage == 5 {
-        run_refine::refine_four(z, tiles, colours, counts, palette, hints);
-        return run_record::placed(r, 6, 0, 0);
-    }
-    run_record::placed(r, 7, 0, 0)
 }
 
 // Nothing, or the first rule that is broken; then all memory stays as it is.

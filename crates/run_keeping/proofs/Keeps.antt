@@ -39,13 +39,6 @@ unfolding enter_reducing
 reduced_by K p l r e p2 l2 ep el r2 er r3 es = rw (es, er, ep, el, e)
 
 -- ---- the test
-pub kept-first : (round : ℕ) (e : Float) (error : ℕ) → round ≡ 0 → true ≡ keeps round e error
-unfolding keeps
-kept-first round e error z = rw (eq-eqb round 0 z)
-
-pub kept_later : (round : ℕ) (e : Float) (error : ℕ) → round ≢ 0 → lt e (of_bits binary32 error) ≡ keeps round e error
-unfolding keeps
-kept_later round e error z = rw (ne_eqb round 0 z)
 
 -- ---- an error is a number, and so is what bits below infinity's give
 pub error-real : (J : Job) (pal : List Float) (n have : ℕ) → Shown J pal n have → (e : Float) → e ≡ mse_of J pal n have → T (not (is_nan e))

@@ -12,17 +12,15 @@ ghost use Rattle.run_keeping.specs.Keeping.{keeps, seen};
 ghost use Rattle.run_keeping.specs.Closing.{Judging, Ending};
 
 use job::Sizes;
-use run_stages::Record;
+use run_stages::{Record, Stage};
 
 // Whether a palette of error `e` is kept in a round, where the one kept has an error of these bits: the first of equal errors stays.
+#[tactic(auto, unfolding(crate::specs::Keeping::keeps))]
 fn is_kept(round: u64, e: f32, error: u64) -> bool
     requires { round ≢ 0 → error < 0x7f800000 }
     ensures { result ≡ keeps round e error }
 {
-    if round == 0 {
-        return true;
-    }
-    e < f32::from_bits(error as u32)
+    round == 0 || e < f32::from_bits(error as u32)
 }
 
 // The palette is seen at the start of a round of replacing: it is kept, with its error's bits, or passed by.
@@ -45,7 +43,7 @@ pub fn look(
     let e = palette_mse_sum::mse(z, tiles, colours, counts, palette, z.s, z.c, hints);
     if is_kept(round, e, r.error) {
         run_memory::copy(palette, least);
-        return run_record::noted(r, f32::to_bits(e) as u64);
+        return r.noted(f32::to_bits(e) as u64);
     }
     r
 }
@@ -57,5 +55,5 @@ pub fn enter_reducing(z: Sizes, palette: &mut [f32], least: &mut [f32], r: Recor
 {
     run_memory::copy(least, palette);
     run_memory::zero(least);
-    run_record::placed(run_record::noted(r, 0), 3, 0, 0)
+    r.noted(0).placed(Stage::Reducing, 0, 0)
 }

@@ -11,7 +11,7 @@ use borrow.Author.Tests.{leb-true, ltb-true}
 use Rattle.lists.proofs.Tests.{and_l, and_r}
 use Rattle.job.specs.declared.Sizes.{Sizes}
 use Rattle.quantizer.specs.Course.{Course, b}
-use Rattle.run_stages.specs.declared.Stage.{Stage}
+use Rattle.run_stages.specs.declared.Line.{Line}
 use Rattle.run_stages.specs.State.{draws, beside}
 use Rattle.run_stages.specs.Record.{stage_of, place_fits, made_by}
 use Rattle.run_record.specs.Sized.{plain, Sized}
@@ -31,16 +31,16 @@ module _ (K : Course) (k r l : ℕ) where
     left-within = leb-true l (stage_of K k).each (and_r (leb 1 l) _ (and_r (ltb r (stage_of K k).rounds) _ drawing))
 
   -- ---- word 4
-  pub made_quiet : (d : Bool) → d ≡ draws k → d ≡ false → (line : Stage) → line ≡ stage_of K k → line.before ≡ made_by K k r l
+  pub made_quiet : (d : Bool) → d ≡ draws k → d ≡ false → (line : Line) → line ≡ stage_of K k → line.before ≡ made_by K k r l
   unfolding made_by
-  made_quiet d e y line h = rw (← e, y) (ap (λ (x : Stage). x.before) h)
+  made_quiet d e y line h = rw (← e, y) (ap (λ (x : Line). x.before) h)
 
-  pub made_drawing : (d : Bool) → d ≡ draws k → d ≡ true → (line : Stage) → line ≡ stage_of K k → (t : ℕ) → t ≡ b K → line.before + r * t + (line.each - l) ≡ made_by K k r l
+  pub made_drawing : (d : Bool) → d ≡ draws k → d ≡ true → (line : Line) → line ≡ stage_of K k → (t : ℕ) → t ≡ b K → line.before + r * t + (line.each - l) ≡ made_by K k r l
   unfolding made_by
   made_drawing d e y line h t f = rw (← e, y, ← h, f)
 
 -- ---- bounds of a stage's line
-pub record Small (line : Stage) : Type 0 where
+pub record Small (line : Line) : Type 0 where
   pub rounds : line.rounds ≤ 16
   pub each : line.each ≤ 16390
   pub before : line.before ≤ 81950
@@ -71,7 +71,7 @@ module _ (z : Sizes) (Z : Sized z) where
       by false false false false false = record { rounds = omega arith; each = omega arith; before = tenths (z.s + z.c + 18) (omega (arith, Z.range.few, Z.range.cap)) }
 
   -- what the code holds at a place of a stage that draws
-  module _ (k r l : ℕ) (fits : place_fits (plain z) k r l ≡ true) (d : Bool) (e : d ≡ draws k) (y : d ≡ true) (line : Stage) (h : line ≡ stage_of (plain z) k) where
+  module _ (k r l : ℕ) (fits : place_fits (plain z) k r l ≡ true) (d : Bool) (e : d ≡ draws k) (y : d ≡ true) (line : Line) (h : line ≡ stage_of (plain z) k) where
     pub few-rounds : r ≤ 16
     few-rounds = omega (arith, rounds-below (plain z) k r l fits d e y, (line_small k).rounds)
 

@@ -3,6 +3,7 @@
 #![tactic(auto)]
 
 ghost use Rattle.std.specs.Prelude.{◌≡◌, true};
+ghost use Rattle.answer.specs.Refusals.{refusal_of};
 ghost use Rattle.answer.specs.Rules.{answer};
 ghost use Rattle.run_stages.specs.Record.{place_fits, made_by, record_rules};
 ghost use Rattle.run_record.specs.Sized.{plain, Sized};
@@ -12,37 +13,37 @@ use job::Sizes;
 use run_stages::Record;
 
 // Word 4, from words 1 to 3 of a record whose place fits.
-fn made_by(z: Sizes, stage: u64, rounds: u64, left: u64) -> u64
-    requires { Sized z × (place_fits (plain z) stage rounds left ≡ true) }
-    ensures { result ≡ made_by (plain z) stage rounds left }
+fn made_by(z: Sizes, r: Record) -> u64
+    requires { Sized z × (place_fits (plain z) r.stage r.rounds r.left ≡ true) }
+    ensures { result ≡ made_by (plain z) r.stage r.rounds r.left }
 {
-    let line = run_record::stage_of(z, stage);
-    if !run_record::makes_draws(stage) {
+    let line = run_record::stage_of(z, r.stage);
+    if !run_record::makes_draws(r.stage) {
         return line.before;
     }
     let b = cycle::base_iterations(z.n);
-    line.before + rounds * b + (line.each - left)
+    line.before + r.rounds * b + (line.each - r.left)
 }
 
 // Number 20 or 10, or nothing.
-pub fn check_record(z: Sizes, r: Record) -> Refusal
+pub fn check_record(z: Sizes, r: Record) -> Result<(), Refusal>
     requires { Sized z }
-    ensures { result ≡ answer (record_rules (plain z) r) }
+    ensures { refusal_of result ≡ answer (record_rules (plain z) r) }
 {
     let sizes = run_record::sizes_word(z);
     let ours = r.sizes == sizes;
-    let placed = run_place::place_fits(z, r.stage, r.rounds, r.left);
+    let placed = run_place::place_fits(z, r);
     if !ours {
-        return answer::OTHER_SIZES; // word 6
+        return Err(Refusal::OtherSizes); // word 6
     }
     if !placed {
-        return answer::RECORD; // words 1 to 3
+        return Err(Refusal::Record); // words 1 to 3
     }
-    if r.made != made_by(z, r.stage, r.rounds, r.left) {
-        return answer::RECORD; // word 4
+    if r.made != made_by(z, r) {
+        return Err(Refusal::Record); // word 4
     }
-    if !run_place::error_fits(r.stage, r.error) {
-        return answer::RECORD; // word 5
+    if !run_place::error_fits(r) {
+        return Err(Refusal::Record); // word 5
     }
-    answer::DONE
+    Ok(())
 }

@@ -11,32 +11,27 @@ pub fn copy(from: &[f32], to: &mut [f32])
     requires { length to.old ≡ length from.now }
     ensures { to.new ≡ from.now }
 {
-    let mut i = 0usize;
-    while i < from.len() {
-        to[i] = from[i];
-        i += 1;
-    }
+    to.copy_from_slice(from);
 }
 
 pub fn zero(numbers: &mut [f32])
     ensures { numbers.new ≡ zeros (length numbers.old) }
 {
-    let mut i = 0usize;
-    while i < numbers.len() {
-        numbers[i] = 0.0;
-        i += 1;
-    }
+    numbers.fill(0.0);
 }
 
+// No `From` of std writes into a lent slice, or asks of its length.
 pub fn write_record(words: &mut [u64], r: Record)
     requires { length words.old ≡ record_words }
     ensures { words.new ≡ words_of r }
 {
-    words[0] = r.generator;
-    words[1] = r.stage;
-    words[2] = r.rounds;
-    words[3] = r.left;
-    words[4] = r.made;
-    words[5] = r.error;
-    words[6] = r.sizes;
+    words.copy_from_slice(&[
+        r.generator,
+        r.stage,
+        r.rounds,
+        r.left,
+        r.made,
+        r.error,
+        r.sizes,
+    ]);
 }

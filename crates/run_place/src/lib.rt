@@ -7,37 +7,31 @@ ghost use Rattle.run_stages.specs.Record.{error_fits, place_fits};
 ghost use Rattle.run_record.specs.Sized.{plain, Sized};
 
 use job::Sizes;
+use run_stages::{Record, Stage};
 
 // Words 1 to 3.
-pub fn place_fits(z: Sizes, stage: u64, rounds: u64, left: u64) -> bool
+#[tactic(auto, unfolding(run_stages::specs::Record::place_fits))]
+pub fn place_fits(z: Sizes, r: Record) -> bool
     requires { Sized z }
-    ensures { result ≡ place_fits (plain z) stage rounds left }
+    ensures { result ≡ place_fits (plain z) r.stage r.rounds r.left }
 {
-    if stage > 7 {
+    if Stage::try_from(r.stage).is_err() {
         return false;
     }
-    if run_record::makes_draws(stage) {
-        let line = run_record::stage_of(z, stage);
-        if rounds >= line.rounds {
-            return false;
-        }
-        if left < 1 {
-            return false;
-        }
-        return left <= line.each;
+    if run_record::makes_draws(r.stage) {
+        let line = run_record::stage_of(z, r.stage);
+        return r.rounds < line.rounds && 1 <= r.left && r.left <= line.each;
     }
-    if rounds != 0 {
-        return false;
-    }
-    left == 0
+    r.rounds == 0 && r.left == 0
 }
 
 // Word 5: bits of a finite f32 with the sign bit clear in stage 2, else 0.
-pub fn error_fits(stage: u64, error: u64) -> bool
-    ensures { result ≡ error_fits stage error }
+#[tactic(auto, unfolding(run_stages::specs::Record::error_fits))]
+pub fn error_fits(r: Record) -> bool
+    ensures { result ≡ error_fits r.stage r.error }
 {
-    if stage == 2 {
-        return error < 0x7f80_0000;
+    match Stage::try_from(r.stage) {
+        Ok(Stage::Replacing) => r.error < 0x7f80_0000,
+        _ => r.error == 0,
     }
-    error == 0
 }

@@ -1,2 +1,1 @@
-mod Goes
 pub mod Lines

@@ -2,13 +2,13 @@
 #![tactic(auto)]
 
 ghost use Rattle.std.specs.Prelude.{◌≡◌, ◌&&◌, ltb, length};
-ghost use Rattle.run_stages.specs.State.{placed, noted, draws, stops};
+ghost use Rattle.run_stages.specs.State.{draws, stops};
 ghost use Rattle.run_stages.specs.Record.{stage_with, stage_of, sizes_word};
 ghost use Rattle.run_stages.specs.Calls.{record_of, record_words};
 ghost use Rattle.run_record.specs.Sized.{plain, Sized};
 
 use job::Sizes;
-use run_stages::{Record, Stage};
+use run_stages::{Line, Record, Stage};
 
 // The record's words by name.
 pub fn record_of(words: &[u64]) -> Record
@@ -26,25 +26,8 @@ pub fn record_of(words: &[u64]) -> Record
     }
 }
 
-// The record at another place.
-pub fn placed(mut r: Record, stage: u64, rounds: u64, left: u64) -> Record
-    ensures { result ≡ placed r stage rounds left }
-{
-    r.stage = stage;
-    r.rounds = rounds;
-    r.left = left;
-    r
-}
-
-// The record with another error.
-pub fn noted(mut r: Record, error: u64) -> Record
-    ensures { result ≡ noted r error }
-{
-    r.error = error;
-    r
-}
-
 // The job's sizes in one word: S, C, T and n in 16 bits each, most significant first.
+#[tactic(auto, unfolding(run_stages::specs::Record::packed))]
 pub fn sizes_word(z: Sizes) -> u64
     requires { Sized z }
     ensures { result ≡ sizes_word (plain z) }
@@ -59,27 +42,25 @@ pub fn sizes_word(z: Sizes) -> u64
 pub fn makes_draws(stage: u64) -> bool
     ensures { result ≡ draws stage }
 {
-    if stage < 3 {
-        return true;
-    }
-    stage == 4
+    matches!(
+        Stage::try_from(stage),
+        Ok(Stage::Seeding | Stage::Growing | Stage::Replacing | Stage::FinalDraws)
+    )
 }
 
 // Whether a stage waits for reduced colours.
 pub fn is_stop(stage: u64) -> bool
     ensures { result ≡ stops stage }
 {
-    if stage == 3 {
-        return true;
-    }
-    if stage == 5 {
-        return true;
-    }
-    stage == 6
+    matches!(
+        Stage::try_from(stage),
+        Ok(Stage::Reducing | Stage::Refining | Stage::Refined)
+    )
 }
 
 // A stage's line in the table of the stages.
-pub fn stage_of(z: Sizes, stage: u64) -> Stage
+#[tactic(auto, unfolding(run_stages::specs::Record::stage_of, run_stages::specs::State::beside))]
+pub fn stage_of(z: Sizes, stage: u64) -> Line
     requires { Sized z }
     ensures { result ≡ stage_of (plain z) stage }
 {
@@ -91,29 +72,21 @@ pub fn stage_of(z: Sizes, stage: u64) -> Stage
     let grown = (seeding + growing) * b;
     let replaced = (both + 8) * b;
     let ended = (both + 18) * b;
-    if stage == 0 {
-        return line(seeding, b, 0);
+    match Stage::try_from(stage) {
+        Ok(Stage::Seeding) => line(seeding, b, 0),
+        Ok(Stage::Growing) => line(growing, b, seeded),
+        Ok(Stage::Replacing) => line(10, b, grown),
+        Ok(Stage::Reducing) => line(0, 0, replaced),
+        Ok(Stage::FinalDraws) => line(1, 10 * b, replaced),
+        _ => line(0, 0, ended),
     }
-    if stage == 1 {
-        return line(growing, b, seeded);
-    }
-    if stage == 2 {
-        return line(10, b, grown);
-    }
-    if stage == 3 {
-        return line(0, 0, replaced);
-    }
-    if stage == 4 {
-        return line(1, 10 * b, replaced);
-    }
-    line(0, 0, ended)
 }
 
 // A line of that table.
-fn line(rounds: u64, each: u64, before: u64) -> Stage
+fn line(rounds: u64, each: u64, before: u64) -> Line
     ensures { result ≡ stage_with rounds each before }
 {
-    Stage {
+    Line {
         rounds,
         each,
         before,
@@ -124,8 +97,5 @@ fn line(rounds: u64, each: u64, before: u64) -> Stage
 pub fn goes_on(drawn: u64, allotment: u64, stage: u64) -> bool
     ensures { result ≡ (ltb drawn allotment && draws stage) }
 {
-    if drawn < allotment {
-        return makes_draws(stage);
-    }
-    false
+    drawn < allotment && makes_draws(stage)
 }

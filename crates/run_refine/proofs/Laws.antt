@@ -1,29 +1,16 @@
--- How the final draws begin, and the loop of the refinements. Assumes nothing.
-use Prim.Native.Nat.{ℕ, suc, ◌+◌, ◌*◌, ◌/◌, ◌≤◌, ◌<◌}
+-- The loop of the refinements. Assumes nothing.
+use Prim.Native.Nat.{ℕ, suc, ◌+◌, ◌≤◌, ◌<◌}
 use mathlib.Core.Path.{◌≡◌, refl, ap, ◌∙◌}
-use mathlib.Core.Logic.{◌≢◌}
 use mathlib.Core.List.{List, []}
 use native.Mathlib.Omega.{arith}
 use lib.Ieee.{Float}
-use borrow.Author.Tests.{eq-eqb, ne_eqb}
 use Rattle.job.specs.Job.{Job}
 use Rattle.palette_tile.specs.Tiles.{Shown, hints_of}
 use Rattle.quantizer.specs.Course.{Course, course}
 use Rattle.quantizer.specs.Refining.{refined}
-use Rattle.run_stages.specs.declared.Record.{Record}
-use Rattle.run_stages.specs.State.{placed}
 use Rattle.run_calls.specs.Sound.{Held}
 use Rattle.run_calls.proofs.Sound.{all_shown, refined-held, hinted}
-use Rattle.run_refine.specs.Refines.{refined_times, hints_times, final_draws, Refinable}
-
--- ---- the final draws: ten rounds of d draws in one
-pub none_begin : (n d : ℕ) (r : Record) → d ≡ n / 10 → 10 * d ≡ 0 → placed r 5 0 0 ≡ final_draws n r
-unfolding final_draws
-none_begin n d r h e = rw (← h, eq-eqb (10 * d) 0 e)
-
-pub some_begin : (n d : ℕ) (r : Record) → d ≡ n / 10 → 10 * d ≢ 0 → placed r 4 0 (10 * d) ≡ final_draws n r
-unfolding final_draws
-some_begin n d r h e = rw (← h, ne_eqb (10 * d) 0 e)
+use Rattle.run_refine.specs.Refines.{refined_times, hints_times, Refinable}
 
 -- ---- refinements
 module _ (J : Job) where

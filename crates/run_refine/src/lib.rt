@@ -6,18 +6,19 @@ ghost use Rattle.job.specs.Job.{job_of};
 ghost use Rattle.run_refine.specs.Refines.{refined_times, hints_times, final_draws, Refinable};
 
 use job::Sizes;
-use run_stages::Record;
+use run_stages::{Record, Stage};
 
 // The final draws begin; with fewer than ten samples there are none, and the next stop is reached at once.
+#[tactic(auto, unfolding(crate::specs::Refines::final_draws))]
 pub fn final_draws(n: usize, r: Record) -> Record
     requires { n ≤ 16384 }
     ensures { result ≡ final_draws n r }
 {
     let left = 10 * cycle::base_iterations(n);
     if left == 0 {
-        return run_record::placed(r, 5, 0, 0);
+        return r.placed(Stage::Refining, 0, 0);
     }
-    run_record::placed(r, 4, 0, left)
+    r.placed(Stage::FinalDraws, 0, left)
 }
 
 // Four passes of refinement.
@@ -35,9 +36,7 @@ pub fn refine_four(
         (hints.new ≡ hints_times (job_of z tiles.now colours.now counts.now) 4 palette.old
         hints.old) }
 {
-    let mut i = 0usize;
-    while i < 4 {
+    for _ in 0..4usize {
         quantizer_refine::refine(z, tiles, colours, counts, palette, hints);
-        i += 1;
     }
 }

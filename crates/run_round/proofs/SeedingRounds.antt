@@ -1,6 +1,6 @@
 -- What seeking asks and leaves. Assumes nothing.
 use Prim.Native.Nat.{ℕ, ◌+◌, ◌≤◌}
-use mathlib.Core.Path.{◌≡◌, refl, ◌∙◌}
+use mathlib.Core.Path.{◌≡◌, ◌∙◌}
 use mathlib.Core.Logic.{◌≢◌}
 use mathlib.Core.List.{List, []}
 use native.Mathlib.Omega.{arith}
@@ -35,15 +35,6 @@ sought J h p r A more from h2 z f e =
       hinted = λ _. e;
       idle = λ (n : r.stage ≢ 0). absurd (n z);
       source = rw f (omega (arith, worst_below J p (r.rounds + 2) (shown J h p r A more)));
-    }
-
-pub idle : (J : Job) (h : List ℕ) (p : List Float) (r : Record) → Whole J h p → r.stage ≢ 0 → Sought J h p r 0 h
-idle J h p r A n =
-    record {
-      found = λ (z : r.stage ≡ 0). absurd (n z);
-      hinted = λ (z : r.stage ≡ 0). absurd (n z);
-      idle = λ _. refl;
-      source = omega (arith, A.shown.ready.sizes.subs);
     }
 
 pub hinted : (K : Course) (h : List ℕ) (p l : List Float) (r : Record) (h2 : List ℕ) → h2 ≡ hints_of K.job p (r.rounds + 2) 1 h K.job.T → state_with [] h2 p l r ≡ noticed K (r.rounds + 2) 1 (state_with [] h p l r)

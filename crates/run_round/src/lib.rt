@@ -14,20 +14,19 @@ ghost use Rattle.run_stages.specs.State.{state_with};
 ghost use Rattle.run_stages.specs.Stages.{finish_round, settle};
 ghost use Rattle.run_round.specs.Settles.{Standing, Closing, turn_after};
 
-use run_stages::Record;
+use run_stages::{Record, Stage};
 
 // The turn after a round that is closed.
+#[tactic(auto, unfolding(crate::specs::Settles::turn_after))]
 fn turn_after(s: usize, c: usize, r: Record) -> u64
     requires { (s ≤ 16) × (1 ≤ s) × (c ≤ 16) × (r.rounds ≤ 16) }
     ensures { result ≡ turn_after s c r }
 {
-    if r.stage == 0 {
-        return r.rounds + 1;
+    match Stage::try_from(r.stage) {
+        Ok(Stage::Seeding) => r.rounds + 1,
+        Ok(Stage::Growing) => s as u64 + r.rounds,
+        _ => s as u64 + c as u64 + r.rounds - 1,
     }
-    if r.stage == 1 {
-        return s as u64 + r.rounds;
-    }
-    s as u64 + c as u64 + r.rounds - 1
 }
 
 // A round's end, by its stage.
@@ -47,21 +46,21 @@ fn finish_round(
         (state_with [] hints.old palette.old least.old r) }
 {
     let from = seeding::seek(z, tiles, colours, counts, palette, hints, r);
-    if r.stage == 4 {
-        return run_next::end_final(r);
+    match Stage::try_from(r.stage) {
+        Ok(Stage::FinalDraws) => run_next::end_final(r),
+        _ => run_turns::open_turn(
+            z,
+            tiles,
+            colours,
+            counts,
+            hints,
+            palette,
+            least,
+            turn_after(z.s, z.c, r),
+            from,
+            r,
+        ),
     }
-    run_turns::open_turn(
-        z,
-        tiles,
-        colours,
-        counts,
-        hints,
-        palette,
-        least,
-        turn_after(z.s, z.c, r),
-        from,
-        r,
-    )
 }
 
 // Rounds are closed while one is due.

@@ -4,7 +4,7 @@ ghost use Rattle.job.specs.Job.{job_of};
 ghost use Rattle.run_round.specs.Seeds.{Seeking, Sought};
 
 use job::Sizes;
-use run_stages::Record;
+use run_stages::{Record, Stage};
 
 // In a round of seeding the subpalette to copy next, that of greatest summed distance; the hints are written. In other rounds nothing is done.
 pub fn seek(
@@ -19,9 +19,11 @@ pub fn seek(
     requires { Seeking (job_of z tiles.now colours.now counts.now) hints.old palette.now r }
     ensures { Sought (job_of z tiles.now colours.now counts.now) hints.old palette.now r result hints.new }
 {
-    if r.stage != 0 {
-        return 0;
+    match Stage::try_from(r.stage) {
+        Ok(Stage::Seeding) => {
+            let subs = r.rounds as usize + 2;
+            quantizer_worst::worst(z, tiles, colours, counts, palette, subs, hints)
+        }
+        _ => 0,
     }
-    let subs = r.rounds as usize + 2;
-    quantizer_worst::worst(z, tiles, colours, counts, palette, subs, hints)
 }

@@ -1,12 +1,12 @@
 -- The four calls of a run over the memory lent to them: what each answers, and the memory after. Definitions only. Assumes nothing.
-use Rattle.std.specs.Prelude.{ℕ, ◌*◌, Bool, ◌&&◌, List, [], ◌∷◌, ◌++◌, eqb, length, get_or, Float}
+use Rattle.std.specs.Prelude.{ℕ, ◌*◌, Bool, ◌&&◌, List, [], ◌∷◌, ◌++◌, eqb, length, get_or, Result, Ok, Err, Float}
 use Rattle.job.specs.Job.{two}
 use Rattle.answer.specs.declared.Refusal.{Refusal}
-use Rattle.answer.specs.Rules.{nothing, Rule, rule, answer}
+use Rattle.answer.specs.Refusals.{Answered, nothing, numbered_as}
+use Rattle.answer.specs.Rules.{Rule, rule, answer}
 use Rattle.answer.specs.Outcome.{Outcome, outcome, decided}
 use Rattle.job.specs.Checks.{colour_rule, sampled_rules}
 use Rattle.quantizer.specs.Course.{Course}
-use Rattle.run_stages.specs.declared.Advanced.{Advanced}
 use Rattle.run_stages.specs.declared.Record.{Record}
 use Rattle.run_stages.specs.State.{State, state_with, draws, stops}
 use Rattle.run_stages.specs.Stages.{advance, draws_of, start, hand_in}
@@ -40,9 +40,17 @@ state_of m = state_with m.order m.hints m.palette m.least (record_of m.words)
 unfoldable pub memory_of : State → Memory
 memory_of s = memory s.order s.hints s.palette s.least (words_of s.rec)
 
--- what an advance answers: the draws that it made, none where it is refused
-abbrev pub advanced : Refusal → ℕ → Advanced
+-- what an advance answers: its refusal, or nothing, and the draws that it made, none where it is refused
+pub record Advanced : Type 0 where
+  pub refusal : Answered
+  pub draws : ℕ
+
+abbrev pub advanced : Answered → ℕ → Advanced
 advanced e n = record { refusal = e; draws = n }
+
+abbrev pub advanced_as : Result ℕ Refusal → Advanced
+advanced_as (Ok n) = advanced nothing n
+advanced_as (Err e) = advanced (numbered_as e) 0
 
 module _ (K : Course) where
   open K.job use {S, C, T}
@@ -75,29 +83,29 @@ module _ (K : Course) where
   abbrev pub result_rules : Memory → List Float → List Rule
   result_rules m out = run_rules m (memory_room m && colours_room out) (eqb (state_of m).rec.stage 7)
 
-  unfoldable pub start_answer : Memory → Refusal
+  unfoldable pub start_answer : Memory → Answered
   start_answer m = answer (start_rules m)
 
-  unfoldable pub advance_answer : Memory → Refusal
+  unfoldable pub advance_answer : Memory → Answered
   advance_answer m = answer (advance_rules m)
 
-  unfoldable pub hand_in_answer : Memory → List Float → Refusal
+  unfoldable pub hand_in_answer : Memory → List Float → Answered
   hand_in_answer m reduced = answer (hand_in_rules m reduced)
 
-  unfoldable pub result_answer : Memory → List Float → Refusal
+  unfoldable pub result_answer : Memory → List Float → Answered
   result_answer m out = answer (result_rules m out)
 
   -- ---- the calls. A refusal makes no draw and writes nothing
-  unfoldable pub start_call : Memory → ℕ → Outcome Refusal Memory
+  unfoldable pub start_call : Memory → ℕ → Outcome Answered Memory
   start_call m seed = decided (start_answer m) (outcome nothing (memory_of (start K seed m.hints))) (start_answer m) m
 
   unfoldable pub advance_call : Memory → ℕ → Outcome Advanced Memory
   advance_call m a =
       decided (advance_answer m) (outcome (advanced nothing (draws_of K a (state_of m))) (memory_of (advance K a (state_of m)))) (advanced (advance_answer m) 0) m
 
-  unfoldable pub hand_in_call : Memory → List Float → Outcome Refusal Memory
+  unfoldable pub hand_in_call : Memory → List Float → Outcome Answered Memory
   hand_in_call m reduced = decided (hand_in_answer m reduced) (outcome nothing (memory_of (hand_in K reduced (state_of m)))) (hand_in_answer m reduced) m
 
   -- the colours go to `out`, and nothing else is written
-  unfoldable pub result_call : Memory → List Float → Outcome Refusal (List Float)
+  unfoldable pub result_call : Memory → List Float → Outcome Answered (List Float)
   result_call m out = decided (result_answer m out) (outcome nothing m.palette) (result_answer m out) out

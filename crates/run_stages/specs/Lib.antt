@@ -1,5 +1,6 @@
 pub mod Whilst
 pub mod State
+pub mod Named
 pub mod Stages
 pub mod Record
 pub mod Calls

@@ -7,7 +7,7 @@ use Rattle.answer.specs.Rules.{Rule, rule}
 use Rattle.job.specs.Checks.{colour_rule}
 use Rattle.quantizer.specs.Course.{Course, b}
 use Rattle.run_stages.specs.declared.Record.{Record}
-use Rattle.run_stages.specs.declared.Stage.{Stage}
+use Rattle.run_stages.specs.declared.Line.{Line}
 use Rattle.run_stages.specs.State.{State, draws, beside}
 
 -- the greatest magnitude of a working colour's component
@@ -37,14 +37,14 @@ working_rules cells stage palette least = colour_rule 16 0 four palette ∷ colo
 unfoldable pub packed : ℕ → ℕ → ℕ → ℕ → ℕ
 packed s c t n = s * 2 ^ 48 + c * 2 ^ 32 + t * 2 ^ 16 + n
 
-abbrev pub stage_with : ℕ → ℕ → ℕ → Stage
+abbrev pub stage_with : ℕ → ℕ → ℕ → Line
 stage_with rounds each before = record { rounds = rounds; each = each; before = before }
 
 module _ (K : Course) where
   open K.job use {S, C, T}
 
   -- the table of the stages: rounds, draws in a round, draws before the stage. At a stop and at the finish there are neither rounds nor draws
-  unfoldable pub stage_of : ℕ → Stage
+  unfoldable pub stage_of : ℕ → Line
   stage_of k =
       beside k
       ((0, stage_with (S - 1) (b K) 0)

@@ -16,7 +16,7 @@ ghost use Rattle.run_record.specs.Sized.{plain};
 ghost use Rattle.run_turns.specs.Asked.{Doubling, Opening, Turning};
 ghost use Rattle.run_turns.specs.Rounds.{open_turn};
 
-use run_stages::Record;
+use run_stages::{Record, Stage};
 
 // A subpalette more, a copy of subpalette `from`, and a round of draws begins.
 fn open_seeding(z: Sizes, palette: &mut [f32], round: u64, from: usize, r: Record) -> Record
@@ -25,7 +25,7 @@ fn open_seeding(z: Sizes, palette: &mut [f32], round: u64, from: usize, r: Recor
 {
     let have = round as usize + 1;
     palette_edit::duplicate_palette(palette, z.c, 1, have, from);
-    run_next::open_round(r, 0, round, z.n)
+    run_next::open_round(r, Stage::Seeding, round, z.n)
 }
 
 // A colour more in each subpalette, and a round of draws begins.
@@ -46,7 +46,7 @@ fn open_growing(
 {
     let have = round as usize + 1;
     quantizer_grow::grow_palette(z, tiles, colours, counts, palette, have, hints);
-    run_next::open_round(r, 1, round, z.n)
+    run_next::open_round(r, Stage::Growing, round, z.n)
 }
 
 // A turn: the next round in that count. One of seeding copies subpalette `from`.

@@ -9,7 +9,7 @@ ghost use Rattle.run_keeping.specs.Closing.{Whole, Judging};
 ghost use Rattle.run_turns.specs.Rounds.{replace_on};
 
 use job::Sizes;
-use run_stages::Record;
+use run_stages::{Record, Stage};
 
 // The weakest gives way, and a round of draws begins.
 fn open_replacing(
@@ -28,7 +28,7 @@ fn open_replacing(
         (state_with [] hints.old palette.old [] r) }
 {
     quantizer_replace::replace_weakest(z, tiles, colours, counts, palette, hints);
-    run_next::open_round(r, 2, round, z.n)
+    run_next::open_round(r, Stage::Replacing, round, z.n)
 }
 
 // The next of the ten rounds, numbered from 0, or the stop.

@@ -2,11 +2,13 @@
 #![tactic(auto)]
 
 ghost use Rattle.std.specs.Prelude.{◌≡◌, ◌*◌, ◌≤◌};
+ghost use Rattle.answer.specs.Refusals.{refusal_of};
 ghost use Rattle.answer.specs.Rules.{answer};
 ghost use Rattle.job.specs.Job.{most_subpalettes, most_colours};
 ghost use Rattle.run_stages.specs.Record.{order_fits, working_rules};
 
 use answer::Refusal;
+use run_stages::Stage;
 
 // The magnitude of a working component, at most.
 const MOST_WORKING: f32 = 4.0;
@@ -15,27 +17,27 @@ const MOST_WORKING: f32 = 4.0;
 pub fn order_fits(n: usize, order: &[u32]) -> bool
     ensures { result ≡ order_fits n order.now }
 {
-    let mut i = 0usize;
-    while i < order.len() {
-        if job::wide(order[i]) >= n {
-            return false;
-        }
-        i += 1;
-    }
-    true
+    order.iter().all(|entry| job::wide(*entry) < n)
 }
 
 // Number 16: the colours of the first palette, then in stage 2 those of the second, which go on counting from `cells`.
-pub fn check_working(cells: usize, stage: u64, palette: &[f32], least: &[f32]) -> Refusal
+pub fn check_working(
+    cells: usize,
+    stage: u64,
+    palette: &[f32],
+    least: &[f32],
+) -> Result<(), Refusal>
     requires { cells ≤ most_subpalettes * most_colours }
-    ensures { result ≡ answer (working_rules cells stage palette.now least.now) }
+    ensures { refusal_of result ≡ answer (working_rules cells stage palette.now least.now) }
 {
-    let a = job::check_colours(16, 0, palette, MOST_WORKING);
-    if a.number != 0 {
-        return a;
+    if let Some(i) = job::bad_colour(0, palette, MOST_WORKING) {
+        return Err(Refusal::WorkingColour(i));
     }
-    if stage != 2 {
-        return answer::DONE;
+    if !matches!(Stage::try_from(stage), Ok(Stage::Replacing)) {
+        return Ok(());
     }
-    job::check_colours(16, cells, least, MOST_WORKING)
+    if let Some(i) = job::bad_colour(cells, least, MOST_WORKING) {
+        return Err(Refusal::WorkingColour(i));
+    }
+    Ok(())
 }

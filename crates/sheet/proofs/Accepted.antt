@@ -8,8 +8,7 @@ use lib.Dec.{T, leb, leb→le}
 use lib.ListN.{length, drop}
 use Rattle.bits.specs.Bits.{bits}
 use Rattle.bits.proofs.Bytes.{length-bits}
-use Rattle.answer.specs.declared.Refusal.{Refusal}
-use Rattle.answer.specs.Rules.{refusal}
+use Rattle.answer.specs.Refusals.{Answered, refusal}
 use Rattle.format.specs.Format.{got, both, times, Answer, refused, accepted, read_of}
 use Rattle.format.proofs.Lawful.{same-value, next-got}
 use Rattle.format.proofs.Files.{ended-accepted}
@@ -21,15 +20,14 @@ use Rattle.sheet_format.proofs.Editions.{tiles-least}
 use Rattle.sheet_format.specs.Sheet.{component, Header, Sheet, Parts, fault_of, whole, tile, header, rest, sheet, read_sheet}
 use Rattle.sheet_format.proofs.Headed.{header_fixed, header-sized, header-long}
 use Rattle.sheet_format.specs.Lists.{total}
-use Rattle.sheet_check.specs.declared.Checked.TheVariants.{Sound}
-use Rattle.sheet_check.specs.Steps.{checked_of}
+use Rattle.sheet_check.specs.Steps.{sound, checked_of}
 use Rattle.sheet_check.proofs.Whole.{sound-not, sound-is}
 use Rattle.sheet_fill.specs.Fill.{Reads, list_of, list_at}
 use Rattle.sheet_fill.proofs.Components.{component_fixed}
 use Rattle.sheet_fill.proofs.Ends.{components_end, tiles_end}
 
 -- ---- answers, taken apart
-refused-not : (e : Refusal) (x : Sheet) → ◌≡◌ {A = Answer Sheet} (refused e) (accepted x) → ⊥
+refused-not : (e : Answered) (x : Sheet) → ◌≡◌ {A = Answer Sheet} (refused e) (accepted x) → ⊥
 refused-not e x f = let z : ◌≡◌ {A = ℕ} 0 1 = cc in omega arith
 
 module _ (E : Edition) where
@@ -84,10 +82,10 @@ module _ (E : Edition) where
           is = is ∙ ap₂ {C = Answer Sheet} (λ u v. accepted (whole (y.0, (u, v)))) (sym (ap list_of p)) (sym (ap list_of q));
         }
 
-    pub accepted_says : (a b t w : ℕ) → Sound a b t w ≡ checked_of (read_sheet E s) → Accepted s a b t w
+    pub accepted_says : (a b t w : ℕ) → sound a b t w ≡ checked_of (read_sheet E s) → Accepted s a b t w
     accepted_says a b t w e = by (read_sheet E s) refl e
       where
-        by : (x : Answer Sheet) → read_sheet E s ≡ x → Sound a b t w ≡ checked_of x → Accepted s a b t w
+        by : (x : Answer Sheet) → read_sheet E s ≡ x → sound a b t w ≡ checked_of x → Accepted s a b t w
         by (refused n) f g = absurd (sound-not n a b t w (sym g))
         by (accepted x) f g =
             let k = sound-is a b t w x.subs x.each x.tiles x.weight g in

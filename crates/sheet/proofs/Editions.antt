@@ -6,9 +6,9 @@ use mathlib.Core.Logic.{◌⊎◌, inl, inr}
 use mathlib.Core.List.{List}
 use lib.Dec.{eqb, leb}
 use lib.ListN.{length, take, drop}
+use Rattle.answer.specs.Refusals.{refusal}
 use Rattle.bits.specs.Bits.{bits, num}
 use borrow.Author.Tests.{le-leb}
-use Rattle.answer.specs.Rules.{refusal}
 use Rattle.format.specs.Format.{got, refused, accepted, ended, read_of}
 use Rattle.format.proofs.Files.{ended-accepted}
 use Rattle.job.specs.Job.{small_tile, large_tile}

@@ -10,8 +10,7 @@ use lib.ListN.{length, get_or, take, drop, set, replicate, length-append, length
 use lib.Seq.{sets, length-sets, length-take-le}
 use lib.Ieee.{Float}
 use borrow.Author.Tests.{le-leb, lt-leb}
-use Rattle.answer.specs.declared.Refusal.{Refusal}
-use Rattle.answer.specs.Rules.{refusal}
+use Rattle.answer.specs.Refusals.{Answered, refusal}
 use Rattle.answer.specs.Outcome.{Outcome, outcome}
 use Rattle.answer.proofs.Outcomes.{was_refused, was_done}
 use Rattle.bits.specs.Bits.{bits_of, bits}
@@ -31,9 +30,8 @@ use Rattle.sheet_pack.specs.Packed.{sheet_of, sheet_bits}
 use Rattle.sheet_pack.proofs.Prints.{sheet-size, sheet-print}
 use Rattle.sheet_room.specs.Room.{place_for}
 use Rattle.sheet_room.proofs.Places.{unplaced}
-use Rattle.sheet.specs.declared.Writing.{Writing}
-use Rattle.sheet.specs.declared.Writing.TheVariants.{Refused, Bytes}
-use Rattle.sheet.specs.Sheets.{file_of, stored_in, write_def}
+use Rattle.std.specs.Prelude.{Ok, Err}
+use Rattle.sheet.specs.Sheets.{Writing, file_of, stored_in, write_def}
 
 -- each element is a byte, as a slice of bytes has it
 abbrev pub Bytewise : List ℕ → Type 0
@@ -124,13 +122,13 @@ module _ (E : Edition) (J : Job) (R : Ready J) (palette : List Float) (L : Lent 
 -- ---- the answer
 module _ (file old : List ℕ) where
   abbrev in_place : Outcome Writing (List ℕ)
-  in_place = outcome (Bytes (length file)) (sets old 0 file)
+  in_place = outcome (Ok (length file)) (sets old 0 file)
 
   abbrev no_room : Outcome Writing (List ℕ)
-  no_room = outcome (Refused (refusal 3 0)) old
+  no_room = outcome (Err (refusal 3 0)) old
 
   abbrev too_long : Outcome Writing (List ℕ)
-  too_long = outcome (Refused (refusal 13 0)) old
+  too_long = outcome (Err (refusal 13 0)) old
 
   large : 65536 < length file → too_long ≡ stored_in file old
   unfolding stored_in
@@ -147,22 +145,22 @@ module _ (file old : List ℕ) where
   pub stored_in-place : length file ≤ 65536 → length file ≤ length old → stored_in file old ≡ in_place
   stored_in-place h l = within h ∙ ap (λ (b : Bool). cond b in_place no_room) (le-leb (length file) (length old) l)
 
-  stored : (n : ℕ) (new : List ℕ) → length file ≤ 65536 → length file ≤ length old → n ≡ length file → new ≡ sets old 0 file → outcome (Bytes n) new ≡ stored_in file old
-  stored n new h l en e = ap₂ {C = Outcome Writing (List ℕ)} (λ i v. outcome (Bytes i) v) en e ∙ sym (stored_in-place h l)
+  stored : (n : ℕ) (new : List ℕ) → length file ≤ 65536 → length file ≤ length old → n ≡ length file → new ≡ sets old 0 file → outcome (Ok n) new ≡ stored_in file old
+  stored n new h l en e = ap₂ {C = Outcome Writing (List ℕ)} (λ i v. outcome (Ok i) v) en e ∙ sym (stored_in-place h l)
 
-module _ (J : Job) (palette : List Float) (old : List ℕ) (r : Refusal) (e : r ≡ plain_answer J palette true) where
+module _ (J : Job) (palette : List Float) (old : List ℕ) (r : Answered) (e : r ≡ plain_answer J palette true) where
   -- the job's own refusals come first
-  pub job-refused : (r.number ≡ 0 → ⊥) → outcome (Refused r) old ≡ write_def J palette old
+  pub job-refused : (r.number ≡ 0 → ⊥) → outcome (Err r) old ≡ write_def J palette old
   unfolding write_def
-  job-refused z = was_refused r (plain_answer J palette true) e (stored_in (file_of J palette) old) (λ x. Refused x) old z
+  job-refused z = was_refused r (plain_answer J palette true) e (stored_in (file_of J palette) old) (λ x. Err x) old z
 
   module _ (z : r.number ≡ 0) where
     pub passed : Plain J palette true
-    passed = plain_ready J palette true (subst (λ (x : Refusal). x.number ≡ 0) e z)
+    passed = plain_ready J palette true (subst (λ (x : Answered). x.number ≡ 0) e z)
 
     by_file : (x : Outcome Writing (List ℕ)) → x ≡ stored_in (file_of J palette) old → x ≡ write_def J palette old
     unfolding write_def
-    by_file x f = was_done r (plain_answer J palette true) e (stored_in (file_of J palette) old) (λ x. Refused x) old z x f
+    by_file x f = was_done r (plain_answer J palette true) e (stored_in (file_of J palette) old) (λ x. Err x) old z x f
 
     module _ (E : Edition) (named : E ≡ edition_of J.size) (n k : ℕ) (en : n ≡ size_of E J.S J.C J.T (length J.counts)) (ek : k ≡ bytes_for n) where
       file_is : k ≡ length (file_of J palette)
@@ -170,18 +168,18 @@ module _ (J : Job) (palette : List Float) (old : List ℕ) (r : Refusal) (e : r 
           ek ∙ ap bytes_for en ∙ sym (file_long E J passed.ready palette passed.lent)
           ∙ ap (λ (x : Edition). length (encode (sheet x) (sheet_of J palette))) named
 
-      too_large : 65536 < k → outcome (Refused (refusal 13 0)) old ≡ write_def J palette old
+      too_large : 65536 < k → outcome (Err (refusal 13 0)) old ≡ write_def J palette old
       too_large h = by_file _ (large (file_of J palette) old (subst (λ (i : ℕ). 65536 < i) file_is h))
 
-      roomless_place : k ≤ 65536 → length old < k → outcome (Refused (refusal 3 0)) old ≡ write_def J palette old
+      roomless_place : k ≤ 65536 → length old < k → outcome (Err (refusal 3 0)) old ≡ write_def J palette old
       roomless_place h l = by_file _ (roomless (file_of J palette) old (subst (λ (i : ℕ). i ≤ 65536) file_is h) (subst (λ (i : ℕ). length old < i) file_is l))
 
-      pub no_place : (y : Refusal) → y ≡ place_for k (length old) → (y.number ≡ 0 → ⊥) → outcome (Refused y) old ≡ write_def J palette old
-      no_place y ey h = unplaced k (length old) y ey (λ x. outcome (Refused x) old ≡ write_def J palette old) h too_large roomless_place
+      pub no_place : (y : Answered) → y ≡ place_for k (length old) → (y.number ≡ 0 → ⊥) → outcome (Err y) old ≡ write_def J palette old
+      no_place y ey h = unplaced k (length old) y ey (λ x. outcome (Err x) old ≡ write_def J palette old) h too_large roomless_place
 
       pub file_written : (new : List ℕ) → k ≤ 65536 → k ≤ length old → Bytewise old → Bytewise new → length new ≡ length old
           → bits new ≡ sets (bits old) 0 (sheet_bits E (sheet_of J palette) ++ replicate (8 * bytes_for n - n) false)
-          → outcome (Bytes k) new ≡ write_def J palette old
+          → outcome (Ok k) new ≡ write_def J palette old
       file_written new h l ho hn ln f =
           by_file _
           (stored (file_of J palette) old k new (subst (λ (i : ℕ). i ≤ 65536) file_is h) (subst (λ (i : ℕ). i ≤ length old) file_is l) file_is

@@ -5,8 +5,8 @@ use native.Mathlib.Omega.{arith}
 use mathlib.Core.Bool.{◌&&◌}
 use mathlib.Core.List.{List, [], ◌∷◌, ◌++◌}
 use lib.Dec.{T, ltb, lt→ltb, ltb→lt}
-use lib.ListN.{length, get_or, take, drop}
-use lib.Ieee.{Float, nan, binary32, of_bits, to_bits, fits, lt}
+use lib.ListN.{length, take, drop}
+use lib.Ieee.{Float, binary32, of_bits, to_bits, fits, lt}
 use lib.Ieee.Bits.{of_bits-to_bits, to_bits-lt}
 use Rattle.ieee.specs.Terms.{zero_f, Within}
 use Rattle.color.specs.Color.{Bounded}

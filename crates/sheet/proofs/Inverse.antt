@@ -10,8 +10,8 @@ use lib.ListN.{length, take, drop}
 use lib.Seq.{sets, sets-eq, take_at}
 use lib.Ieee.{Float, binary32, fits}
 use borrow.Author.Tests.{le-leb, eqb-true, leb-true}
-use Rattle.answer.specs.declared.Refusal.{Refusal}
-use Rattle.answer.specs.Rules.{refusal, numbered}
+use Rattle.answer.specs.Refusals.{Answered, refusal}
+use Rattle.answer.specs.Rules.{numbered}
 use Rattle.answer.specs.Outcome.{Outcome, outcome, decided}
 use Rattle.answer.proofs.Passing.{all_pass}
 use Rattle.answer.proofs.Outcomes.{decided-done}
@@ -26,11 +26,8 @@ use Rattle.sheet_format.proofs.Exact.{sheet-there, sheet_back}
 use Rattle.sheet_format.specs.Lists.{floats, total}
 use Rattle.sheet_check.specs.Steps.{checked_of}
 use Rattle.sheet_pack.specs.Packed.{sheet_of}
-use Rattle.sheet.specs.declared.Reading.{Reading}
-use Rattle.sheet.specs.declared.Reading.TheVariants as reading
-use Rattle.sheet.specs.declared.Writing.{Writing}
-use Rattle.sheet.specs.declared.Writing.TheVariants.{Refused, Bytes}
-use Rattle.sheet.specs.Sheets.{Singles, job_in, Room, room, enough, read_into, read_def, file_of, stored_in, write_def}
+use Rattle.std.specs.Prelude.{Ok, Err}
+use Rattle.sheet.specs.Sheets.{Reading, Writing, Singles, job_in, Room, room, enough, read_into, read_def, file_of, stored_in, write_def}
 use Rattle.sheet.proofs.Editions.{edition-size, edition-sized, edition_again}
 use Rattle.sheet.proofs.Kept.{job_back, palette_back, sheet-good}
 use Rattle.sheet.proofs.Again.{sheet_again}
@@ -80,7 +77,7 @@ unfolding plain_answer numbered
 plain-sized J palette room e = (all_pass (plain_rules J palette room) refl e).0
 
 -- ---- written, then read
-module _ (J : Job) (palette : List Float) (old : List ℕ) (n : ℕ) (new : List ℕ) (w : outcome (Bytes n) new ≡ write_def J palette old) where
+module _ (J : Job) (palette : List Float) (old : List ℕ) (n : ℕ) (new : List ℕ) (w : outcome (Ok n) new ≡ write_def J palette old) where
   abbrev file : List ℕ
   file = file_of J palette
 
@@ -92,14 +89,14 @@ module _ (J : Job) (palette : List Float) (old : List ℕ) (n : ℕ) (new : List
     pub small : length file ≤ 65536
     pub room : length file ≤ length old
 
-  refused-not : (y : Refusal) (l : List ℕ) → ◌≡◌ {A = Outcome Writing (List ℕ)} (outcome (Bytes n) new) (outcome (Refused y) l) → ⊥
+  refused-not : (y : Answered) (l : List ℕ) → ◌≡◌ {A = Outcome Writing (List ℕ)} (outcome (Ok n) new) (outcome (Err y) l) → ⊥
   refused-not y l e =
-      let a : Bytes n ≡ Refused y = ap (λ (o : Outcome Writing (List ℕ)). o.answer) e in
+      let a : Ok n ≡ Err y = ap (λ (o : Outcome Writing (List ℕ)). o.answer) e in
       let z : ◌≡◌ {A = ℕ} 0 1 = cc in omega arith
 
-  bytes-is : (m : ℕ) (l : List ℕ) → ◌≡◌ {A = Outcome Writing (List ℕ)} (outcome (Bytes n) new) (outcome (Bytes m) l) → (n ≡ m) × (new ≡ l)
+  bytes-is : (m : ℕ) (l : List ℕ) → ◌≡◌ {A = Outcome Writing (List ℕ)} (outcome (Ok n) new) (outcome (Ok m) l) → (n ≡ m) × (new ≡ l)
   bytes-is m l e =
-      let a : Bytes n ≡ Bytes m = ap (λ (o : Outcome Writing (List ℕ)). o.answer) e in
+      let a : Ok n ≡ Ok m = ap (λ (o : Outcome Writing (List ℕ)). o.answer) e in
       (cc, ap (λ (o : Outcome Writing (List ℕ)). o.after) e)
 
   wrote : Wrote
@@ -107,19 +104,19 @@ module _ (J : Job) (palette : List Float) (old : List ℕ) (n : ℕ) (new : List
   wrote = job (eqb (plain_answer J palette true).number 0) refl w
     where
       fit : (b : Bool) → leb (length file) (length old) ≡ b → (plain_answer J palette true).number ≡ 0 → length file ≤ 65536
-          → outcome (Bytes n) new ≡ cond b (outcome (Bytes (length file)) (sets old 0 file)) (outcome (Refused (refusal 3 0)) old) → Wrote
+          → outcome (Ok n) new ≡ cond b (outcome (Ok (length file)) (sets old 0 file)) (outcome (Err (refusal 3 0)) old) → Wrote
       fit true e p s k =
           let m = bytes-is (length file) (sets old 0 file) k in
           record { passed = p; number = m.0; stored = m.1; small = s; room = leb-true (length file) (length old) e }
       fit false e p s k = absurd (refused-not (refusal 3 0) old k)
 
       limit : (b : Bool) → leb (length file) 65536 ≡ b → (plain_answer J palette true).number ≡ 0
-          → outcome (Bytes n) new ≡ cond b (cond (leb (length file) (length old)) (outcome (Bytes (length file)) (sets old 0 file)) (outcome (Refused (refusal 3 0)) old)) (outcome (Refused (refusal 13 0)) old) → Wrote
+          → outcome (Ok n) new ≡ cond b (cond (leb (length file) (length old)) (outcome (Ok (length file)) (sets old 0 file)) (outcome (Err (refusal 3 0)) old)) (outcome (Err (refusal 13 0)) old) → Wrote
       limit true e p k = fit (leb (length file) (length old)) refl p (leb-true (length file) 65536 e) k
       limit false e p k = absurd (refused-not (refusal 13 0) old k)
 
       job : (b : Bool) → eqb (plain_answer J palette true).number 0 ≡ b
-          → outcome (Bytes n) new ≡ cond b (stored_in file old) (outcome (Refused (plain_answer J palette true)) old) → Wrote
+          → outcome (Ok n) new ≡ cond b (stored_in file old) (outcome (Err (plain_answer J palette true)) old) → Wrote
       job true e k = limit (leb (length file) 65536) refl (eqb-true (plain_answer J palette true).number 0 e) k
       job false e k = absurd (refused-not (plain_answer J palette true) old k)
 
@@ -132,7 +129,7 @@ module _ (J : Job) (palette : List Float) (old : List ℕ) (n : ℕ) (new : List
   -- are read as the same job, in floats of 32 bits, by a reader that is told its tile size; what isn't filled stays
   pub read_back : T (fits binary32 J.weight) → Singles J.colours → Singles palette → (h : Room) → enough h ≡ true
       → read_def J.size (take n new) h
-      ≡ outcome (reading.Sheet (sizes_of J.size J.S J.C J.T 0 J.weight)) (room (sets h.tiles 0 J.tiles) (sets h.colours 0 J.colours) (sets h.counts 0 J.counts) (sets h.palette 0 palette))
+      ≡ outcome (Ok (sizes_of J.size J.S J.C J.T 0 J.weight)) (room (sets h.tiles 0 J.tiles) (sets h.colours 0 J.colours) (sets h.counts 0 J.counts) (sets h.palette 0 palette))
   unfolding read_def
   read_back Fw Fc Fp h r =
       let E : Edition = edition_of J.size in
@@ -144,14 +141,14 @@ module _ (J : Job) (palette : List Float) (old : List ℕ) (n : ℕ) (new : List
       ap₂ (λ (a b : Bool). read_into E (cond a (cond b (read_sheet E (take n new)) (refused (refusal 3 0))) (refused (refusal 2 0))) h) there r
       ∙ ap (λ (b : List ℕ). read_into E (read_sheet E b) h) front
       ∙ ap (λ (a : Answer Sheet). read_into E a h) (read-written E (sheet_of J palette) g W.small)
-      ∙ ap₂ {C = Outcome Reading Room} (λ K p. outcome (reading.Sheet (sizes_of K.size K.S K.C K.T 0 K.weight))
+      ∙ ap₂ {C = Outcome Reading Room} (λ K p. outcome (Ok (sizes_of K.size K.S K.C K.T 0 K.weight))
       (room (sets h.tiles 0 K.tiles) (sets h.colours 0 K.colours) (sets h.counts 0 K.counts) (sets h.palette 0 p)))
       (job_back E (proper J.size) J P.ready sized Fc Fw palette P.lent Fp) (palette_back E (proper J.size) J P.ready sized Fc Fw palette P.lent Fp)
 
 -- ---- read, then written
 -- the sheet whose job a reading fills in has the bytes that were read, whatever the room
 pub write_back : (size : ℕ) (b : List ℕ) (x : Sheet) → T (are_bytes b) → read_sheet (edition_of size) b ≡ accepted x → (old : List ℕ) → length b ≤ length old
-    → write_def (job_in (edition_of size) x) (floats x.palette) old ≡ outcome (Bytes (length b)) (sets old 0 b)
+    → write_def (job_in (edition_of size) x) (floats x.palette) old ≡ outcome (Ok (length b)) (sets old 0 b)
 unfolding write_def
 write_back size b x h e old room =
     let E : Edition = edition_of size in

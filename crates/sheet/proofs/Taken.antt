@@ -2,7 +2,7 @@
 use mathlib.Core.Path.{◌≡◌, refl, sym, ap, ◌∙◌, subst}
 use Prim.Native.Nat.{ℕ, zero, suc, ◌+◌, ◌*◌, ◌^◌, ◌≤◌, ◌<◌}
 use native.Mathlib.Omega.{arith}
-use mathlib.Core.Bool.{Bool, true, false, ◌&&◌}
+use mathlib.Core.Bool.{Bool, true, false, cond, ◌&&◌, true≢false}
 use mathlib.Core.List.{List, [], ◌∷◌, ◌++◌}
 use lib.Dec.{T, leb, ltb, eqb, leb→le}
 use lib.IntN.{pos}
@@ -21,7 +21,6 @@ use Rattle.format.proofs.Tests.{and_l, and_r}
 use Rattle.job.specs.Checks.{first_not, tile_sized, among, within, weight_fits, tile_test, tile_fits, tiles_fit, count_test, count_fits, part_fits, tile_counts_fit, counts_fit, component_fits, first_bad, components_fit}
 use Rattle.job.specs.Checks.{bound_rules, tables, plain_rules, plain_answer}
 use Rattle.answer.specs.Rules.{Passed}
-use Rattle.job.proofs.First.{first-none}
 use Rattle.answer.proofs.Passing.{passed-number}
 use Rattle.job.specs.Job.{most_tile_colours, first_of, size_of, counts_part, nought, two, sixteen}
 use Rattle.format_pattern.proofs.Patterns.{weighs_is}
@@ -62,6 +61,17 @@ over j nan w = absurd w
 over j (inf s) w = absurd w
 over j (fin false m e) w = le_fin← true 1 (pos j) false m e tt
 over j (fin true m e) w = le_fin← true 1 (pos j) true m e (omega arith)
+
+-- where every test passes, the first that fails is none
+first-none : (f : ℕ → Bool) (n : ℕ) → every f n ≡ true → n ≡ first_not f n
+unfolding first_not every
+first-none f zero h = refl
+first-none f (suc n) h = by (every f n) (f n) h
+  where
+    by : (a b : Bool) → a && b ≡ true → suc n ≡ cond a (cond b (suc n) n) (first_not f n)
+    by true true h = refl
+    by true false h = absurd (true≢false (sym h))
+    by false b h = absurd (true≢false (sym h))
 
 in-bound : (xs : List Float) → Bounded xs 2 → components_fit two xs ≡ true
 unfolding first_bad component_fits within neg

@@ -1,10 +1,9 @@
 -- The public reader and writer: what each answers, and what the lent memory holds then. Definitions only. Assumes nothing.
-use Rattle.std.specs.Prelude.{ℕ, Bool, true, cond, List, T, leb, length, get_or, Float}
+use Rattle.std.specs.Prelude.{ℕ, Bool, true, cond, List, T, leb, length, get_or, Float, Result, Ok, Err}
 use Rattle.std.proofs.lemmas.List.Edits.{sets}
 use Rattle.std.specs.Float.{nan, binary32}
 use Rattle.std.specs.Float.Ieee.{of_bits, fits}
-use Rattle.answer.specs.declared.Refusal.{Refusal}
-use Rattle.answer.specs.Rules.{refusal, nothing}
+use Rattle.answer.specs.Refusals.{Answered, refusal}
 use Rattle.answer.specs.Outcome.{Outcome, outcome, decided}
 use Rattle.format.specs.Format.{Answer, refused, accepted, encode}
 use Rattle.job.specs.declared.Sizes.{Sizes}
@@ -15,10 +14,6 @@ use Rattle.sheet_format.specs.Sheet.{Sheet, edition_of, sheet, read_sheet}
 use Rattle.sheet_format.specs.Lists.{floats, all_counts, all_floats, table_of}
 use Rattle.sheet_pack.specs.Packed.{sheet_of}
 unfoldable pub use Rattle.sheet_room.specs.Room.{roomy}
-use Rattle.sheet.specs.declared.Reading.{Reading}
-use Rattle.sheet.specs.declared.Reading.TheVariants as reading
-use Rattle.sheet.specs.declared.Writing.{Writing}
-use Rattle.sheet.specs.declared.Writing.TheVariants as writing
 
 -- each element is a float of 32 bits, as a slice of such floats has it
 abbrev pub Singles : List Float → Type 0
@@ -42,10 +37,9 @@ pub record Room : Type 0 where
 abbrev pub room : List ℕ → List Float → List ℕ → List Float → Room
 room tiles colours counts palette = record { tiles = tiles; colours = colours; counts = counts; palette = palette }
 
--- the answer's cases: the numbers of a job, or a refusal
-abbrev pub refusal_of_reading : Reading → Refusal
-refusal_of_reading (reading.Refused e) = e
-refusal_of_reading (reading.Sheet z) = nothing
+-- the numbers of a job, or a refusal
+abbrev pub Reading : Type 0
+Reading = Result Sizes Answered
 
 -- there is room for any sheet
 abbrev pub enough : Room → Bool
@@ -63,17 +57,16 @@ filled x h =
     (sets h.palette 0 (floats x.palette))
 
 abbrev pub read_into : Edition → Answer Sheet → Room → Outcome Reading Room
-read_into E (refused e) h = outcome (reading.Refused e) h
-read_into E (accepted x) h = outcome (reading.Sheet (sizes_in E x)) (filled x h)
+read_into E (refused e) h = outcome (Err e) h
+read_into E (accepted x) h = outcome (Ok (sizes_in E x)) (filled x h)
 
 unfoldable pub read_def : ℕ → List ℕ → Room → Outcome Reading Room
 read_def size bytes h = read_into (edition_of size) (found size bytes h) h
 
 -- ---- writing
--- the answer's cases: how many bytes, or a refusal
-abbrev pub refusal_of_writing : Writing → Refusal
-refusal_of_writing (writing.Refused e) = e
-refusal_of_writing (writing.Bytes n) = nothing
+-- how many bytes, or a refusal
+abbrev pub Writing : Type 0
+Writing = Result ℕ Answered
 
 -- the bytes of a job's sheet, in the edition that its tile size names
 abbrev pub file_of : Job → List Float → List ℕ
@@ -83,11 +76,11 @@ file_of J palette = encode (sheet (edition_of J.size)) (sheet_of J palette)
 unfoldable pub stored_in : List ℕ → List ℕ → Outcome Writing (List ℕ)
 stored_in file found =
     cond (leb (length file) 65536)
-    (cond (leb (length file) (length found)) (outcome (writing.Bytes (length file)) (sets found 0 file)) (outcome (writing.Refused (refusal 3 0)) found))
-    (outcome (writing.Refused (refusal 13 0)) found)
+    (cond (leb (length file) (length found)) (outcome (Ok (length file)) (sets found 0 file)) (outcome (Err (refusal 3 0)) found))
+    (outcome (Err (refusal 13 0)) found)
 
 -- the job's own refusals come first; its tile size names the edition
 unfoldable pub write_def : Job → List Float → List ℕ → Outcome Writing (List ℕ)
 write_def J palette found =
     let e = plain_answer J palette true in
-    decided e (stored_in (file_of J palette) found) (writing.Refused e) found
+    decided e (stored_in (file_of J palette) found) (Err e) found

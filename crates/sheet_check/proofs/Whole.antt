@@ -9,8 +9,7 @@ use lib.ListN.{length, drop}
 use borrow.Author.Tests.{le-leb, lt-leb}
 use Rattle.bits.specs.Bits.{bits}
 use Rattle.bits.proofs.Bytes.{length-bits}
-use Rattle.answer.specs.declared.Refusal.{Refusal}
-use Rattle.answer.specs.Rules.{refusal}
+use Rattle.answer.specs.Refusals.{Answered, refusal}
 use Rattle.format.specs.Format.{Res, fault, got, next, Format, both, clear, refused, accepted, ended, read_of}
 use Rattle.format.proofs.Reading.{both-fault, both-plain}
 use Rattle.sheet_format.proofs.Exact.{rest_lawful}
@@ -18,29 +17,34 @@ use Rattle.sheet_format.proofs.Light.{rest_light}
 use Rattle.sheet_format.proofs.Headed.{header-rest, header-sized, header-long}
 use Rattle.sheet_format.specs.declared.Edition.{Edition}
 use Rattle.sheet_format.specs.Sheet.{Header, Colour, Parts, fault_of, whole, header, rest, sheet, read_sheet}
-use Rattle.std.specs.Prelude.{Ok}
+use Rattle.std.specs.Prelude.{Ok, Err}
 use Rattle.sheet_colours.specs.declared.At.{At}
-use Rattle.sheet_check.specs.declared.Checked.{Checked}
-use Rattle.sheet_check.specs.declared.Checked.TheVariants.{Refused, Sound}
+use Rattle.sheet_check.specs.declared.Numbers.{Numbers}
 use Rattle.sheet_colours.specs.Steps.{step_at}
-use Rattle.sheet_check.specs.Steps.{head_of, checked_of}
+use Rattle.sheet_check.specs.Steps.{Checked, sound, head_of, checked_of}
 use Rattle.sheet_colours.proofs.Turns.{read_at}
 
 -- ---- the head's answer, taken apart
-refused-is : (x y : Refusal) → ◌≡◌ {A = Checked} (Refused x) (Refused y) → x ≡ y
+refused-is : (x y : Answered) → ◌≡◌ {A = Checked} (Err x) (Err y) → x ≡ y
 refused-is x y e = cc
 
-pub sound-not : (x : Refusal) (a b t w : ℕ) → ◌≡◌ {A = Checked} (Refused x) (Sound a b t w) → ⊥
+pub sound-not : (x : Answered) (a b t w : ℕ) → ◌≡◌ {A = Checked} (Err x) (sound a b t w) → ⊥
 sound-not x a b t w e = let z : ◌≡◌ {A = ℕ} 0 1 = cc in omega arith
 
-pub sound-is : (a b t w c d u v : ℕ) → ◌≡◌ {A = Checked} (Sound a b t w) (Sound c d u v) → (a ≡ c) × (b ≡ d) × (t ≡ u) × (w ≡ v)
-sound-is a b t w c d u v e = (cc, cc, cc, cc)
+unfoldable numbers : Checked → Numbers
+numbers (Ok h) = h
+numbers (Err e) = record { subs = 0; each = 0; tiles = 0; weight = 0 }
 
-head_fault : (x : Res Header) (z : Refusal) → Refused z ≡ head_of x → (n : ℕ) × (i : ℕ) × (x ≡ fault n i) × (z ≡ fault_of n i)
+pub sound-is : (a b t w c d u v : ℕ) → ◌≡◌ {A = Checked} (sound a b t w) (sound c d u v) → (a ≡ c) × (b ≡ d) × (t ≡ u) × (w ≡ v)
+unfolding numbers
+sound-is a b t w c d u v e =
+    (ap (λ (x : Checked). (numbers x).subs) e, ap (λ (x : Checked). (numbers x).each) e, ap (λ (x : Checked). (numbers x).tiles) e, ap (λ (x : Checked). (numbers x).weight) e)
+
+head_fault : (x : Res Header) (z : Answered) → Err z ≡ head_of x → (n : ℕ) × (i : ℕ) × (x ≡ fault n i) × (z ≡ fault_of n i)
 head_fault (fault n i) z e = (n, i, refl, refused-is z (fault_of n i) e)
 head_fault (got h r) z e = absurd (sound-not z h.0 h.1.0 h.1.1.0 h.1.1.1 e)
 
-pub head_got : (x : Res Header) (a b t w : ℕ) → Sound a b t w ≡ head_of x → (r : List Bool) × (x ≡ got (a, (b, (t, w))) r)
+pub head_got : (x : Res Header) (a b t w : ℕ) → sound a b t w ≡ head_of x → (r : List Bool) × (x ≡ got (a, (b, (t, w))) r)
 head_got (fault n i) a b t w e = absurd (sound-not (fault_of n i) a b t w (sym e))
 head_got (got h r) a b t w e =
     let k = sound-is a b t w h.0 h.1.0 h.1.1.0 h.1.1.1 e in
@@ -53,7 +57,7 @@ module _ (E : Edition) where
     pub long : 86 ≤ 8 * length s
     pub cells : a * b ≤ 256
 
-  pub headed_of : (s : List ℕ) (a b t w : ℕ) → Sound a b t w ≡ head_of ((header E).parse (bits s)) → Headed s a b t w
+  pub headed_of : (s : List ℕ) (a b t w : ℕ) → sound a b t w ≡ head_of ((header E).parse (bits s)) → Headed s a b t w
   headed_of s a b t w e =
       let (r, x) = head_got ((header E).parse (bits s)) a b t w e in
       record {
@@ -75,7 +79,7 @@ module _ (E : Edition) where
 
 -- ---- the whole
 module _ (E : Edition) (s : List ℕ) where
-  pub read-long : 65536 < length s → Refused (refusal 13 0) ≡ checked_of (read_sheet E s)
+  pub read-long : 65536 < length s → Err (refusal 13 0) ≡ checked_of (read_sheet E s)
   read-long h = sym (ap (λ (b : Bool). checked_of (cond b (read_of fault_of (sheet E) s) (refused (refusal 13 0)))) (lt-leb (length s) 65536 h))
 
   module _ (fits : length s ≤ 65536) where
@@ -87,13 +91,13 @@ module _ (E : Edition) (s : List ℕ) where
         ap (λ (b : Bool). checked_of (cond b (read_of fault_of (sheet E) s) (refused (refusal 13 0)))) (le-leb (length s) 65536 fits)
         ∙ ap (λ (o : Res Parts). checked_of (ended fault_of (next o (λ y r. got (whole y) r)))) e
 
-    pub read_head : (z : Refusal) → Refused z ≡ head_of ((header E).parse (bits s)) → Refused z ≡ checked_of (read_sheet E s)
+    pub read_head : (z : Answered) → Err z ≡ head_of ((header E).parse (bits s)) → Err z ≡ checked_of (read_sheet E s)
     read_head z e =
         let (n, i, x, y) = head_fault ((header E).parse (bits s)) z e in
-        ap Refused y ∙ sym (read_is (fault n i) (both-fault (header E) behind (bits s) n i x))
+        ap Err y ∙ sym (read_is (fault n i) (both-fault (header E) behind (bits s) n i x))
 
     module _ (a b t w : ℕ) (r : List Bool) (head : (header E).parse (bits s) ≡ got (a, (b, (t, w))) r) where
-      pub read-rest : (n i : ℕ) → (rest E (3 * (a * b)) t).parse r ≡ fault n i → Refused (fault_of n i) ≡ checked_of (read_sheet E s)
+      pub read-rest : (n i : ℕ) → (rest E (3 * (a * b)) t).parse r ≡ fault n i → Err (fault_of n i) ≡ checked_of (read_sheet E s)
       read-rest n i e = sym (read_is (fault n i) (both-plain (header E) behind (bits s) (a, (b, (t, w))) r (fault n i) refl head e))
 
       pub read_end : (x : List ℕ × List (List Colour)) (q : List Bool) (o : Bool) → (rest E (3 * (a * b)) t).parse r ≡ got x q → (ltb (length q) 8 && clear q) ≡ o

@@ -14,10 +14,10 @@ use Rattle.format.proofs.Lawful.{Lawful}
 use Rattle.format.proofs.Light.{Light, light_fault, light_got}
 use Rattle.sheet_format.specs.declared.Edition.{Edition}
 use Rattle.sheet_format.specs.Sheet.{Colour, entry, colours}
-use Rattle.std.specs.Prelude.{Ok, Err, MatchResult}
+use Rattle.std.specs.Prelude.{Result, Ok, Err, MatchResult}
 use Rattle.sheet_colours.specs.declared.At.{At}
 use Rattle.sheet_colours.specs.declared.Fault.{Fault}
-use Rattle.sheet_colours.specs.Steps.{Step, reached, stopped, step_of, step_at, behind}
+use Rattle.sheet_colours.specs.Steps.{Step, Stopped, numbered, reached, stopped, step_of, step_at, behind}
 
 -- ---- what an answer says of the reading
 apart : (n i q k : ℕ) → stopped n i ≡ reached q k → ⊥
@@ -94,7 +94,7 @@ read_at F L light s p h (Err f) e =
     (is, omega (arith, light_fault F light (drop p (bits s)) f.number f.passed is, length-drop p (bits s), length-bits s))
 
 -- so components before bit p and those read from there are together no more than the bits
-pub few : {A : Type 0} (F : Format A) (s : List ℕ) (p passed : ℕ) (x : Step) → passed ≤ p → p ≤ 8 * length s → length s ≤ 65536 → Read F s p x
+pub few : {A : Type 0} (F : Format A) (s : List ℕ) (p passed : ℕ) (x : Result At Fault) → passed ≤ p → p ≤ 8 * length s → length s ≤ 65536 → Read F s p (numbered x)
     → MatchResult x (λ a. passed + a.passed < 2 ^ 64) (λ f. passed + f.passed < 2 ^ 64)
 few F s p passed (Ok a) h w l r = omega (arith, r.few, r.inside, length-bits s)
 few F s p passed (Err f) h w l r = omega (arith, r.1)
@@ -113,7 +113,7 @@ pub behind-ok : (k : ℕ) (x : Step) (a : At) → Ok a ≡ behind k x → (j : �
 behind-ok k (Ok b) a e = let is = reached-is a.bit a.passed b.bit (k + b.passed) e in (b.passed, is.1, ap (λ (q : ℕ). reached q b.passed) (sym is.0))
 behind-ok k (Err f) a e = absurd (apart f.number (k + f.passed) a.bit a.passed (sym e))
 
-pub behind-err : (k : ℕ) (x : Step) (f : Fault) → Err f ≡ behind k x → (j : ℕ) × (f.passed ≡ k + j) × (x ≡ stopped f.number j)
+pub behind-err : (k : ℕ) (x : Step) (f : Stopped) → Err f ≡ behind k x → (j : ℕ) × (f.passed ≡ k + j) × (x ≡ stopped f.number j)
 behind-err k (Ok a) f e = absurd (apart f.number f.passed a.bit (k + a.passed) e)
 behind-err k (Err b) f e =
     let is = stopped-is f.number f.passed b.number (k + b.passed) e in (b.passed, is.1, ap (λ (m : ℕ). stopped m b.passed) (sym is.0))

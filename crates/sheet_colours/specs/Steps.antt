@@ -4,16 +4,34 @@ use Rattle.bits.specs.Bits.{bits}
 use Rattle.format.specs.Format.{Res, fault, got, Format}
 use Rattle.sheet_colours.specs.declared.At.{At}
 use Rattle.sheet_colours.specs.declared.Fault.{Fault}
+use Rattle.sheet_colours.specs.declared.Kind.{Kind}
+use Rattle.sheet_colours.specs.declared.Kind.TheVariants.{Bytes, Tiles, Counts, Component}
 
--- where the bits that are left begin and the components that were read; or the fault and the components that it stands behind
+-- a fault's number and the components that it stands behind
+pub record Stopped : Type 0 where
+  pub number : ℕ
+  pub passed : ℕ
+
+-- where the bits that are left begin and the components that were read; or the fault
 abbrev pub Step : Type 0
-Step = Result At Fault
+Step = Result At Stopped
 
 abbrev pub reached : ℕ → ℕ → Step
 reached q i = Ok (record { bit = q; passed = i })
 
 abbrev pub stopped : ℕ → ℕ → Step
 stopped n i = Err (record { number = n; passed = i })
+
+-- the number of a fault of each kind, and an answer by it
+abbrev pub number_of : Kind → ℕ
+number_of Bytes = 13
+number_of Tiles = 5
+number_of Counts = 6
+number_of Component = 7
+
+abbrev pub numbered : Result At Fault → Step
+numbered (Ok a) = Ok a
+numbered (Err f) = stopped (number_of f.kind) f.passed
 
 -- of all bits l
 abbrev pub step_of : {A : Type 0} → (A → ℕ) → List Bool → Res A → Step

@@ -6,7 +6,7 @@ ghost use Rattle.std.specs.Prelude.{◌≡◌, ◌+◌, ◌*◌, ◌^◌, ◌≤
 ghost use Rattle.format.specs.Format.{times};
 ghost use Rattle.sheet_format.specs.Sheet.{component, colours};
 ghost use Rattle.sheet_format.specs.Proper.{Proper};
-ghost use Rattle.sheet_colours.specs.Steps.{step_at, behind};
+ghost use Rattle.sheet_colours.specs.Steps.{number_of, numbered, stopped, step_at, behind};
 
 use sheet_format::Edition;
 
@@ -17,17 +17,33 @@ pub struct At {
     pub passed: usize,
 }
 
-// What stops it: the number of a fault, and how many components it stands behind.
+// What may be wrong behind the head: too few bytes, a tile's number of colours, a tile's counts, a component.
+#[derive(Clone, Copy, Debug, PartialEq, Eq)]
+pub enum Kind {
+    Bytes,
+    Tiles,
+    Counts,
+    Component,
+}
+
+// What stops it, and how many components it stands behind.
 #[derive(Clone, Copy)]
 pub struct Fault {
-    pub number: u32,
+    pub kind: Kind,
     pub passed: usize,
+}
+
+// A fault behind so many components.
+pub fn stopped(kind: Kind, passed: usize) -> Result<At, Fault>
+    ensures { numbered result ≡ stopped (number_of kind) passed }
+{
+    Err(Fault { kind, passed })
 }
 
 // The same behind so many components more.
 pub fn behind(passed: usize, step: Result<At, Fault>) -> Result<At, Fault>
     requires { MatchResult step (λ at. passed + at.passed < 2 ^ 64) (λ fault. passed + fault.passed < 2 ^ 64) }
-    ensures { result ≡ behind passed step }
+    ensures { numbered result ≡ behind passed (numbered step) }
 {
     match step {
         Ok(at) => Ok(At {
@@ -35,7 +51,7 @@ pub fn behind(passed: usize, step: Result<At, Fault>) -> Result<At, Fault>
             passed: passed + at.passed,
         }),
         Err(fault) => Err(Fault {
-            number: fault.number,
+            kind: fault.kind,
             passed: passed + fault.passed,
         }),
     }
@@ -44,16 +60,16 @@ pub fn behind(passed: usize, step: Result<At, Fault>) -> Result<At, Fault>
 // n components from bit p.
 pub fn components(s: &[u8], p: usize, n: usize) -> Result<At, Fault>
     requires { (length s.now ≤ 65536) × (p ≤ 8 * length s.now) }
-    ensures { result ≡ step_at (times n component) s.now p }
+    ensures { numbered result ≡ step_at (times n component) s.now p }
 {
     let end = 8 * s.len();
     let mut q = p;
     for passed in 0..n {
         if end - q < 32 {
-            return Err(Fault { number: 13, passed });
+            return stopped(Kind::Bytes, passed);
         }
         if !format_pattern::is_small(bits::get(s, q, 32)) {
-            return Err(Fault { number: 7, passed });
+            return stopped(Kind::Component, passed);
         }
         q += 32;
     }
@@ -63,21 +79,20 @@ pub fn components(s: &[u8], p: usize, n: usize) -> Result<At, Fault>
 // n colours of a tile from bit p, whose counts sum to at most the tile's size.
 pub fn tile_colours(e: Edition, s: &[u8], p: usize, n: usize) -> Result<At, Fault>
     requires { Proper e × (length s.now ≤ 65536) × (p ≤ 8 * length s.now) }
-    ensures { result ≡ step_at (colours e n 0) s.now p }
+    ensures { numbered result ≡ step_at (colours e n 0) s.now p }
 {
     let end = 8 * s.len();
     let mut at = At { bit: p, passed: 0 };
     let mut sum: u32 = 0;
-    for i in 0..n {
-        let passed = at.passed;
+    for _i in 0..n {
         if end - at.bit < e.each {
-            return Err(Fault { number: 13, passed });
+            return stopped(Kind::Bytes, at.passed);
         }
         let c = bits::get(s, at.bit, e.each) + 1;
         if e.size < sum + c {
-            return Err(Fault { number: 6, passed });
+            return stopped(Kind::Counts, at.passed);
         }
-        at = behind(passed, components(s, at.bit + e.each, 3))?;
+        at = behind(at.passed, components(s, at.bit + e.each, 3))?;
         sum += c;
     }
     Ok(at)

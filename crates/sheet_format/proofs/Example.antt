@@ -6,7 +6,7 @@ use mathlib.Core.List.{[], ◌∷◌}
 use Prim.Native.Nat.{ℕ}
 use lib.Dec.{T}
 use lib.ListN.{length, take}
-use Rattle.answer.specs.Rules.{refusal}
+use Rattle.answer.specs.Refusals.{refusal}
 use Rattle.format.specs.Format.{refused, encode}
 use Rattle.sheet_format.specs.Sheet.{Sheet, edition1, edition2, sheet, read_sheet}
 

@@ -1,7 +1,6 @@
 -- The fit sheet as a format, over its edition: what is read and written, in field order. Definitions only. Assumes nothing.
 use Rattle.std.specs.Prelude.{ℕ, zero, suc, ◌+◌, ◌*◌, ◌/◌, true, cond, List, leb, eqb, length}
-use Rattle.answer.specs.declared.Refusal.{Refusal}
-use Rattle.answer.specs.Rules.{refusal}
+use Rattle.answer.specs.Refusals.{Answered, refusal}
 use Rattle.job.specs.Job.{small_tile, large_tile}
 use Rattle.format.specs.Format.{Format, indexed, field, checked, mapped, above, both, literal, none, cons, times, counted, Answer, refused, read_of}
 use Rattle.format_pattern.specs.Pattern.{small, weighs}
@@ -30,7 +29,7 @@ abbrev pub component : Format ℕ
 component = indexed (checked 7 small (field 32))
 
 -- a bad component names the colour that it belongs to: the palette's, then those of the tiles; no other fault names an entry
-abbrev pub fault_of : ℕ → ℕ → Refusal
+abbrev pub fault_of : ℕ → ℕ → Answered
 fault_of number passed = refusal number (cond (eqb number 7) (passed / 3) 0)
 
 -- a colour of a tile: its count, and three components

@@ -5,14 +5,14 @@ ghost use Rattle.std.specs.Prelude.{◌≡◌, ◌+◌, ◌*◌, ◌≤◌, ◌<
 ghost use Rattle.std.proofs.lemmas.List.Edits.{sets};
 ghost use Rattle.bits.specs.Bits.{bits};
 ghost use Rattle.color.specs.Color.{Bounded};
-ghost use Rattle.job.specs.Job.{job_of};
+ghost use Rattle.job.specs.Job.{job_in};
 ghost use Rattle.job.specs.Gives.{Ready};
 ghost use Rattle.sheet_format.specs.Sheet.{head_size, entry_size, tiles_size};
 ghost use Rattle.sheet_format.specs.Proper.{Proper};
 ghost use Rattle.sheet_format.specs.Lists.{patterns};
 ghost use Rattle.sheet_pack.specs.Packed.{words, colours_bits, tile_bits, tiles_bits, head_bits, colours_of, tiles_from, Counted};
 
-use job::Sizes;
+use job::Job;
 use sheet_format::Edition;
 
 // Components as fields from bit p.
@@ -51,22 +51,14 @@ pub fn pack_tile(e: Edition, dst: &mut [u8], p: usize, counts: &[u32], colours: 
 }
 
 // The tiles of a job from bit p.
-pub fn pack_tiles(
-    e: Edition,
-    dst: &mut [u8],
-    p: usize,
-    z: Sizes,
-    tiles: &[u32],
-    colours: &[f32],
-    counts: &[u32],
-)
-    requires { Proper e × (p + tiles_size e z.t (length counts.now) ≤ 8 * length dst.old) × (p + tiles_size e z.t (length counts.now) ≤ 524288) × Ready (job_of z tiles.now colours.now counts.now) }
-    ensures { bits dst.new ≡ sets (bits dst.old) p (tiles_bits e (tiles_from tiles.now colours.now counts.now 0 z.t)) }
+pub fn pack_tiles(e: Edition, dst: &mut [u8], p: usize, job: &Job)
+    requires { Proper e × (p + tiles_size e job.now.sizes.t (length job.now.counts.now) ≤ 8 * length dst.old) × (p + tiles_size e job.now.sizes.t (length job.now.counts.now) ≤ 524288) × Ready (job_in job.now) }
+    ensures { bits dst.new ≡ sets (bits dst.old) p (tiles_bits e (tiles_from job.now.tiles.now job.now.colours.now job.now.counts.now 0 job.now.sizes.t)) }
 {
     let mut q = p;
-    for i in 0..z.t {
-        let part = job::counts_part(tiles, counts, i);
-        pack_tile(e, dst, q, part, job::tile_part(tiles, colours, i));
+    for i in 0..job.sizes.t {
+        let part = job.counts_part(i);
+        pack_tile(e, dst, q, part, job.tile_part(i));
         q += e.many + (e.each + sheet_format::COLOUR_BITS) * part.len();
     }
 }

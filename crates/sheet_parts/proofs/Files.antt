@@ -7,7 +7,7 @@ use mathlib.Core.List.{List}
 use lib.ListN.{length}
 use lib.Seq.{sets}
 use lib.Ieee.{Float}
-use Rattle.answer.specs.declared.Refusal.{Refusal}
+use Rattle.answer.specs.Refusals.{Answered}
 use Rattle.answer.specs.Outcome.{Outcome, outcome}
 use Rattle.answer.proofs.Outcomes.{decided-done}
 use Rattle.job.specs.Job.{Job}
@@ -46,7 +46,7 @@ module _ (J : Job) (p : List Float) (out : List ℕ) (W : Writable J p) (room : 
     answer : r ≡ Bytes (length file)
     answer = ap (λ (o : Outcome Writing (List ℕ)). o.answer) (e ∙ by_writer)
 
-    pub never : (y : Refusal) → r ≡ Refused y → ⊥
+    pub never : (y : Answered) → r ≡ Refused y → ⊥
     never y f = let g = answer in let z : ◌≡◌ {A = ℕ} 0 1 = cc in omega arith
 
     module _ (n : ℕ) (f : r ≡ Bytes n) where

@@ -10,8 +10,7 @@ use lib.ListN.{length, take}
 use lib.Seq.{length-sets}
 use lib.Ieee.{Float}
 use borrow.Author.Tests.{le-leb}
-use Rattle.answer.specs.declared.Refusal.{Refusal}
-use Rattle.answer.specs.Rules.{refusal}
+use Rattle.answer.specs.Refusals.{Answered, refusal}
 use Rattle.answer.specs.Outcome.{Outcome, outcome}
 use Rattle.format.specs.Format.{Answer, refused, accepted}
 use Rattle.job.specs.declared.Sizes.{Sizes}
@@ -134,13 +133,13 @@ module _ (size : ℕ) where
       unfolding read_def
       by_sheet = e ∙ ap₂ (λ (s t : Bool). read_into E (cond s (cond t (read_sheet E b) (refused (refusal 3 0))) (refused (refusal 2 0))) h) there roomed
 
-      apart : (y : Refusal) (z : Sizes) → ◌≡◌ {A = Reading} (reading.Refused y) (reading.Sheet z) → ⊥
+      apart : (y : Answered) (z : Sizes) → ◌≡◌ {A = Reading} (reading.Refused y) (reading.Sheet z) → ⊥
       apart y z k = let f : ◌≡◌ {A = ℕ} 0 1 = cc in omega arith
 
-      pub refused_says : (y : Refusal) → r ≡ reading.Refused y → read_sheet E b ≡ refused y
+      pub refused_says : (y : Answered) → r ≡ reading.Refused y → read_sheet E b ≡ refused y
       refused_says y f = by (read_sheet E b) refl by_sheet
         where
-          same : (y z : Refusal) → ◌≡◌ {A = Reading} (reading.Refused y) (reading.Refused z) → y ≡ z
+          same : (y z : Answered) → ◌≡◌ {A = Reading} (reading.Refused y) (reading.Refused z) → y ≡ z
           same y z k = cc
 
           by : (x : Answer Sheet) → read_sheet E b ≡ x → outcome r after ≡ read_into E x h → read_sheet E b ≡ refused y

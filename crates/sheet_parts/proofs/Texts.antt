@@ -11,7 +11,7 @@ use lib.Seq.{sets, length-take-le}
 use lib.Ieee.{Float}
 use borrow.Author.Tests.{le-leb, lt-leb}
 use Rattle.io.specs.Counts.{IsPrefixLen}
-use Rattle.answer.specs.declared.Refusal.{Refusal}
+use Rattle.answer.specs.Refusals.{Answered}
 use Rattle.answer.specs.Outcome.{Outcome, outcome}
 use Rattle.format.specs.Format.{Answer}
 use Rattle.job.specs.declared.Sizes.{Sizes}
@@ -38,7 +38,7 @@ module _ (b : List ℕ) (size : ℕ) (asked : size ≡ size_in b) (h : Room) (L 
     by_reading a k s =
         subst (λ (n : ℕ). Stored found out 0 m (text_at f n b)) asked (subst (λ (x : Answer Sheet). Stored found out 0 m (sheet_text f (edition_of size) x)) (sym k) s)
 
-    pub refused-text : (y : Refusal) → r ≡ reading.Refused y → Stored found out 0 m (refused_line y.number) → Stored found out 0 m (text_for f b)
+    pub refused-text : (y : Answered) → r ≡ reading.Refused y → Stored found out 0 m (refused_line y.number) → Stored found out 0 m (text_for f b)
     refused-text y g s = by_reading _ (refused_says size b h L there r after e y g) s
 
     pub front_text : T (are_bytes b) → (z : Sizes) → r ≡ reading.Sheet z

@@ -3,12 +3,12 @@
 #![tactic(auto)]
 
 ghost use Rattle.std.specs.Prelude.{◌≡◌, ℕ, ◌*◌, ◌≤◌, length, get_or};
-ghost use Rattle.job.specs.Job.{job_of};
+ghost use Rattle.job.specs.Job.{job_in};
 ghost use Rattle.sheet.specs.Sheets.{file_of};
 ghost use Rattle.fit_lines.specs.Lines.{Stored};
 ghost use Rattle.sheet_parts.specs.Front.{Writable, colours_to};
 
-use job::Sizes;
+use job::Job;
 
 // Room for any sheet's tile table, colours, counts and palette. The contracts give only the lengths.
 pub fn tiles_room() -> [u32; 2048]
@@ -53,17 +53,14 @@ pub fn colours_to(tiles: &[u32], t: usize) -> usize
 
 // The sheet of a job and a palette that can be written: the writer refuses none.
 pub fn put_sheet(
-    z: Sizes,
-    tiles: &[u32],
-    colours: &[f32],
-    counts: &[u32],
+    job: &Job,
     palette: &[f32],
     out: &mut [u8],
 ) -> usize
-    requires { Writable (job_of z tiles.now colours.now counts.now) palette.now × (65536 ≤ length out.old) }
-    ensures { Stored out.old out.new 0 result (file_of (job_of z tiles.now colours.now counts.now) palette.now) × (result ≤ 65536) }
+    requires { Writable (job_in job.now) palette.now × (65536 ≤ length out.old) }
+    ensures { Stored out.old out.new 0 result (file_of (job_in job.now) palette.now) × (result ≤ 65536) }
 {
-    match sheet::write(z, tiles, colours, counts, palette, out) {
+    match sheet::write(job, palette, out) {
         sheet::Writing::Refused(_) => 0,
         sheet::Writing::Bytes(n) => n,
     }

@@ -5,15 +5,14 @@ use mathlib.Core.Bool.{Bool, true, false, cond}
 use native.Mathlib.Omega.{arith}
 use lib.Dec.{leb}
 use borrow.Author.Tests.{leb-true, leb-false}
-use Rattle.answer.specs.declared.Refusal.{Refusal}
-use Rattle.answer.specs.Rules.{refusal, nothing}
+use Rattle.answer.specs.Refusals.{Answered, refusal, nothing}
 use Rattle.sheet_room.specs.Room.{place_for}
 
-module _ (n lent : ℕ) (r : Refusal) (e : r ≡ place_for n lent) where
+module _ (n lent : ℕ) (r : Answered) (e : r ≡ place_for n lent) where
   -- a file with a place
   pub placed : r.number ≡ 0 → (n ≤ 65536) × (n ≤ lent)
   unfolding place_for
-  placed z = by (leb n 65536) (leb n lent) refl refl (sym (ap (λ (x : Refusal). x.number) e) ∙ z)
+  placed z = by (leb n 65536) (leb n lent) refl refl (sym (ap (λ (x : Answered). x.number) e) ∙ z)
     where
       by : (a b : Bool) → leb n 65536 ≡ a → leb n lent ≡ b → (cond a (cond b nothing (refusal 3 0)) (refusal 13 0)).number ≡ 0 → (n ≤ 65536) × (n ≤ lent)
       by true true f g x = (leb-true n 65536 f, leb-true n lent g)
@@ -21,11 +20,11 @@ module _ (n lent : ℕ) (r : Refusal) (e : r ≡ place_for n lent) where
       by false b f g x = absurd (omega arith)
 
   -- one without: what is so of 13 and of 3 is so of the answer
-  pub unplaced : (P : Refusal → Type 0) → (r.number ≡ 0 → ⊥) → (65536 < n → P (refusal 13 0)) → (n ≤ 65536 → lent < n → P (refusal 3 0)) → P r
+  pub unplaced : (P : Answered → Type 0) → (r.number ≡ 0 → ⊥) → (65536 < n → P (refusal 13 0)) → (n ≤ 65536 → lent < n → P (refusal 3 0)) → P r
   unfolding place_for
   unplaced P h large full = by (leb n 65536) (leb n lent) refl refl e
     where
       by : (a b : Bool) → leb n 65536 ≡ a → leb n lent ≡ b → r ≡ cond a (cond b nothing (refusal 3 0)) (refusal 13 0) → P r
-      by true true f g x = absurd (h (ap (λ (y : Refusal). y.number) x))
+      by true true f g x = absurd (h (ap (λ (y : Answered). y.number) x))
       by true false f g x = rw x (full (leb-true n 65536 f) (leb-false n lent g))
       by false b f g x = rw x (large (leb-false n 65536 f))

@@ -9,7 +9,7 @@ use lib.ListN.{length}
 use lib.Ieee.{Float}
 use borrow.Author.Tests.{eq-eqb}
 use Rattle.job.specs.Job.{two}
-use Rattle.answer.specs.declared.Refusal.{Refusal}
+use Rattle.answer.specs.Refusals.{Answered}
 use Rattle.answer.specs.Rules.{Passed}
 use Rattle.answer.specs.Outcome.{Outcome}
 use Rattle.answer.proofs.Outcomes.{decided-refused}
@@ -42,7 +42,7 @@ module _ (K : Course) (P : Passed (job_rules K true)) where
 
   started : (m : Memory) → Roomy K m → Holds (start_call K m 0).after (start K 0 m.hints)
   started m r = record {
-    is = ap (λ (x : Outcome Refusal Memory). x.after) (start-done K m 0 (start_closed K m P r));
+    is = ap (λ (x : Outcome Answered Memory). x.after) (start-done K m 0 (start_closed K m P r));
     fit = start-fit K true D 0 m.hints r.hints;
   }
 
@@ -78,7 +78,7 @@ module _ (K : Course) (P : Passed (job_rules K true)) where
 
       left : stop_call K (memory_of s) ≡ memory_of (hand_in K (cut s.palette) s)
       left =
-          ap (λ (x : Outcome Refusal Memory). x.after) (hand_in-done K (memory_of s) (cut (memory_of s).palette) taken)
+          ap (λ (x : Outcome Answered Memory). x.after) (hand_in-done K (memory_of s) (cut (memory_of s).palette) taken)
           ∙ ap (λ (z : State). memory_of (hand_in K (cut (memory_of s).palette) z)) (held-state s)
           ∙ ap (λ (x : List Float). memory_of (hand_in K (cut x) s)) same
 

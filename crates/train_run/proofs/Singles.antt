@@ -19,6 +19,7 @@ use Rattle.quantizer.specs.Growing.{grown_by, grown}
 use Rattle.quantizer.specs.Replacing.{Shares, shares_of, swap_in, colour_swapped, sub_swapped, recoloured, colours_replaced, sub_replaced, replaced}
 use Rattle.quantizer.specs.Refining.{Gather, mean_step, means_of, refined}
 use Rattle.quantizer.specs.Drawing.{moved}
+use Rattle.quantizer.proofs.Swaps.{colour_either, sub_either}
 use Rattle.run_stages.specs.State.{State, at, painted}
 use Rattle.run_stages.specs.Stages.{noticed, open_seeding, open_growing, open_replacing, error_of, keep, judged, enter_replacing, enter_growing, enter_reducing}
 use Rattle.run_stages.specs.Stages.{close_seeding, close_growing, close_replacing, finish_round, due, settle, draw, draw_with, step, going, fresh, start, refined_once, hand_in}
@@ -86,17 +87,17 @@ module _ (J : Job) where
   grown_singles s have h = grown_by_singles s have J.S h
 
   recoloured_singles : (s : List Float) (A : Shares) (i : ℕ) → Singles s → Singles (recoloured J s A i)
-  unfolding recoloured colour_swapped
+  unfolding recoloured
   recoloured_singles s A zero h = h
   recoloured_singles s A (suc i) h =
       let before = recoloured_singles s A i h in
-      both Singles (swap_in A (i * J.C) J.C).gives (singles_colour_copied (recoloured J s A i) J.C i _ _ before) before
+      colour_either Singles (recoloured J s A i) before J.C i (swap_in A (i * J.C) J.C) (λ o e. singles_colour_copied (recoloured J s A i) J.C i o.from o.to before)
 
   replaced_singles : (s : List Float) → Singles s → Singles (replaced J s)
-  unfolding replaced sub_replaced sub_swapped colours_replaced
+  unfolding replaced sub_replaced colours_replaced
   replaced_singles s h =
       let colours = both Singles (ltb 1 J.C) (recoloured_singles s _ J.S h) h in
-      both Singles (ltb 1 J.S) (both Singles (swap_in (shares_of J s J.T) 0 J.S).gives (singles_sub_copied (colours_replaced J s) J.C J.C _ _ colours) colours) colours
+      both Singles (ltb 1 J.S) (sub_either Singles _ colours J.C (swap_in (shares_of J s J.T) 0 J.S) (λ o e. singles_sub_copied (colours_replaced J s) J.C J.C o.from o.to colours)) colours
 
   means_singles : (s : List Float) (A : Gather) (n : ℕ) → Singles s → Singles (means_of s A n)
   unfolding means_of mean_step

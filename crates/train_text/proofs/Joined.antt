@@ -9,7 +9,7 @@ use mir.Syntax.{w64}
 use mir.Val.{Fits}
 use lib.ListN.{length}
 use lib.Ieee.{Float}
-use Rattle.answer.specs.declared.Refusal.{Refusal}
+use Rattle.answer.specs.Refusals.{Answered}
 use Rattle.answer.specs.Rules.{Passed}
 use Rattle.answer.specs.Outcome.{Outcome, outcome}
 use Rattle.quantizer.specs.Course.{Course}
@@ -24,7 +24,7 @@ module _ (K : Course) where
   left_by : {A : Type 0} (o : Outcome A Memory) (r : A) (m : Memory) → outcome r m ≡ o → m ≡ o.after
   left_by {A} o r m e = ap (λ (x : Outcome A Memory). x.after) e
 
-  turn-joined : (r : Advanced) (q : Refusal) (m₀ m₁ m₂ : Memory) (reduced : List Float) → outcome r m₁ ≡ advance_call K m₀ all → reduced ≡ cut m₁.palette
+  turn-joined : (r : Advanced) (q : Answered) (m₀ m₁ m₂ : Memory) (reduced : List Float) → outcome r m₁ ≡ advance_call K m₀ all → reduced ≡ cut m₁.palette
       → outcome q m₂ ≡ hand_in_call K m₁ reduced → m₂ ≡ turn_call K m₀
   unfolding turn_call
   turn-joined r q m₀ m₁ m₂ reduced e c f =
@@ -45,7 +45,7 @@ module _ (K : Course) where
   none_turned m = record { few = omega arith; is = refl; order = refl; hints = refl; palette = refl; least = refl; words = refl }
 
   module _ (i : ℕ) (m₀ m₁ : Memory) (T : Turned i m₀ m₁) (l : i < 3) where
-    pub one_more : (r : Advanced) (q : Refusal) (m₂ m₃ : Memory) (reduced : List Float) → outcome r m₂ ≡ advance_call K m₁ all → reduced ≡ cut m₂.palette
+    pub one_more : (r : Advanced) (q : Answered) (m₂ m₃ : Memory) (reduced : List Float) → outcome r m₂ ≡ advance_call K m₁ all → reduced ≡ cut m₂.palette
         → outcome q m₃ ≡ hand_in_call K m₂ reduced
         → length m₃.order ≡ length m₁.order
         → length m₂.hints ≡ length m₁.hints → length m₃.hints ≡ length m₂.hints
@@ -76,6 +76,6 @@ module _ (K : Course) where
       t.is ∙ ap (λ (k : ℕ). turn_calls K k m₀) three
 
   -- the whole run
-  pub run-joined : (a : Refusal) (m₀ m₁ m₂ : Memory) → Passed (job_rules K true) → Roomy K m₀ → outcome a m₁ ≡ start_call K m₀ 0 → m₂ ≡ turn_calls K 3 m₁
+  pub run-joined : (a : Answered) (m₀ m₁ m₂ : Memory) → Passed (job_rules K true) → Roomy K m₀ → outcome a m₁ ≡ start_call K m₀ 0 → m₂ ≡ turn_calls K 3 m₁
       → m₂.palette ≡ (trained K m₀.hints).palette
   run-joined a m₀ m₁ m₂ P R e f = ap (λ (m : Memory). m.palette) (f ∙ ap (turn_calls K 3) (left_by _ a m₁ e)) ∙ calls_train K P m₀ R

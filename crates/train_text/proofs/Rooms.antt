@@ -9,7 +9,7 @@ use lib.Seq.{length-take-le}
 use lib.Ieee.{Float}
 use Rattle.job.specs.Gives.{Sampled}
 use Rattle.quantizer.specs.Course.{Course}
-use Rattle.answer.specs.declared.Refusal.{Refusal}
+use Rattle.answer.specs.Refusals.{Answered}
 use Rattle.answer.specs.Outcome.{outcome}
 use Rattle.run_stages.specs.Calls.{Memory, memory, record_words, start_call}
 use Rattle.run_calls.specs.Accepted.{Roomy}
@@ -51,6 +51,6 @@ module _ (K : Course) (p : List Float) (D : Drawable K p) where
     }
 
     -- a run in them gives the trained palette
-    pub trained-there : (a : Refusal) (m₁ m₂ : Memory) → outcome a m₁ ≡ start_call K lent 0 → m₂ ≡ turn_calls K 3 m₁ → m₂.palette ≡ trained_palette K
+    pub trained-there : (a : Answered) (m₁ m₂ : Memory) → outcome a m₁ ≡ start_call K lent 0 → m₂ ≡ turn_calls K 3 m₁ → m₂.palette ≡ trained_palette K
     unfolding trained_palette
     trained-there a m₁ m₂ e f = run-joined K a lent m₁ m₂ D.passed roomy e f ∙ ap (λ (x : List ℕ). (trained K x).palette) (no_hint hints K.job.T (tiles_fit_lem (length hints) h) z)

@@ -1,7 +1,7 @@
 // What `train` writes for a sheet: a refusal's line, or the sheet with the palette that its tiles train. Assumes nothing.
 #![tactic(auto)]
 
-use job::Sizes;
+use job::Job;
 
 mod run;
 mod trained;
@@ -19,24 +19,21 @@ const MOST_BYTES: usize = 65536;
 
 // What is written for the job in the first places of these slices.
 fn put_job(
-    z: Sizes,
-    tiles: &[u32],
-    colours: &[f32],
-    counts: &[u32],
+    job: &Job,
     palette: &mut [f32],
     out: &mut [u8],
 ) -> usize
-    requires { Front z tiles.now colours.now counts.now palette.old × (65536 ≤ length out.old) }
+    requires { Front z job.now.tiles.now job.now.colours.now job.now.counts.now palette.old × (65536 ≤ length out.old) }
     ensures { Stored out.old out.new 0 result
-        (job_text (front_job z tiles.now colours.now counts.now)) × (result ≤ 65536) }
+        (job_text (front_job z job.now.tiles.now job.now.colours.now job.now.counts.now)) × (result ≤ 65536) }
 {
-    let n = sheet_parts::colours_to(tiles, z.t);
+    let n = sheet_parts::colours_to(job.tiles, job.sizes.t);
     trained::put_trained(
-        z,
-        &tiles[..2 * z.t],
-        &colours[..3 * n],
-        &counts[..n],
-        &mut palette[..3 * (z.s * z.c)],
+        job.sizes,
+        &job.tiles[..2 * job.sizes.t],
+        &job.colours[..3 * n],
+        &job.counts[..n],
+        &mut palette[..3 * (job.sizes.s * job.sizes.c)],
         out,
     )
 }

@@ -1,12 +1,11 @@
 // A whole run in local memory: started from seed 0, advanced to each of its three stops, and there handed its own colours, cut to
 // -2..2. Assumes nothing.
 ghost use Rattle.std.specs.Prelude.{◌≡◌, ◌≤◌, length};
-ghost use Rattle.quantizer.specs.Course.{course_of};
+ghost use Rattle.quantizer.specs.Course.{course_in};
 ghost use Rattle.run_stages.specs.Calls.{memory};
 ghost use Rattle.train_run.specs.Training.{turn_calls};
 ghost use Rattle.train_text.specs.Trained.{trained_palette, Drawable};
 
-use job::Sizes;
 
 const SEED: u64 = 0;
 
@@ -18,11 +17,7 @@ const STOPS: u64 = 3;
 // A turn for each stop: all draws up to the stop, then the working colours are cut and handed in. At a stop the advance is refused and
 // changes nothing.
 fn turns(
-    z: Sizes,
-    tiles: &[u32],
-    colours: &[f32],
-    counts: &[u32],
-    samples: &[u32],
+    course: &Course,
     order: &mut [u32],
     hints: &mut [u32],
     palette: &mut [f32],
@@ -31,22 +26,18 @@ fn turns(
 )
     requires { length palette.old ≤ 768 }
     ensures { memory order.new hints.new palette.new least.new words.new
-        ≡ turn_calls (course_of z tiles.now colours.now counts.now samples.now) 3
+        ≡ turn_calls (course_in course.now) 3
         (memory order.old hints.old palette.old least.old words.old) }
 {
     let mut passed = 0;
     while passed < STOPS {
         run_advance::advance(
-            z, tiles, colours, counts, samples, order, hints, palette, least, words, ALL,
+            course, order, hints, palette, least, words, ALL,
         );
         let size = palette.len();
         let reduced = train_parts::cut(palette);
         run_hand_in::hand_in(
-            z,
-            tiles,
-            colours,
-            counts,
-            samples,
+            course,
             order,
             hints,
             palette,
@@ -60,30 +51,26 @@ fn turns(
 
 // The palette becomes the trained one. The rest of the run's memory is local.
 pub fn train_palette(
-    z: Sizes,
-    tiles: &[u32],
-    colours: &[f32],
-    counts: &[u32],
-    samples: &[u32],
+    course: &Course,
     palette: &mut [f32],
 )
-    requires { Drawable (course_of z tiles.now colours.now counts.now samples.now) palette.old }
+    requires { Drawable (course_in course.now) palette.old }
     ensures { palette.new
-        ≡ trained_palette (course_of z tiles.now colours.now counts.now samples.now) }
+        ≡ trained_palette (course_in course.now) }
 {
     let mut orders = train_parts::order_room();
     let mut firsts = sheet_parts::no_hints();
     let mut errors = sheet_parts::palette_room();
     let mut record = [0u64; 7];
-    let size = 3 * (z.s * z.c);
+    let size = 3 * (course.job.sizes.s * course.job.sizes.c);
     let order = &mut orders[..z.n];
     let hints = &mut firsts[..z.t];
     let least = &mut errors[..size];
     let words = &mut record[..];
     run_start::start(
-        z, SEED, tiles, colours, counts, samples, order, hints, palette, least, words,
+        course.job.sizes, SEED, course.job.tiles, course.job.colours, course.job.counts, course.samples, order, hints, palette, least, words,
     );
     turns(
-        z, tiles, colours, counts, samples, order, hints, palette, least, words,
+        course, order, hints, palette, least, words,
     );
 }

@@ -1,7 +1,7 @@
 -- `put_fit` meets its contract: the head, the tiles, the loads and the blank ones, one after another. Assumes nothing.
 use native.Mathlib.Omega.{arith}
 use lib.ListN.{get_or}
-use Rattle.job.specs.Job.{Job, job_of}
+use Rattle.job.specs.Job.{Job, job_in}
 use Rattle.fit_lines.proofs.Lengths.{head_most}
 use Rattle.fit_tiles.proofs.Lengths.{tile_lines-most, loads-most}
 use Rattle.fit_tiles.proofs.Tiles.{zero-at, all_stored}
@@ -14,7 +14,7 @@ put_tiles-b-requires c =
       c.requires.1,
       c.requires.0.ready.sizes.few,
       zero-at 16,
-      omega (arith, c.put_head-a.ensures.place, head_most a.z.t a.z.s, c.requires.0.ready.sizes.tiles, c.put_head-a.auto.out),
+      omega (arith, c.put_head-a.ensures.place, head_most a.job.now.sizes.t a.job.now.sizes.s, c.requires.0.ready.sizes.tiles, c.put_head-a.auto.out),
     )
 
 pub put_loads-c-requires : goal.put_loads-c-requires
@@ -25,9 +25,9 @@ put_loads-c-requires c =
       omega (
         arith,
         c.put_head-a.ensures.place,
-        head_most a.z.t a.z.s,
+        head_most a.job.now.sizes.t a.job.now.sizes.s,
         c.put_tiles-b.ensures.0.place,
-        tile_lines-most (job_of a.z a.tiles.now a.colours.now a.counts.now) a.palette.now a.z.t,
+        tile_lines-most (job_in a.job.now) a.palette.now a.job.now.sizes.t,
         c.requires.0.ready.sizes.tiles,
         c.requires.0.ready.sizes.few,
         c.put_head-a.auto.out,
@@ -44,11 +44,11 @@ put_blank-requires c =
     omega (
       arith,
       c.put_head-a.ensures.place,
-      head_most a.z.t a.z.s,
+      head_most a.job.now.sizes.t a.job.now.sizes.s,
       c.put_tiles-b.ensures.0.place,
-      tile_lines-most (job_of a.z a.tiles.now a.colours.now a.counts.now) a.palette.now a.z.t,
+      tile_lines-most (job_in a.job.now) a.palette.now a.job.now.sizes.t,
       c.put_loads-c.ensures.place,
-      loads-most (λ k. get_or c.put_tiles-b.new.loads k 0) a.z.s,
+      loads-most (λ k. get_or c.put_tiles-b.new.loads k 0) a.job.now.sizes.s,
       c.requires.0.ready.sizes.tiles,
       c.requires.0.ready.sizes.few,
       c.put_head-a.auto.out,
@@ -59,7 +59,7 @@ put_blank-requires c =
 pub returns : goal.returns
 returns c =
     let a = c.args in
-    let J : Job = job_of a.z a.tiles.now a.colours.now a.counts.now in
+    let J : Job = job_in a.job.now in
     all_stored J a.palette.now c.put_tiles-b.new.loads c.count_blanks.result _ _ _ _ _
     c.put_head-a.result c.put_tiles-b.result c.put_loads-c.result c.put_blank.result
     c.put_head-a.ensures c.put_tiles-b.ensures.0 c.put_loads-c.ensures c.put_blank.ensures

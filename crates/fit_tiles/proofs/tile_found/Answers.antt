@@ -1,7 +1,7 @@
 -- `tile_found` meets its contract: an empty tile answers by itself, any other by its best two. Assumes nothing.
 use mathlib.Core.Path.{ap}
 use native.Mathlib.Omega.{arith}
-use Rattle.job.specs.Job.{job_of}
+use Rattle.job.specs.Job.{job_in}
 use Rattle.stats.specs.declared.Two.{Two}
 use Rattle.palette_tile.proofs.Present.{pair-below, next-below}
 use Rattle.fit_tiles.proofs.Tiles.{empty_found, full-found, dist-real}
@@ -10,7 +10,7 @@ use Rattle.fit_tiles.proofs.tile_found.Goals as goal
 pub returns-then-is_empty : goal.returns-then-is_empty
 returns-then-is_empty c =
     let a = c.args in
-    empty_found (job_of a.z a.tiles.now a.colours.now a.counts.now) a.palette.now a.i c.is_empty.result
+    empty_found (job_in a.job.now) a.palette.now a.i c.is_empty.result
     c.is_empty.ensures c.if-is_empty.true
 
 pub tile_two-best-requires : goal.tile_two-best-requires
@@ -22,15 +22,15 @@ overflow_cast-sub c =
     omega (
       arith,
       ap (λ (b : Two). b.index) c.tile_two-best.ensures.0,
-      pair-below (job_of a.z a.tiles.now a.colours.now a.counts.now)
-          a.palette.now a.z.s a.z.c c.requires.shown a.i,
+      pair-below (job_in a.job.now)
+          a.palette.now a.job.now.sizes.s a.job.now.sizes.c c.requires.shown a.i,
       c.requires.shown.ready.sizes.few,
     )
 
 pub float_to_bits-dist : goal.float_to_bits-dist
 float_to_bits-dist c =
     let a = c.args in
-    dist-real (job_of a.z a.tiles.now a.colours.now a.counts.now) a.palette.now c.requires.shown a.i c.requires.tile
+    dist-real (job_in a.job.now) a.palette.now c.requires.shown a.i c.requires.tile
     _ c.tile_two-best.ensures.0
 
 pub overflow_cast-next : goal.overflow_cast-next
@@ -39,13 +39,13 @@ overflow_cast-next c =
     omega (
       arith,
       ap (λ (b : Two). b.next) c.tile_two-best.ensures.0,
-      next-below (job_of a.z a.tiles.now a.colours.now a.counts.now)
-          a.palette.now a.z.s a.z.c c.requires.shown a.i,
+      next-below (job_in a.job.now)
+          a.palette.now a.job.now.sizes.s a.job.now.sizes.c c.requires.shown a.i,
       c.requires.shown.ready.sizes.few,
     )
 
 pub returns : goal.returns
 returns c =
     let a = c.args in
-    full-found (job_of a.z a.tiles.now a.colours.now a.counts.now) a.palette.now a.i c.is_empty.result
+    full-found (job_in a.job.now) a.palette.now a.i c.is_empty.result
     c.tile_two-best.result c.is_empty.ensures c.if-is_empty.false c.tile_two-best.ensures.0

@@ -1,7 +1,6 @@
 -- `palette_mse_sum::mse` meets its contract. The loop's invariant: the sum and the hints are those after the first i tiles. Assumes nothing.
 use mathlib.Core.Path.{refl}
 use Rattle.palette_tile.proofs.Walks.{walked_start, walked_more, walked_end}
-use Rattle.palette_tile.proofs.Hints.{walked_hints}
 use Rattle.palette_mse.proofs.Turns.{sum-turn, sum_meaned, sum_end}
 use Rattle.palette_mse_sum.proofs.mse.Goals as goal
 
@@ -23,9 +22,6 @@ loop-i-preserved c = (
 
 pub mean-requires : goal.mean-requires
 mean-requires c = sum_meaned _ _ _ _ c.requires.0 c.loop-i.invariant.0
-
-pub shape_of-hints : goal.shape_of-hints
-shape_of-hints c = walked_hints _ _ _ _ c.loop-i.invariant.1
 
 pub returns : goal.returns
 returns c = (sum_end _ _ _ _ c.requires.0 c.loop-i.invariant.0 c.loop-i-test.false _ c.mean.ensures, walked_end c.loop-i.invariant.1 c.loop-i-test.false)

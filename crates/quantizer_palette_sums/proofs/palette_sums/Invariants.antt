@@ -1,12 +1,8 @@
 -- `quantizer_palette_sums::palette_sums` meets its contract. The loop's invariant: the sums and the hints are those after the first i tiles. Assumes nothing.
-use Prim.Native.Nat.{◌-◌}
-use Rattle.job.specs.Job.{job_of}
+use Rattle.job.specs.Job.{job_in}
 use Rattle.quantizer.specs.Replacing.{shares}
 use Rattle.quantizer_palette_sums.proofs.Pairs.{Pairing}
 use Rattle.quantizer_palette_sums.proofs.palette_sums.Given as goal
 
 abbrev pub invariant-loop-i : goal.invariant-loop-i
-invariant-loop-i l = Pairing (job_of l.z l.tiles l.colours l.counts) l.pal l.initial.hints l.hints (shares l.total l.removed) l.i
-
-abbrev pub decreases-loop-i : goal.decreases-loop-i
-decreases-loop-i l = l.z.t - l.i
+invariant-loop-i l = Pairing (job_in l.job) l.pal l.initial.hints l.hints (shares l.total l.removed) l.i

@@ -1,6 +1,5 @@
 -- `quantizer_recolor::replace_colors` meets its contract. The loop's invariant: a colour is replaced in each of the first i subpalettes. Assumes nothing.
-use Prim.Native.Nat.{◌-◌}
-use Rattle.quantizer_recolor.proofs.Colours.{one_colour_lem, recolouring_start, recolouring_length, recolouring_row, recolouring_more, recolouring_end}
+use Rattle.quantizer_recolor.proofs.Colours.{one_colour_lem, recolouring_start, recolouring_row, recolouring_more, recolouring_end}
 use Rattle.quantizer_recolor.proofs.replace_colors.Goals as goal
 
 pub returns-then-z-eq1 : goal.returns-then-z-eq1
@@ -14,9 +13,6 @@ replace_color-requires c = recolouring_row _ _ _ c.requires _ c.color_sums.ensur
 
 pub loop-i-preserved : goal.loop-i-preserved
 loop-i-preserved c = recolouring_more _ _ _ c.requires _ c.color_sums.ensures _ _ c.loop-i.invariant c.loop-i-test.true _ c.replace_color.ensures
-
-pub shape_of-pal : goal.shape_of-pal
-shape_of-pal c = recolouring_length _ _ _ c.requires _ c.color_sums.ensures _ _ c.loop-i.invariant
 
 pub returns : goal.returns
 returns c = recolouring_end _ _ _ c.requires _ c.color_sums.ensures _ _ c.loop-i.invariant c.if-z-eq1.false c.loop-i-test.false

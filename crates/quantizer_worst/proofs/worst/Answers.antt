@@ -1,10 +1,8 @@
 -- `quantizer_worst::worst` meets its contract. The loop's invariant: the sums and the hints are those after the first i tiles.
 -- The greatest of the sums present is chosen. Assumes nothing.
-use Prim.Native.Nat.{◌-◌}
 use mathlib.Core.Path.{refl, sym}
 use Rattle.palette_tile.proofs.Walks.{walked_start, walked_more, walked_end}
 use Rattle.palette_tile.proofs.Hints.{walked_hints, walked_paired}
-use Rattle.quantizer.specs.Seeding.{distance_step}
 use Rattle.quantizer_worst.proofs.Turns.{walked_sums, sums-room, sums_asked, worst_done}
 use Rattle.quantizer_worst.proofs.worst.Goals as goal
 

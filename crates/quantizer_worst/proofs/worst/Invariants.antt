@@ -1,6 +1,5 @@
 -- `quantizer_worst::worst` meets its contract. The loop's invariant: the sums and the hints are those after the first i tiles.
 -- The greatest of the sums present is chosen. Assumes nothing.
-use Prim.Native.Nat.{◌-◌}
 use Rattle.job.specs.Job.{job_of, most_subpalettes}
 use Rattle.palette_tile.specs.Tiles.{hint_step}
 use Rattle.palette_tile.proofs.Walks.{Walked}
@@ -12,6 +11,3 @@ abbrev pub invariant-loop-i : goal.invariant-loop-i
 invariant-loop-i l =
     let J = job_of l.z l.tiles l.colours l.counts in
     Walked J.T (distance_step J l.pal l.subs) (zeros most_subpalettes) l.distances l.i × Walked J.T (hint_step J l.pal l.subs 1) l.initial.hints l.hints l.i
-
-abbrev pub decreases-loop-i : goal.decreases-loop-i
-decreases-loop-i l = l.z.t - l.i

@@ -17,9 +17,6 @@ returns-then-a-ne0 c = run-stops _ _ _ _ _ _ c.check_run-a.ensures _ c.wider_roo
 pub bounds-words-1 : goal.bounds-words-1
 bounds-words-1 c = let recorded = c.wider_room-room.ensures.recorded (run_room _ _ _ _ _ _ c.check_run-a.ensures c.if-a-ne0.false) in omega arith
 
-pub is_finished-requires : goal.is_finished-requires
-is_finished-requires c = tt
-
 pub returns-then-not-is_finished : goal.returns-then-not-is_finished
 unfolding result_answer memory_room colours_room state_of
 returns-then-not-is_finished c = run_goes _ _ _ _ _ _ c.check_run-a.ensures _ c.wider_room-room.ensures.same _ c.if-a-ne0.false _ (refuses _ _ _ c.is_finished.ensures (ap not c.if-not-is_finished.true))

@@ -4,9 +4,6 @@ use Rattle.quantizer.specs.Course.{course_of}
 use Rattle.run_draw.proofs.Steps.{going_by, drawn_by}
 use Rattle.run_draw.proofs.draw.Goals as goal
 
-pub cycle_of-at-requires : goal.cycle_of-at-requires
-cycle_of-at-requires c = tt
-
 pub draw-requires : goal.draw-requires
 draw-requires c =
     let a = c.args in

@@ -3,11 +3,5 @@ use Rattle.run_keeping.proofs.Keeps.{reduced_by}
 use Rattle.run_record.specs.Sized.{plain}
 use Rattle.run_keeping.proofs.enter_reducing.Goals as goal
 
-pub noted-requires : goal.noted-requires
-noted-requires c = tt
-
-pub placed-requires : goal.placed-requires
-placed-requires c = tt
-
 pub returns : goal.returns
 returns c = reduced_by (plain c.args.z) _ _ c.args.r c.requires.two _ _ c.copy.ensures c.zero.ensures _ c.noted.ensures _ c.placed.ensures

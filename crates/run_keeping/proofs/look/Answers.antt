@@ -12,9 +12,6 @@ float_to_bits-e c = error-real _ _ _ _ c.requires.lent.whole.shown _ c.mse-e.ens
 pub overflow_cast-e : goal.overflow_cast-e
 overflow_cast-e c = omega (arith, error-low _ _ _ _ c.requires.lent.whole.shown _ c.mse-e.ensures.0)
 
-pub noted-requires : goal.noted-requires
-noted-requires c = tt
-
 pub returns-then-is_kept : goal.returns-then-is_kept
 returns-then-is_kept c = kept_by _ _ _ _ c.args.r _ _ c.mse-e.ensures.0 _ c.mse-e.ensures.1 _ c.is_kept.ensures c.if-is_kept.true _ c.copy.ensures _ c.noted.ensures
 

@@ -6,9 +6,6 @@ use Rattle.run_round.proofs.settle.Goals as goal
 pub loop-z-init : goal.loop-z-init
 loop-z-init c = begun _ _ c.requires
 
-pub is_due-requires : goal.is_due-requires
-is_due-requires c = tt
-
 pub finish_round-at-requires : goal.finish_round-at-requires
 finish_round-at-requires c = to_close _ _ c.loop-z.invariant.standing (sym c.is_due.ensures ∙ c.loop-z-test.true)
 

@@ -11,9 +11,6 @@ record_of-r-requires c = c.requires.1
 pub loop-z-init : goal.loop-z-init
 loop-z-init c = begun _ _ _ _ _ _ c.args.words.now _ c.record_of-r.ensures c.requires.0
 
-pub goes_on-requires : goal.goes_on-requires
-goes_on-requires c = tt
-
 pub step-r-requires : goal.step-r-requires
 step-r-requires c = ongoing c.loop-z.invariant _ c.goes_on.ensures c.loop-z-test.true
 

@@ -1,18 +1,26 @@
 -- `run_working::check_working` meets its contract, return by return. Assumes nothing.
-use mathlib.Core.Path.{refl}
-use Rattle.answer.specs.Rules.{numbered}
-use Rattle.answer.proofs.Passing.{stops, goes}
+use mathlib.Core.Path.{◌≡◌}
+use mathlib.Core.Logic.{◌≢◌}
+use native.Mathlib.Omega.{arith}
+use Rattle.answer.proofs.Passing.{none}
+use Rattle.job.proofs.Colours.{bad_answers, good_passes}
 use Rattle.run_working.proofs.Works.{not-looked_at, looked_at_lem}
 use Rattle.run_working.proofs.check_working.Goals as goal
 
-pub returns-then-a-ne0 : goal.returns-then-a-ne0
-unfolding numbered
-returns-then-a-ne0 c = stops _ _ _ refl c.check_colours-a.ensures c.if-a-ne0.true
+pub returns-in-Some : goal.returns-in-Some
+returns-in-Some c = bad_answers _ _ _ _ _ _ c.in-Some.ensures
 
-pub returns-then-stage-ne2 : goal.returns-then-stage-ne2
-unfolding numbered
-returns-then-stage-ne2 c = goes _ _ _ _ refl c.check_colours-a.ensures c.if-a-ne0.false (not-looked_at _ _ _ c.if-stage-ne2.true)
+pub returns-then-not-matches : goal.returns-then-not-matches
+returns-then-not-matches c =
+    let other : c.args.stage ≢ 2 = grind arith in
+    good_passes _ _ _ _ _ _ c.in_default.ensures (not-looked_at _ _ _ other)
+
+pub returns-in-Some-bad_colour : goal.returns-in-Some-bad_colour
+returns-in-Some-bad_colour c =
+    let two : c.args.stage ≡ 2 = grind arith in
+    good_passes _ _ _ _ _ _ c.in_default.ensures (looked_at_lem _ _ _ two _ (bad_answers _ _ _ _ _ _ c.in-Some-bad_colour.ensures))
 
 pub returns : goal.returns
-unfolding numbered
-returns c = goes _ _ _ _ refl c.check_colours-a.ensures c.if-a-ne0.false (looked_at_lem _ _ _ c.if-stage-ne2.false _ c.check_colours.ensures)
+returns c =
+    let two : c.args.stage ≡ 2 = grind arith in
+    good_passes _ _ _ _ _ _ c.in_default.ensures (looked_at_lem _ _ _ two _ (good_passes _ _ _ _ _ _ c.in_default-bad_colour.ensures none))

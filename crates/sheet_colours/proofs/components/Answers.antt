@@ -14,7 +14,7 @@ use Rattle.sheet_colours.proofs.components.Goals as goal
 pub returns-then-end-q-lt32 : goal.returns-then-end-q-lt32
 returns-then-end-q-lt32 c =
     let turn = c.loop-passed in let a = c.args in
-    turn-fault component a.s.now a.n turn.passed turn.q turn.passed _ turn.invariant.1 13 0 turn.passed (omega arith) (omega arith) (component-short a.s.now turn.q (omega arith))
+    c.stopped.ensures ∙ turn-fault component a.s.now a.n turn.passed turn.q turn.passed _ turn.invariant.1 13 0 turn.passed (omega arith) (omega arith) (component-short a.s.now turn.q (omega arith))
 
 pub loop-passed-preserved : goal.loop-passed-preserved
 loop-passed-preserved c =
@@ -29,7 +29,7 @@ loop-passed-preserved c =
 pub returns-then-not-is_small : goal.returns-then-not-is_small
 returns-then-not-is_small c =
     let turn = c.loop-passed in let a = c.args in
-    turn-fault component a.s.now a.n turn.passed turn.q turn.passed _ turn.invariant.1 7 0 turn.passed (omega arith) (omega arith)
+    c.stopped-then-not-is_small.ensures ∙ turn-fault component a.s.now a.n turn.passed turn.q turn.passed _ turn.invariant.1 7 0 turn.passed (omega arith) (omega arith)
     (component-read a.s.now turn.q c.get.result false (omega arith) c.get.ensures
     (sym c.is_small.ensures ∙ c.if-not-is_small.true))
 

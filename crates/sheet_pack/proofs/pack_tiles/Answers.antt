@@ -7,7 +7,7 @@ use Rattle.sheet_pack.proofs.Here.{none_before, here}
 use Rattle.sheet_pack.proofs.pack_tiles.Goals as goal
 
 pub loop-i-init : goal.loop-i-init
-loop-i-init c = (rw (none_before c.args.tiles.now) (omega arith), rw sub-zero)
+loop-i-init c = (rw (none_before c.args.job.now.tiles.now) (omega arith), rw sub-zero)
 
 pub counts_part-part-requires : goal.counts_part-part-requires
 counts_part-part-requires c = counts-placed _ c.requires.3 c.loop-i.i (omega arith)
@@ -54,4 +54,4 @@ loop-i-preserved c =
 pub returns : goal.returns
 returns c =
     let turn = c.loop-i in
-    tiles_end c.args.e _ _ _ turn.dst turn.q c.args.z.t turn.i _ (omega arith) turn.invariant.1
+    tiles_end c.args.e _ _ _ turn.dst turn.q c.args.job.now.sizes.t turn.i _ (omega arith) turn.invariant.1

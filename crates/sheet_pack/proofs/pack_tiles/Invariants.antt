@@ -11,5 +11,5 @@ use Rattle.sheet_pack.proofs.pack_tiles.Given as goal
 
 abbrev pub invariant-loop-i : goal.invariant-loop-i
 invariant-loop-i l =
-    (l.q ≡ l.p + tiles_size l.e l.i (sum (size_of l.tiles) l.i))
-    × (sets (bits l.dst) l.q (tiles_bits l.e (tiles_from l.tiles l.colours l.counts l.i (l.fn.z.t - l.i))) ≡ sets (bits l.initial.dst) l.p (tiles_bits l.e (tiles_from l.tiles l.colours l.counts 0 l.fn.z.t)))
+    (l.q ≡ l.p + tiles_size l.e l.i (sum (size_of l.job.tiles.now) l.i))
+    × (sets (bits l.dst) l.q (tiles_bits l.e (tiles_from l.job.tiles.now l.job.colours.now l.job.counts.now l.i (l.fn.job.sizes.t - l.i))) ≡ sets (bits l.initial.dst) l.p (tiles_bits l.e (tiles_from l.job.tiles.now l.job.colours.now l.job.counts.now 0 l.fn.job.sizes.t)))

@@ -9,4 +9,4 @@ use Rattle.sheet_colours.specs.Steps.{step_at, behind}
 use Rattle.sheet_tiles.proofs.all_tiles.Given as goal
 
 abbrev pub invariant-loop-i : goal.invariant-loop-i
-invariant-loop-i l = (l.at.bit ≤ 8 * length l.s) × (l.at.passed ≤ l.at.bit) × (behind l.at.passed (step_at (times (l.t - l.i) (tile l.e)) l.s l.at.bit) ≡ step_at (times l.t (tile l.e)) l.s l.p)
+invariant-loop-i l = (l.at.bit ≤ 8 * length l.s) × (l.at.passed ≤ l.at.bit) × (behind l.at.passed (step_at (times (l.t - l._i) (tile l.e)) l.s l.at.bit) ≡ step_at (times l.t (tile l.e)) l.s l.p)

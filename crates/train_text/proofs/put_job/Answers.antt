@@ -25,7 +25,7 @@ slice_bounds-put_trained-end-5 c = front_long _ _ c.requires.0.given
 pub put_trained-requires : goal.put_trained-requires
 put_trained-requires c =
     let a = c.args in (
-      parts_hold a.z _ _ _ _ c.colours_to-n.ensures (λ (J : Job). Writable J (front_palette a.z a.palette.now)) c.requires.0.writable,
+      parts_hold a.job.now.sizes _ _ _ _ c.colours_to-n.ensures (λ (J : Job). Writable J (front_palette a.job.now.sizes a.palette.now)) c.requires.0.writable,
       c.requires.1,
     )
 
@@ -33,7 +33,7 @@ pub returns : goal.returns
 returns c =
     let a = c.args in
     let text = c.put_trained in (
-      front_holds a.z _ _ _ _ c.colours_to-n.ensures (λ (J : Job). Stored a.out.now text.new.out 0 text.result (job_text J))
+      front_holds a.job.now.sizes _ _ _ _ c.colours_to-n.ensures (λ (J : Job). Stored a.out.now text.new.out 0 text.result (job_text J))
           text.ensures.0,
       text.ensures.1,
     )

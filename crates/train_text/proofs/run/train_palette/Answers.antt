@@ -17,13 +17,13 @@ pub slice_bounds-orders-end : goal.slice_bounds-orders-end
 slice_bounds-orders-end c = samples_fit_lem _ _ c.requires _ c.order_room-orders.ensures
 
 pub slice_bounds-order-end : goal.slice_bounds-order-end
-slice_bounds-order-end c = front_long c.args.z.n c.order_room-orders.result (samples_fit_lem _ _ c.requires _ c.order_room-orders.ensures)
+slice_bounds-order-end c = front_long c.args.course.now.job.sizes.n c.order_room-orders.result (samples_fit_lem _ _ c.requires _ c.order_room-orders.ensures)
 
 pub slice_bounds-firsts-end : goal.slice_bounds-firsts-end
 slice_bounds-firsts-end c = tiles_fit_lem _ _ c.requires _ c.no_hints-firsts.ensures.0
 
 pub slice_bounds-hints-end : goal.slice_bounds-hints-end
-slice_bounds-hints-end c = front_long c.args.z.t c.no_hints-firsts.result (tiles_fit_lem _ _ c.requires _ c.no_hints-firsts.ensures.0)
+slice_bounds-hints-end c = front_long c.args.course.now.job.sizes.t c.no_hints-firsts.result (tiles_fit_lem _ _ c.requires _ c.no_hints-firsts.ensures.0)
 
 pub slice_bounds-errors-end : goal.slice_bounds-errors-end
 slice_bounds-errors-end c = numbers_fit _ _ c.requires _ c.palette_room-errors.ensures
@@ -31,7 +31,7 @@ slice_bounds-errors-end c = numbers_fit _ _ c.requires _ c.palette_room-errors.e
 pub slice_bounds-least-end : goal.slice_bounds-least-end
 slice_bounds-least-end c =
     let a = c.args in
-    front_long (3 * (a.z.s * a.z.c)) c.palette_room-errors.result (numbers_fit _ _ c.requires _ c.palette_room-errors.ensures)
+    front_long (3 * (a.course.now.job.sizes.s * a.course.now.job.sizes.c)) c.palette_room-errors.result (numbers_fit _ _ c.requires _ c.palette_room-errors.ensures)
 
 pub start-requires : goal.start-requires
 start-requires c = tt

@@ -1,12 +1,12 @@
 -- `turns` meets its contract. The loop's invariant: the memory is what so many turns leave. Assumes nothing.
 use Prim.Native.Nat.{◌-◌}
-use Rattle.quantizer.specs.Course.{course_of}
+use Rattle.quantizer.specs.Course.{course_in}
 use Rattle.run_stages.specs.Calls.{memory}
 use Rattle.train_text.proofs.Joined.{Turned}
 use Rattle.train_text.proofs.run.turns.Given as goal
 
 abbrev pub invariant-loop-passed : goal.invariant-loop-passed
-invariant-loop-passed l = Turned (course_of l.z l.tiles l.colours l.counts l.samples) l.passed (memory l.initial.order l.initial.hints l.initial.palette l.initial.least l.initial.words) (memory l.order l.hints l.palette l.least l.words)
+invariant-loop-passed l = Turned (course_in l.course) l.passed (memory l.initial.order l.initial.hints l.initial.palette l.initial.least l.initial.words) (memory l.order l.hints l.palette l.least l.words)
 
 abbrev pub decreases-loop-passed : goal.decreases-loop-passed
 decreases-loop-passed l = 3 - l.passed
