@@ -8,6 +8,8 @@ use Rattle.lists.specs.Parts.{part}
 use Rattle.color.specs.declared.Oklab.{Oklab}
 use Rattle.color.specs.Color.{sqdist_of, colour_at, Real, Finite}
 use Rattle.stats.specs.declared.Near.{Near}
+use Rattle.palette.specs.declared.Palette as declared-palette
+use Rattle.palette.specs.declared.Tile as declared-tile
 use Rattle.stats.specs.Stats.{least_of}
 
 -- ---- values
@@ -21,6 +23,9 @@ pub record Palette : Type 0 where
 abbrev pub palette_with : List Float → ℕ → ℕ → ℕ → Palette
 palette_with pal c have n = record { flat = pal; stride = c; have = have; subs = n }
 
+abbrev pub palette_in : declared-palette.Palette → Palette
+palette_in p = palette_with p.flat.now p.stride p.have p.subs
+
 -- a tile's colours, and how many of its pixels have each
 pub record Tile : Type 0 where
   pub colours : List Float
@@ -28,6 +33,9 @@ pub record Tile : Type 0 where
 
 abbrev pub tile_with : List Float → List ℕ → Tile
 tile_with colours counts = record { colours = colours; counts = counts }
+
+abbrev pub tile_in : declared-tile.Tile → Tile
+tile_in x = tile_with x.colours.now x.counts.now
 
 -- ---- distances
 -- subpalette i begins at 3·i·c; of its c places the first `have` are in it

@@ -17,6 +17,32 @@ pub struct Four<T> {
     pub fourth: T,
 }
 
+// Subpalettes one after the other in a flat slice, each with room for `stride` colours, of which the first `have` are present.
+#[derive(Clone, Copy)]
+pub struct Palette<'a> {
+    pub flat: &'a [f32],
+    pub stride: usize,
+    pub have: usize,
+    pub subs: usize,
+}
+
+impl<'a> Palette<'a> {
+    // Subpalette i.
+    pub fn part(&self, i: usize) -> &'a [f32]
+        requires { (self.now.have ≤ self.now.stride) × (i * (3 * self.now.stride) + 3 * self.now.stride ≤ length self.now.flat.now) }
+        ensures { result.now ≡ sub_of self.now.flat.now self.now.stride self.now.have i }
+    {
+        part(self.flat, self.stride, self.have, i)
+    }
+}
+
+// A tile's colours, and how many of its pixels have each.
+#[derive(Clone, Copy)]
+pub struct Tile<'a> {
+    pub colours: &'a [f32],
+    pub counts: &'a [u32],
+}
+
 // Subpalette i of a flat palette with room for c colours in each, of which the first `have` are present.
 pub fn part(pal: &[f32], c: usize, have: usize, i: usize) -> &[f32]
     requires { (have ≤ c) × (i * (3 * c) + 3 * c ≤ length pal.now) }

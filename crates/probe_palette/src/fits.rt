@@ -1,8 +1,20 @@
 // Forwarders to palettes' fits and view. Assumes of callers what each callee requires.
-ghost use Rattle.std.specs.Prelude.{◌≤◌, length};
-ghost use Rattle.palette.specs.Palette.{palette_with, tile_with, Measured, Fits, Hinted};
+ghost use Rattle.std.specs.Prelude.{◌≡◌, ◌≤◌, length};
+ghost use Rattle.palette.specs.Palette.{palette_in, palette_with, tile_with, Measured, Fits, Hinted};
 
 use color::Oklab;
+use palette::{Palette, Tile};
+
+fn palette_of<'a>(flat: &'a [f32], stride: usize, have: usize, subs: usize) -> Palette<'a>
+    ensures { palette_in result ≡ palette_with flat.entry.now stride have subs }
+{
+    Palette {
+        flat,
+        stride,
+        have,
+        subs,
+    }
+}
 
 #[unsafe(no_mangle)]
 pub extern "C" fn probe_nearest(
@@ -22,7 +34,14 @@ pub extern "C" fn probe_nearest(
 pub extern "C" fn probe_tile_distance(sub: &[f32], tile: &[f32], counts: &[u32], weight: f32) -> f32
     requires { Measured sub.now (tile_with tile.now counts.now) weight }
 {
-    palette_distance::tile_distance(sub, tile, counts, weight)
+    palette_distance::tile_distance(
+        sub,
+        &Tile {
+            colours: tile,
+            counts,
+        },
+        weight,
+    )
 }
 
 #[unsafe(no_mangle)]
@@ -40,7 +59,16 @@ pub extern "C" fn probe_best_fit(
 ) -> usize
     requires { Fits (palette_with pal.now c have n) (tile_with tile.now counts.now) weight × ((1 ≤ length counts.now) × Hinted n hints.old t) }
 {
-    let near = palette_hint::best_fit(pal, c, have, n, tile, counts, weight, hints, t);
+    let near = palette_hint::best_fit(
+        &palette_of(pal, c, have, n),
+        &Tile {
+            colours: tile,
+            counts,
+        },
+        weight,
+        hints,
+        t,
+    );
     *dist = near.dist;
     near.index
 }
@@ -80,7 +108,16 @@ pub extern "C" fn probe_best_two(
 ) -> usize
     requires { Fits (palette_with pal.now c have n) (tile_with tile.now counts.now) weight × Hinted n hints.old t }
 {
-    let two = palette_hint::best_two(pal, c, have, n, tile, counts, weight, hints, t);
+    let two = palette_hint::best_two(
+        &palette_of(pal, c, have, n),
+        &Tile {
+            colours: tile,
+            counts,
+        },
+        weight,
+        hints,
+        t,
+    );
     *dist = two.dist;
     *next = two.next;
     *second = two.second;

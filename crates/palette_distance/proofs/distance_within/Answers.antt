@@ -18,7 +18,7 @@ quartet_at-requires c = (c.requires.tile, omega arith)
 pub returns-then-sum-limit : goal.returns-then-sum-limit
 returns-then-sum-limit c =
     let v = c.loop-j in
-    over_already _ _ _ _ c.requires (of_true c.well_formed.1.1.1.1.0.1) (4 * (v.j + 1)) (omega arith) _
+    over_already _ _ _ _ c.requires (of_true c.well_formed.1.1.1.0.1) (4 * (v.j + 1)) (omega arith) _
     (quartet_step _ _ _ _ _ (omega arith) _ c.quartet_at.ensures _ _ v.invariant.0 c.add_quartet-sum.ensures) c.if-sum-limit.true
 
 pub loop-j-preserved : goal.loop-j-preserved
@@ -35,7 +35,7 @@ term-sum-requires c = let pre = c.requires in (record { sub = pre.sub; tile = pr
 pub returns-then-sum-limit-2 : goal.returns-then-sum-limit-2
 returns-then-sum-limit-2 c =
     let v = c.loop-k in
-    over_already _ _ _ _ c.requires (of_true c.well_formed.1.1.1.1.0.1) (v.k + 1) (omega arith) _
+    over_already _ _ _ _ c.requires (of_true c.well_formed.1.1.1.0.1) (v.k + 1) (omega arith) _
     (total-step _ _ _ _ _ _ v.invariant.0 c.term-sum.ensures) c.if-sum-limit-2.true
 
 pub loop-k-preserved : goal.loop-k-preserved

@@ -4,11 +4,11 @@ use Prim.Native.Nat.{◌*◌}
 use mathlib.Core.Path.{◌≡◌}
 use mathlib.Core.Bool.{false}
 use lib.Ieee.{lt}
-use Rattle.palette.specs.Palette.{tile_with, total_of}
+use Rattle.palette.specs.Palette.{total_of, tile_in}
 use Rattle.palette_distance.proofs.distance_within.Given as goal
 
 abbrev pub invariant-loop-j : goal.invariant-loop-j
-invariant-loop-j l = (l.sum ≡ total_of l.s (tile_with l.tile l.counts) l.w (4 * l.j)) × (lt l.limit l.sum ≡ false)
+invariant-loop-j l = (l.sum ≡ total_of l.s (tile_in l.tile) l.w (4 * l.j)) × (lt l.limit l.sum ≡ false)
 
 abbrev pub invariant-loop-k : goal.invariant-loop-k
-invariant-loop-k l = (l.sum ≡ total_of l.s (tile_with l.tile l.counts) l.w l.k) × (lt l.limit l.sum ≡ false)
+invariant-loop-k l = (l.sum ≡ total_of l.s (tile_in l.tile) l.w l.k) × (lt l.limit l.sum ≡ false)

@@ -2,7 +2,7 @@
 -- and n - 4 is k where there are four from k on. Assumes nothing.
 use Prim.Native.Nat.{ℕ, ◌+◌, ◌≤◌, ◌<◌}
 use native.Mathlib.Omega.{arith}
-use Rattle.palette.specs.Palette.{tile_with}
+use Rattle.palette.specs.Palette.{tile_in}
 use Rattle.palette_distance.proofs.Walks.{own_quartet}
 use Rattle.palette_distance.proofs.quartet_ahead.Goals as goal
 
@@ -18,4 +18,4 @@ quartet_at-requires c = (c.requires, omega arith)
 pub returns : goal.returns
 returns c =
     let a = c.args in
-    λ l. own_quartet (tile_with a.tile.now a.counts.now) a.k _ _ c.min.ensures c.quartet_at.ensures l
+    λ l. own_quartet (tile_in a.tile.now) a.k _ _ c.min.ensures c.quartet_at.ensures l

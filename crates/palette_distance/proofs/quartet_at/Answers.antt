@@ -2,7 +2,7 @@
 use Prim.Native.Nat.{ℕ, ◌+◌, ◌≤◌, ◌<◌}
 use native.Mathlib.Omega.{arith}
 use lib.ListN.{get_or, length}
-use Rattle.palette.specs.Palette.{Tile, tile_with, Counted}
+use Rattle.palette.specs.Palette.{Tile, Counted, tile_in}
 use Rattle.palette_distance.proofs.Walks.{quartet_is}
 use Rattle.palette_distance.proofs.quartet_at.Goals as goal
 
@@ -25,4 +25,4 @@ pixels-fourth-requires c = count-asks _ c.requires.0 c.args.k _ c.requires.1 (om
 pub returns : goal.returns
 returns c =
     let a = c.args in
-    quartet_is (tile_with a.tile.now a.counts.now) a.k _ c.four_colours-colours.ensures _ _ _ _ c.pixels-first.ensures c.pixels-second.ensures c.pixels-third.ensures c.pixels-fourth.ensures
+    quartet_is (tile_in a.tile.now) a.k _ c.four_colours-colours.ensures _ _ _ _ c.pixels-first.ensures c.pixels-second.ensures c.pixels-third.ensures c.pixels-fourth.ensures

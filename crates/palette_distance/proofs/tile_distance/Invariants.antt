@@ -1,11 +1,11 @@
 -- `palette_distance::tile_distance` meets its contract. The loops' invariant: the sum is that over the first 4·j colours, then over the first k. Assumes nothing.
 use Prim.Native.Nat.{◌*◌}
 use mathlib.Core.Path.{◌≡◌}
-use Rattle.palette.specs.Palette.{tile_with, total_of}
+use Rattle.palette.specs.Palette.{total_of, tile_in}
 use Rattle.palette_distance.proofs.tile_distance.Given as goal
 
 abbrev pub invariant-loop-j : goal.invariant-loop-j
-invariant-loop-j l = l.sum ≡ total_of l.s (tile_with l.tile l.counts) l.w (4 * l.j)
+invariant-loop-j l = l.sum ≡ total_of l.s (tile_in l.tile) l.w (4 * l.j)
 
 abbrev pub invariant-loop-k : goal.invariant-loop-k
-invariant-loop-k l = l.sum ≡ total_of l.s (tile_with l.tile l.counts) l.w l.k
+invariant-loop-k l = l.sum ≡ total_of l.s (tile_in l.tile) l.w l.k

@@ -1,11 +1,12 @@
 -- `palette_fit::best_from` meets its contract. The outer invariant: `best` leads among the hint and the subpalettes before i.
 -- The inner ones: the sum is that over the first 4·j colours, then over the first k, and it has not lost yet; the four ahead are the
 -- tile's, where it has four more. Assumes nothing.
+use borrow.Author.Rules.{rules}
 use Prim.Native.Nat.{ℕ, ◌+◌, ◌*◌, ◌<◌}
 use mathlib.Core.Path.{◌≡◌, refl, sym, ap, ◌∙◌}
 use native.Mathlib.Omega.{arith}
 use Rattle.stats.proofs.Leading.{lead_skips}
-use Rattle.palette.specs.Palette.{Tile, tile_with, total_of}
+use Rattle.palette.specs.Palette.{Tile, total_of, tile_in}
 use Rattle.palette.proofs.Parts.{part_asks, sub_measured}
 use Rattle.palette_distance.specs.declared.Quartet.{Quartet}
 use Rattle.palette_distance.specs.Distance.{quartet_of}
@@ -49,7 +50,7 @@ subs-preserved-in_default c =
     let j = c.loop-j.j in
     let v = c.loop-j.invariant in
     let r = four-lost _ _ _ (4 * j) (4 * (j + 1)) (omega arith) _ (v.next (omega arith)) _ v.total _ _ c.in_default.ensures _
-    (λ m l t. turn-left _ _ _ c.requires.0 _ (omega (arith, c.ranges.n)) _ o.i o.invariant (omega arith) _ c.part-sub.ensures o.i refl m (omega arith) _ refl t) in
+    (λ m l t. turn-left _ _ _ c.requires.0 _ (search rules) _ o.i o.invariant (omega arith) _ c.part-sub.ensures o.i refl m (omega arith) _ refl t) in
     r.1
 
 pub quartet_ahead-ahead-requires : goal.quartet_ahead-ahead-requires
@@ -64,7 +65,7 @@ loop-j-preserved c =
     record {
       total = r.0;
       unlost = λ h. r.1;
-      next = λ h. next-four (tile_with a.tile.now a.counts.now) j _ (c.quartet_ahead-ahead.ensures (omega arith));
+      next = λ h. next-four (tile_in a.tile.now) j _ (c.quartet_ahead-ahead.ensures (omega arith));
     }
 
 -- ---- colour by colour
@@ -82,7 +83,7 @@ subs-preserved-then-loses c =
     let o = c.subs in
     let v = c.loop-k in
     let sum = total-step _ _ _ _ _ _ v.invariant.total c.term-sum.ensures in
-    let r = turn-left _ _ _ c.requires.0 _ (omega (arith, c.ranges.n)) _ o.i o.invariant (omega arith) _ c.part-sub.ensures o.i refl
+    let r = turn-left _ _ _ c.requires.0 _ (search rules) _ o.i o.invariant (omega arith) _ c.part-sub.ensures o.i refl
     (v.k + 1) (omega arith) _ sum (sym c.loses.ensures ∙ c.if-loses.true) in
     r.1
 
@@ -95,11 +96,11 @@ pub subs-preserved : goal.subs-preserved
 subs-preserved c =
     let o = c.subs in
     let v = c.loop-k.invariant in
-    let r = turn-reached _ _ _ c.requires.0 _ (omega (arith, c.ranges.n)) _ o.i o.invariant (omega arith) _ c.part-sub.ensures o.i refl _
+    let r = turn-reached _ _ _ c.requires.0 _ (search rules) _ o.i o.invariant (omega arith) _ c.part-sub.ensures o.i refl _
     (v.total ∙ ap (total_of _ _ _) (omega arith)) (v.unlost (omega arith)) in
     r.1
 
 pub returns : goal.returns
 returns c =
     let o = c.subs in
-    turn_end _ _ _ c.requires.0 _ (omega (arith, c.ranges.n)) o.i _ (omega arith) (omega arith) o.invariant
+    turn_end _ _ _ c.requires.0 _ (search rules) o.i _ (omega arith) (omega arith) o.invariant
