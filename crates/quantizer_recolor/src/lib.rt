@@ -3,12 +3,12 @@
 #![tactic(auto)]
 
 ghost use Rattle.std.specs.Prelude.{◌≡◌, ◌*◌};
-ghost use Rattle.job.specs.Job.{job_of};
+ghost use Rattle.job.specs.Job.{job_in};
 ghost use Rattle.quantizer.specs.Replacing.{shares, swap_in, colour_swapped, colours_replaced};
 ghost use Rattle.quantizer_color_sums.specs.Asked.{Owned};
 ghost use Rattle.quantizer_recolor.specs.Row.{Row};
 
-use job::Sizes;
+use job::Job;
 
 // In subpalette i, the colour that gives way becomes the one that has most.
 fn replace_color(pal: &mut [f32], c: usize, i: usize, total: &[f32], second: &[f32])
@@ -21,33 +21,17 @@ fn replace_color(pal: &mut [f32], c: usize, i: usize, total: &[f32], second: &[f
 }
 
 // A colour in each subpalette, from the sums over all tiles, which the hints assign; with one colour each there is none to replace.
-pub fn replace_colors(
-    z: Sizes,
-    tiles: &[u32],
-    colours: &[f32],
-    counts: &[u32],
-    pal: &mut [f32],
-    hints: &[u32],
-)
-    requires { Owned (job_of z tiles.now colours.now counts.now) pal.old hints.now }
-    ensures { pal.new ≡ colours_replaced (job_of z tiles.now colours.now counts.now) pal.old }
+pub fn replace_colors(job: &Job, pal: &mut [f32], hints: &[u32])
+    requires { Owned (job_in job.now) pal.old hints.now }
+    ensures { pal.new ≡ colours_replaced (job_in job.now) pal.old }
 {
-    if z.c == 1 {
+    if job.sizes.c == 1 {
         return;
     }
     let mut total_color_mse = [0.0f32; 256];
     let mut second_color_mse = [0.0f32; 256];
-    quantizer_color_sums::color_sums(
-        z,
-        tiles,
-        colours,
-        counts,
-        pal,
-        hints,
-        &mut total_color_mse,
-        &mut second_color_mse,
-    );
-    for i in 0..z.s {
-        replace_color(pal, z.c, i, &total_color_mse, &second_color_mse);
+    quantizer_color_sums::color_sums(job, pal, hints, &mut total_color_mse, &mut second_color_mse);
+    for i in 0..job.sizes.s {
+        replace_color(pal, job.sizes.c, i, &total_color_mse, &second_color_mse);
     }
 }
