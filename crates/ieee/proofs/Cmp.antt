@@ -9,7 +9,12 @@ use lib.Dec.{T, nleb→lt, leb, ltb, leb→le, le→leb, ltb→lt, nltb→le}
 use lib.Ieee.{Float, nan, inf, fin, Format, top, neg, lt, le, fits, is_nan, to_bits, of_bits}
 use lib.Ieee.Bits.{of_bits-to_bits, to_bits-lt}
 use Rattle.ieee.proofs.Order.{same_test, le_fin→, le_fin←}
-use Rattle.ieee.proofs.Total.{decide, lt→not_le}
+use Rattle.ieee.proofs.Total.{decide, lt→not_le, lt-is}
+use Rattle.std.specs.Float.{is_sign_negative, total_cmp}
+use Rattle.std.specs.Ordering.{is_le}
+use Rattle.std.specs.declared.cmp.Ordering.{Ordering}
+use Rattle.std.specs.declared.cmp.Ordering.TheVariants.{Less, Equal, Greater}
+use Rattle.std.proofs.lemmas.Bool.{false≢true}
 use Rattle.ieee.specs.Terms.{sgn, abs, key, pack, zero_f, tle, key_of}
 use Rattle.ieee.proofs.Keys.{bits_are, le-is-bits, size_small}
 
@@ -79,6 +84,34 @@ key_inj t a b p q = by (ltb a t) (ltb b t) (ltb→lt a t) (nltb→le a t) (ltb�
     by false true c d e g h = let i : t ≤ a = d tt in omega arith
     by false false c d e g h = omega arith
 
+-- what `total_cmp` answers of two of which none is less
+abbrev by_signs : Float → Float → Ordering
+by_signs x y = cond (is_sign_negative x) (cond (is_sign_negative y) Equal Less) (cond (is_sign_negative y) Greater Equal)
+
+level_is : (x y : Float) → T (not (is_nan x)) → T (not (is_nan y)) → T (le x y) → is_le (by_signs x y) ≡ tle x y
+unfolding le is_nan is_sign_negative
+level_is nan y p q h = absurd p
+level_is (inf s) nan p q h = absurd q
+level_is (inf true) (inf true) p q h = refl
+level_is (inf true) (inf false) p q h = refl
+level_is (inf false) (inf true) p q h = refl
+level_is (inf false) (inf false) p q h = refl
+level_is (inf true) (fin true n d) p q h = refl
+level_is (inf true) (fin false n d) p q h = refl
+level_is (inf false) (fin true n d) p q h = refl
+level_is (inf false) (fin false n d) p q h = absurd h
+level_is (fin s m e) nan p q h = absurd q
+level_is (fin true m e) (inf true) p q h = absurd h
+level_is (fin true m e) (inf false) p q h = refl
+level_is (fin false m e) (inf true) p q h = refl
+level_is (fin false m e) (inf false) p q h = refl
+level_is (fin true m e) (fin false n d) p q h = refl
+level_is (fin false m e) (fin true n d) p q h = refl
+level_is (fin false m e) (fin false n d) p q h = same_test true (le (fin false m e) (fin false n d)) (λ (_ : Unit {0}). h) (λ (_ : T (le (fin false m e) (fin false n d))). tt)
+level_is (fin true m e) (fin true n d) p q h =
+    same_test true (le (fin false n d) (fin false m e)) (λ (_ : Unit {0}). le_fin← false n d false m e (le_fin→ true m e true n d h))
+    (λ (_ : T (le (fin false n d) (fin false m e))). tt)
+
 module _ (f : Format) (x y : Float) (h : T (fits f x)) (k : T (fits f y)) (p : T (not (is_nan x))) (q : T (not (is_nan y))) where
   pub tle-total : T (tle x y) ⊎ T (tle y x)
   tle-total =
@@ -99,6 +132,17 @@ module _ (f : Format) (x y : Float) (h : T (fits f x)) (k : T (fits f y)) (p : T
       let u : key_of f a ≤ key_of f b = leb→le (key_of f a) (key_of f b) (subst T (tle-is-key f x y h k p q) l) in
       let v : key_of f b ≤ key_of f a = leb→le (key_of f b) (key_of f a) (subst T (tle-is-key f y x k h q p) r) in
       sym (of_bits-to_bits f x h) ∙ ap (of_bits f) (key_inj (top f) a b (to_bits-lt f x h) (to_bits-lt f y k) (le_antisymm u v)) ∙ of_bits-to_bits f y k
+
+  -- ---- the library's `total_cmp`
+  pub total_is : is_le (total_cmp x y) ≡ tle x y
+  total_is = by (lt x y) (lt y x) (le x y) lt→tle (λ (l : T (lt y x)) (t : T (tle x y)). lt→not_le y x l (tle→le x y p q t)) (lt-is y x q p) (level_is x y p q)
+    where
+      by : (b c l : Bool) → (T b → T (tle x y)) → (T c → T (tle x y) → ⊥) → c ≡ not l → (T l → is_le (by_signs x y) ≡ tle x y)
+          → is_le (cond b Less (cond c Greater (by_signs x y))) ≡ tle x y
+      by true c l rises falls e level = same_test true (tle x y) rises (λ (_ : T (tle x y)). tt)
+      by false true l rises falls e level = same_test false (tle x y) (λ (z : ⊥). absurd z) (falls tt)
+      by false false true rises falls e level = level tt
+      by false false false rises falls e level = absurd (false≢true e)
 
 -- ---- -0 comes before +0
 pub minus_zero-first : (tle (neg zero_f) zero_f ≡ true) × (tle zero_f (neg zero_f) ≡ false)

@@ -1,6 +1,6 @@
 -- The values whose sign is clear and that are no `nan`: what `add`, `mul` and a square keep; and a rounded sum of two of them is no smaller than either. Assumes nothing.
 use mathlib.Core.Path.{◌≡◌, refl}
-use Prim.Native.Nat.{ℕ, suc, ◌+◌, ◌-◌, ◌*◌, ◌^◌, ◌≤◌}
+use Prim.Native.Nat.{ℕ, suc, ◌+◌, ◌*◌, ◌^◌, ◌≤◌}
 use native.Mathlib.Nat.{le_trans, le_of_eq, mul-pos, mul_assoc, mul_comm, mul-le-mul_right, le-add_right}
 use mathlib.Core.Bool.{Bool, true, false, not, cond, true≢false}
 use lib.IntN.{ℤ}

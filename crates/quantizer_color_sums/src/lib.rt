@@ -3,53 +3,49 @@
 #![tactic(auto)]
 
 ghost use Rattle.std.specs.Prelude.{◌≡◌};
-ghost use Rattle.job.specs.Job.{job_of};
+ghost use Rattle.job.specs.Job.{job_in};
 ghost use Rattle.quantizer.specs.Sums.{zeros, places};
 ghost use Rattle.quantizer.specs.Replacing.{shares, owner_of, spread_step, spread_of};
 ghost use Rattle.quantizer_color_sums.specs.Asked.{Owned, OwnerTurn};
 
-use job::Sizes;
+use job::Job;
 
 // Tile i's part in the sums by colour: colour j of subpalette k is at the place k * c + j.
 fn color_step(
-    z: Sizes,
-    tiles: &[u32],
-    colours: &[f32],
-    counts: &[u32],
+    job: &Job,
     pal: &[f32],
     hints: &[u32],
     i: usize,
     total: &mut [f32],
     second: &mut [f32],
 )
-    requires { OwnerTurn (job_of z tiles.now colours.now counts.now) pal.now hints.now i (shares total.old second.old) }
+    requires { OwnerTurn (job_in job.now) pal.now hints.now i (shares total.old second.old) }
     ensures { shares total.new second.new
-        ≡ spread_step (job_of z tiles.now colours.now counts.now) pal.now
-        (owner_of (job_of z tiles.now colours.now counts.now) pal.now i) i (shares total.old second.old) }
+        ≡ spread_step (job_in job.now) pal.now
+        (owner_of (job_in job.now) pal.now i) i (shares total.old second.old) }
 {
-    let owner = quantizer_owner::nearest_palette_of(z.s, hints, i);
-    let sub = palette::part(pal, z.c, z.c, owner);
-    let tile = job::tile_part(tiles, colours, i);
-    let part = job::counts_part(tiles, counts, i);
-    quantizer_matches_two::for_each_match_two(sub, tile, part, z.weight, owner * z.c, total, second)
+    let owner = quantizer_owner::nearest_palette_of(job.sizes.s, hints, i);
+    let sub = palette::part(pal, job.sizes.c, job.sizes.c, owner);
+    let tile = job.tile_part(i);
+    let part = job.counts_part(i);
+    quantizer_matches_two::for_each_match_two(
+        sub,
+        tile,
+        part,
+        job.sizes.weight,
+        owner * job.sizes.c,
+        total,
+        second,
+    )
 }
 
 // What each colour has, and what would be added without it, from the hints that palette_sums left.
-pub fn color_sums(
-    z: Sizes,
-    tiles: &[u32],
-    colours: &[f32],
-    counts: &[u32],
-    pal: &[f32],
-    hints: &[u32],
-    total: &mut [f32],
-    second: &mut [f32],
-)
-    requires { Owned (job_of z tiles.now colours.now counts.now) pal.now hints.now × ((total.old ≡ zeros places) × (second.old ≡ zeros places)) }
+pub fn color_sums(job: &Job, pal: &[f32], hints: &[u32], total: &mut [f32], second: &mut [f32])
+    requires { Owned (job_in job.now) pal.now hints.now × ((total.old ≡ zeros places) × (second.old ≡ zeros places)) }
     ensures { shares total.new second.new
-        ≡ spread_of (job_of z tiles.now colours.now counts.now) pal.now (owner_of (job_of z tiles.now colours.now counts.now) pal.now) z.t }
+        ≡ spread_of (job_in job.now) pal.now (owner_of (job_in job.now) pal.now) job.now.sizes.t }
 {
-    for i in 0..z.t {
-        color_step(z, tiles, colours, counts, pal, hints, i, total, second);
+    for i in 0..job.sizes.t {
+        color_step(job, pal, hints, i, total, second);
     }
 }

@@ -1,5 +1,5 @@
 -- `quantizer_color_sums::color_sums` meets its contract. The loop's invariant: the sums are those after the first i tiles. Assumes nothing.
-use Rattle.job.specs.Job.{job_of}
+use Rattle.job.specs.Job.{job_in}
 use Rattle.palette_tile.proofs.Walks.{Walked}
 use Rattle.quantizer.specs.Sums.{places}
 use Rattle.quantizer.specs.Replacing.{shares, no_shares, owner_of, spread_step}
@@ -7,5 +7,5 @@ use Rattle.quantizer_color_sums.proofs.color_sums.Given as goal
 
 abbrev pub invariant-loop-i : goal.invariant-loop-i
 invariant-loop-i l =
-    let J = job_of l.z l.tiles l.colours l.counts in
+    let J = job_in l.job in
     Walked J.T (λ k. spread_step J l.pal (owner_of J l.pal k) k) (no_shares places) (shares l.total l.second) l.i
