@@ -4,22 +4,23 @@
 
 ghost use Rattle.std.specs.Prelude.{◌≡◌, ◌+◌, ◌*◌, ◌<◌, length};
 ghost use Rattle.job.specs.Job.{job_in, most_tile_size};
-ghost use Rattle.palette.specs.Palette.{tile_with};
+ghost use Rattle.palette.specs.Palette.{tile_in};
 ghost use Rattle.palette_tile.specs.Tiles.{hint_step, hints_of, Shown};
 ghost use Rattle.palette_mse.specs.Mse.{tile_tally, tally_step, mean_error, mse_of, Summed, Turn, Meaned};
 
 use job::Job;
+use palette::Tile;
 use palette_mse::Tally;
 
 // A tile's distances times counts, added to a sum in f64.
-fn tile_tally(s: &[f32], tile: &[f32], counts: &[u32], w: f32, from: Tally) -> Tally
-    requires { Summed s.now (tile_with tile.now counts.now) w × (from.count + most_tile_size * length counts.now < 18446744073709551616) }
-    ensures { result ≡ tile_tally s.now (tile_with tile.now counts.now) w from (length counts.now) }
+fn tile_tally(s: &[f32], tile: &Tile, w: f32, from: Tally) -> Tally
+    requires { Summed s.now (tile_in tile.now) w × (from.count + most_tile_size * length tile.now.counts.now < 18446744073709551616) }
+    ensures { result ≡ tile_tally s.now (tile_in tile.now) w from (length tile.now.counts.now) }
 {
     let mut total = from.total;
     let mut count = from.count;
-    for (k, &pixels) in counts.iter().enumerate() {
-        let near = palette_distance::near::nearest_distance(s, tile, k, w);
+    for (k, &pixels) in tile.counts.iter().enumerate() {
+        let near = palette_distance::near::nearest_distance(s, tile.colours, k, w);
         total += (near as f64) * (pixels as f64);
         count += pixels as u64;
     }
@@ -46,9 +47,7 @@ fn tile_step(
     let best = palette_tile::tile_fit(job, pal, n, have, hints, i);
     let winner = best.index;
     let sub = palette::part(pal, job.sizes.c, have, winner);
-    let tile = job.tile_part(i);
-    let part = job.counts_part(i);
-    tile_tally(sub, tile, part, job.sizes.weight, sum)
+    tile_tally(sub, &palette_tile::tile(job, i), job.sizes.weight, sum)
 }
 
 // The mean in f32 of a sum in f64; 0 where nothing counts.

@@ -26,12 +26,9 @@ fn color_step(
 {
     let owner = quantizer_owner::nearest_palette_of(job.sizes.s, hints, i);
     let sub = palette::part(pal, job.sizes.c, job.sizes.c, owner);
-    let tile = job.tile_part(i);
-    let part = job.counts_part(i);
     quantizer_matches_two::for_each_match_two(
         sub,
-        tile,
-        part,
+        &palette_tile::tile(job, i),
         job.sizes.weight,
         owner * job.sizes.c,
         total,

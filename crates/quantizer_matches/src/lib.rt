@@ -3,24 +3,19 @@
 #![tactic(auto)]
 
 ghost use Rattle.std.specs.Prelude.{◌≡◌, length};
-ghost use Rattle.palette.specs.Palette.{tile_with};
+ghost use Rattle.palette.specs.Palette.{tile_in};
 ghost use Rattle.quantizer.specs.Growing.{tile_needs};
 ghost use Rattle.quantizer_matches.specs.Matches.{Matched};
 
+use palette::Tile;
+
 // The distance of each colour's nearest, times its count.
-pub fn for_each_match(
-    sub: &[f32],
-    tile: &[f32],
-    counts: &[u32],
-    w: f32,
-    base: usize,
-    total: &mut [f32],
-)
-    requires { Matched sub.now (tile_with tile.now counts.now) base (length total.old) }
-    ensures { total.new ≡ tile_needs sub.now (tile_with tile.now counts.now) w base total.old (length counts.now) }
+pub fn for_each_match(sub: &[f32], tile: &Tile, w: f32, base: usize, total: &mut [f32])
+    requires { Matched sub.now (tile_in tile.now) base (length total.old) }
+    ensures { total.new ≡ tile_needs sub.now (tile_in tile.now) w base total.old (length tile.now.counts.now) }
 {
-    for (k, &pixels) in counts.iter().enumerate() {
-        let near = palette::nearest(sub, color::colour(tile, k), w);
+    for (k, &pixels) in tile.counts.iter().enumerate() {
+        let near = palette::nearest(sub, color::colour(tile.colours, k), w);
         let p = base + near.index;
         let m = pixels as f32;
         total[p] += near.dist * m;

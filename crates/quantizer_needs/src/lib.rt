@@ -25,12 +25,9 @@ fn tile_step(job: &Job, pal: &[f32], have: usize, hints: &mut [u32], i: usize, t
     let best = palette_tile::tile_fit(job, pal, job.sizes.s, have, hints, i);
     let winner = best.index;
     let sub = palette::part(pal, job.sizes.c, have, winner);
-    let tile = job.tile_part(i);
-    let part = job.counts_part(i);
     quantizer_matches::for_each_match(
         sub,
-        tile,
-        part,
+        &palette_tile::tile(job, i),
         job.sizes.weight,
         winner * job.sizes.c,
         total,

@@ -3,7 +3,7 @@
 use Rattle.std.specs.Prelude.{ℕ, ◌≤◌, ◌≡◌, Bool, true, List, ◌++◌, length}
 use Rattle.job.specs.Job.{most_subpalettes, most_colours}
 use Rattle.quantizer.specs.Course.{Course}
-use Rattle.answer.specs.declared.Refusal.{Refusal}
+use Rattle.answer.specs.Refusals.{Answered}
 use Rattle.answer.specs.Rules.{answer}
 use Rattle.run_stages.specs.Record.{state_rules}
 use Rattle.run_stages.specs.Calls.{Memory, record_words, state_of, job_rules}
@@ -18,5 +18,5 @@ pub record Lends (s c : ℕ) (r p : Bool) (words : List ℕ) : Type 0 where
   pub recorded : r ≡ true → length words ≡ record_words
 
 -- what a call of a run is answered before its own rules
-unfoldable pub run_answer : Course → Memory → Bool → Refusal
+unfoldable pub run_answer : Course → Memory → Bool → Answered
 run_answer K m room = answer (job_rules K room ++ state_rules K (state_of m))

@@ -2,14 +2,16 @@
 // Every check takes what a stranger wrote: no sum or product in it can wrap.
 #![tactic(auto)]
 
-ghost use Rattle.std.specs.Prelude.{◌≡◌, true, ◌&&◌, ◌*◌, eqb, length};
-ghost use Rattle.quantizer.specs.Course.{course_of};
-ghost use Rattle.run_stages.specs.Calls.{memory, record_words, memory_room, colours_room, start_answer, advance_answer, hand_in_answer, result_answer};
+ghost use Rattle.std.specs.Prelude.{◌≡◌, IfOk, true, ◌&&◌, ◌*◌, eqb, length};
+ghost use Rattle.answer.specs.Refusals.{refusal_of};
+ghost use Rattle.quantizer.specs.Course.{course_in};
+ghost use Rattle.run_stages.specs.Calls.{memory, record_of, record_words, memory_room, colours_room, start_answer, advance_answer, hand_in_answer, result_answer};
 ghost use Rattle.run_check.specs.Room.{SameInRange, Lends, run_answer};
 ghost use Rattle.run_record.specs.Sized.{plain};
 
 use answer::Refusal;
 use job::Sizes;
+use quantizer::Course;
 use run_stages::Record;
 
 const MOST_SUBPALETTES: usize = 16;
@@ -77,135 +79,109 @@ fn wider_room(
     colours_room(z.s, z.c, more.len())
 }
 
-// The job's numbers, then those of what a run holds. `room` says whether the slices lent have their lengths.
+// The job's numbers, then those of what a run holds, whose record is read. `room` says whether the slices lent have their lengths.
 fn check_run(
-    z: Sizes,
-    tiles: &[u32],
-    colours: &[f32],
-    counts: &[u32],
-    samples: &[u32],
+    course: &Course,
     order: &[u32],
     hints: &[u32],
     palette: &[f32],
     least: &[f32],
     words: &[u64],
     room: bool,
-) -> Refusal
+) -> Result<Record, Refusal>
     requires { room ≡ true → length words.now ≡ record_words }
-    ensures { result ≡ run_answer (course_of z tiles.now colours.now counts.now samples.now)
-        (memory order.now hints.now palette.now least.now words.now) room }
+    ensures answered { refusal_of result ≡ run_answer (course_in course.now) (memory order.now hints.now palette.now least.now words.now) room }
+    ensures read { IfOk result (λ r. r ≡ record_of words.now) }
 {
-    let a = job_check::check_sampled(z, tiles, colours, counts, samples, room);
-    if a.number != 0 {
-        return a;
-    }
+    job_check::check_sampled(&course.job, course.samples, room)?;
     let r = run_record::record_of(words);
-    run_state::check_state(z, order, palette, least, r)
+    run_state::check_state(course.job.sizes, order, palette, least, r)?;
+    Ok(r)
 }
 
 // ---- the calls
 
-pub fn refuses_start(
-    z: Sizes,
-    tiles: &[u32],
-    colours: &[f32],
-    counts: &[u32],
-    samples: &[u32],
+pub fn check_start(
+    course: &Course,
     order: &[u32],
     hints: &[u32],
     palette: &[f32],
     least: &[f32],
     words: &[u64],
-) -> Refusal
-    ensures { result ≡ start_answer (course_of z tiles.now colours.now counts.now samples.now)
+) -> Result<(), Refusal>
+    ensures { refusal_of result ≡ start_answer (course_in course.now)
         (memory order.now hints.now palette.now least.now words.now) }
 {
-    let room = memory_room(z, order, hints, palette, least, words);
-    job_check::check_sampled(z, tiles, colours, counts, samples, room)
+    let room = memory_room(course.job.sizes, order, hints, palette, least, words);
+    job_check::check_sampled(&course.job, course.samples, room)
 }
 
-pub fn refuses_advance(
-    z: Sizes,
-    tiles: &[u32],
-    colours: &[f32],
-    counts: &[u32],
-    samples: &[u32],
+pub fn check_advance(
+    course: &Course,
     order: &[u32],
     hints: &[u32],
     palette: &[f32],
     least: &[f32],
     words: &[u64],
-) -> Refusal
-    ensures { result ≡ advance_answer (course_of z tiles.now colours.now counts.now samples.now)
+) -> Result<(), Refusal>
+    ensures { refusal_of result ≡ advance_answer (course_in course.now)
         (memory order.now hints.now palette.now least.now words.now) }
 {
-    let room = memory_room(z, order, hints, palette, least, words);
-    let a = check_run(
-        z, tiles, colours, counts, samples, order, hints, palette, least, words, room,
-    );
-    if a.number != 0 {
-        return a;
+    let room = memory_room(course.job.sizes, order, hints, palette, least, words);
+    let r = check_run(course, order, hints, palette, least, words, room)?;
+    if !run_record::makes_draws(r.stage) {
+        return Err(Refusal::Moment);
     }
-    if !run_record::makes_draws(words[1]) {
-        return answer::MOMENT;
-    }
-    answer::DONE
+    Ok(())
 }
 
-pub fn refuses_hand_in(
-    z: Sizes,
-    tiles: &[u32],
-    colours: &[f32],
-    counts: &[u32],
-    samples: &[u32],
+pub fn check_hand_in(
+    course: &Course,
     order: &[u32],
     hints: &[u32],
     palette: &[f32],
     least: &[f32],
     words: &[u64],
     reduced: &[f32],
-) -> Refusal
-    ensures { result ≡ hand_in_answer (course_of z tiles.now colours.now counts.now samples.now)
+) -> Result<(), Refusal>
+    ensures { refusal_of result ≡ hand_in_answer (course_in course.now)
         (memory order.now hints.now palette.now least.now words.now) reduced.now }
 {
-    let room = wider_room(z, order, hints, palette, least, words, reduced);
-    let a = check_run(
-        z, tiles, colours, counts, samples, order, hints, palette, least, words, room,
+    let room = wider_room(
+        course.job.sizes,
+        order,
+        hints,
+        palette,
+        least,
+        words,
+        reduced,
     );
-    if a.number != 0 {
-        return a;
+    let r = check_run(course, order, hints, palette, least, words, room)?;
+    if !run_record::is_stop(r.stage) {
+        return Err(Refusal::Moment);
     }
-    if !run_record::is_stop(words[1]) {
-        return answer::MOMENT;
+    if let Some(i) = job::bad_colour(0, reduced, job::MOST_COMPONENT) {
+        return Err(Refusal::ReducedColour(i));
     }
-    job::check_colours(17, 0, reduced, job::MOST_COMPONENT)
+    Ok(())
 }
 
-pub fn refuses_result(
-    z: Sizes,
-    tiles: &[u32],
-    colours: &[f32],
-    counts: &[u32],
-    samples: &[u32],
+pub fn check_result(
+    course: &Course,
     order: &[u32],
     hints: &[u32],
     palette: &[f32],
     least: &[f32],
     words: &[u64],
     out: &[f32],
-) -> Refusal
-    ensures { result ≡ result_answer (course_of z tiles.now colours.now counts.now samples.now)
+) -> Result<(), Refusal>
+    ensures { refusal_of result ≡ result_answer (course_in course.now)
         (memory order.now hints.now palette.now least.now words.now) out.now }
 {
-    let room = wider_room(z, order, hints, palette, least, words, out);
-    let a = check_run(
-        z, tiles, colours, counts, samples, order, hints, palette, least, words, room,
-    );
-    if a.number != 0 {
-        return a;
+    let room = wider_room(course.job.sizes, order, hints, palette, least, words, out);
+    let r = check_run(course, order, hints, palette, least, words, room)?;
+    if !run_cycle::is_finished(r.stage) {
+        return Err(Refusal::Moment);
     }
-    if !run_cycle::is_finished(words[1]) {
-        return answer::MOMENT;
-    }
-    answer::DONE
+    Ok(())
 }

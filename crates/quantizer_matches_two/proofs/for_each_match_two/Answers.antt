@@ -6,7 +6,7 @@ use native.Mathlib.Omega.{arith}
 use lib.ListN.{length}
 use lib.Ieee.{Float}
 use Rattle.color.specs.declared.Oklab.{Oklab}
-use Rattle.palette.specs.Palette.{tile_with}
+use Rattle.palette.specs.Palette.{tile_in}
 use Rattle.palette_two.specs.PaletteTwo.{nearest_two_of}
 use Rattle.quantizer.specs.Replacing.{shares}
 use Rattle.quantizer_matches_two.proofs.Walks.{shares-start, shares-wide, match_asks, match_more, one-after, four-after}
@@ -26,11 +26,11 @@ pub add_nearest-requires : goal.add_nearest-requires
 add_nearest-requires c =
     let r = c.nearest_two-r.ensures ∙ nearest-of _ _ _ _ c.colour.ensures in
     let W = shares-wide _ _ _ _ _ _ (length c.args.total.now) _ (record { had = refl; lost = c.requires.1 }) c.loop-k.invariant.1 in
-    match_asks _ (tile_with c.args.tile.now c.args.counts.now) _ c.args.base c.loop-k.k _ r _ c.requires.0 (shares c.loop-k.total c.loop-k.second) W _ (omega arith)
+    match_asks _ (tile_in c.args.tile.now) _ c.args.base c.loop-k.k _ r _ c.requires.0 (shares c.loop-k.total c.loop-k.second) W _ (omega arith)
 
 pub loop-k-preserved : goal.loop-k-preserved
 loop-k-preserved c =
-    let X = tile_with c.args.tile.now c.args.counts.now in
+    let X = tile_in c.args.tile.now in
     let b = c.args.base in
     let k = c.loop-k.k in
     let r = c.nearest_two-r.ensures ∙ nearest-of _ _ _ _ c.colour.ensures in
