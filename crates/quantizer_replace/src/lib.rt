@@ -3,38 +3,28 @@
 #![tactic(auto)]
 
 ghost use Rattle.std.specs.Prelude.{◌≡◌, length};
-ghost use Rattle.job.specs.Job.{job_of};
+ghost use Rattle.job.specs.Job.{job_in};
 ghost use Rattle.palette_tile.specs.Tiles.{Shown};
 ghost use Rattle.quantizer.specs.Replacing.{replaced, replaced_hints};
 ghost use Rattle.quantizer_replace.specs.Weakest.{weakest_of};
 
-use job::Sizes;
+use job::Job;
 use quantizer::Swap;
 
 // The subpalette that gives way and the one that has most, from the sums over all tiles; with one subpalette no best_two is asked for.
-fn weakest_palette(
-    z: Sizes,
-    tiles: &[u32],
-    colours: &[f32],
-    counts: &[u32],
-    pal: &[f32],
-    hints: &mut [u32],
-) -> Option<Swap>
-    requires { Shown (job_of z tiles.now colours.now counts.now) pal.now z.s z.c × (length hints.old ≡ z.t) }
-    ensures { (result ≡ weakest_of (job_of z tiles.now colours.now counts.now) pal.now)
-        × (hints.new ≡ replaced_hints (job_of z tiles.now colours.now counts.now) pal.now hints.old) }
+fn weakest_palette(job: &Job, pal: &[f32], hints: &mut [u32]) -> Option<Swap>
+    requires { Shown (job_in job.now) pal.now job.now.sizes.s job.now.sizes.c × (length hints.old ≡ job.now.sizes.t) }
+    ensures { (result ≡ weakest_of (job_in job.now) pal.now)
+        × (hints.new ≡ replaced_hints (job_in job.now) pal.now hints.old) }
 {
-    let subs = z.s;
+    let subs = job.sizes.s;
     if subs == 1 {
         return None;
     }
     let mut total_palette_mse = [0.0f32; 16];
     let mut removed_palette_mse = [0.0f32; 16];
     quantizer_palette_sums::palette_sums(
-        z,
-        tiles,
-        colours,
-        counts,
+        job,
         pal,
         hints,
         &mut total_palette_mse,
@@ -44,20 +34,13 @@ fn weakest_palette(
 }
 
 // A colour in each subpalette, then a subpalette.
-pub fn replace_weakest(
-    z: Sizes,
-    tiles: &[u32],
-    colours: &[f32],
-    counts: &[u32],
-    pal: &mut [f32],
-    hints: &mut [u32],
-)
-    requires { Shown (job_of z tiles.now colours.now counts.now) pal.old z.s z.c × (length hints.old ≡ z.t) }
-    ensures { (pal.new ≡ replaced (job_of z tiles.now colours.now counts.now) pal.old)
-        × (hints.new ≡ replaced_hints (job_of z tiles.now colours.now counts.now) pal.old hints.old) }
+pub fn replace_weakest(job: &Job, pal: &mut [f32], hints: &mut [u32])
+    requires { Shown (job_in job.now) pal.old job.now.sizes.s job.now.sizes.c × (length hints.old ≡ job.now.sizes.t) }
+    ensures { (pal.new ≡ replaced (job_in job.now) pal.old)
+        × (hints.new ≡ replaced_hints (job_in job.now) pal.old hints.old) }
 {
     // From the palette as it stands: the replaced colours do not count.
-    let weakest = weakest_palette(z, tiles, colours, counts, pal, hints);
-    quantizer_recolor::replace_colors(z, tiles, colours, counts, pal, hints);
-    quantizer_swap::swap_subpalette(pal, z.c, weakest)
+    let weakest = weakest_palette(job, pal, hints);
+    quantizer_recolor::replace_colors(job, pal, hints);
+    quantizer_swap::swap_subpalette(pal, job.sizes.c, weakest)
 }
