@@ -3,18 +3,12 @@
 #![tactic(auto)]
 
 ghost use Rattle.std.specs.Prelude.{◌≡◌};
-ghost use Rattle.quantizer.specs.Course.{course_of};
+ghost use Rattle.quantizer.specs.Course.{course_in};
 ghost use Rattle.quantizer_nudge.specs.Nudges.{moved_by, hints_by, Drawing};
-
-use job::Sizes;
 
 // Sample i nudges a colour by alpha; `subs` subpalettes of `have` colours are present.
 pub fn nudge(
-    z: Sizes,
-    tiles: &[u32],
-    colours: &[f32],
-    counts: &[u32],
-    samples: &[u32],
+    course: &Course,
     pal: &mut [f32],
     subs: usize,
     have: usize,
@@ -22,15 +16,19 @@ pub fn nudge(
     i: usize,
     alpha: f32,
 )
-    requires { Drawing (course_of z tiles.now colours.now counts.now samples.now) pal.old subs have hints.old i }
-    ensures { (pal.new ≡ moved_by (course_of z tiles.now colours.now counts.now samples.now) pal.old subs have i alpha)
-        × (hints.new ≡ hints_by (course_of z tiles.now colours.now counts.now samples.now) pal.old subs have i hints.old) }
+    requires { Drawing (course_in course.now) pal.old subs have hints.old i }
+    ensures { (pal.new ≡ moved_by (course_in course.now) pal.old subs have i alpha)
+        × (hints.new ≡ hints_by (course_in course.now) pal.old subs have i hints.old) }
 {
-    let tile = quantizer_sample::sample_tile(samples, i);
-    let q = quantizer_sample::sample_colour(tiles, colours, samples, i);
-    let best = palette_tile::tile_fit(z, tiles, colours, counts, pal, subs, have, hints, tile);
+    let tile = quantizer_sample::sample_tile(course, i);
+    let q = quantizer_sample::sample_colour(course, i);
+    let best = palette_tile::tile_fit(&course.job, pal, subs, have, hints, tile);
     let winner = best.index;
-    let near = palette::nearest(palette::part(pal, z.c, have, winner), q, z.weight);
+    let near = palette::nearest(
+        palette::part(pal, course.job.sizes.c, have, winner),
+        q,
+        course.job.sizes.weight,
+    );
     let k = near.index;
-    palette_edit::nudge(pal, winner * z.c + k, q, alpha);
+    palette_edit::nudge(pal, winner * course.job.sizes.c + k, q, alpha);
 }
