@@ -7,7 +7,7 @@ use mathlib.Core.List.{List}
 use lib.ListN.{length}
 use lib.Seq.{sets}
 use lib.Ieee.{Float}
-use Rattle.answer.specs.Refusals.{Answered}
+use Rattle.answer.specs.Refusals.{by_number}
 use Rattle.answer.specs.Outcome.{Outcome, outcome}
 use Rattle.answer.proofs.Outcomes.{decided-done}
 use Rattle.job.specs.Job.{Job}
@@ -15,9 +15,10 @@ use Rattle.job.specs.Checks.{plain_answer}
 use Rattle.job.proofs.Ready.{plain_ready}
 use Rattle.sheet_format.specs.Sheet.{edition_of}
 use Rattle.sheet.proofs.Files.{file_long, stored_in-place}
-use Rattle.sheet.specs.declared.Writing.{Writing}
-use Rattle.sheet.specs.declared.Writing.TheVariants.{Refused, Bytes}
-use Rattle.sheet.specs.Sheets.{file_of, write_def}
+use Rattle.std.specs.Prelude.{Result, Ok, Err}
+use Rattle.std.specs.Result.{result_unwrap_or}
+use Rattle.answer.specs.declared.Refusal.{Refusal}
+use Rattle.sheet.specs.Sheets.{Writing, file_of, write_def}
 use Rattle.sheet_parts.specs.Front.{Writable}
 use Rattle.fit_lines.specs.Lines.{Stored}
 
@@ -38,26 +39,24 @@ module _ (J : Job) (p : List Float) (out : List ℕ) (W : Writable J p) (room : 
   abbrev file : List ℕ
   file = file_of J p
 
-  by_writer : write_def J p out ≡ outcome (Bytes (length file)) (sets out 0 file)
+  by_writer : write_def J p out ≡ outcome (Ok (length file)) (sets out 0 file)
   unfolding write_def
   by_writer = decided-done (plain_answer J p true) _ _ out W.passed ∙ stored_in-place file out W.small (omega (arith, W.small))
 
-  module _ (r : Writing) (after : List ℕ) (e : outcome r after ≡ write_def J p out) where
-    answer : r ≡ Bytes (length file)
+  module _ (r : Result ℕ Refusal) (after : List ℕ) (e : outcome (by_number r) after ≡ write_def J p out) where
+    answer : by_number r ≡ Ok (length file)
     answer = ap (λ (o : Outcome Writing (List ℕ)). o.answer) (e ∙ by_writer)
 
-    pub never : (y : Answered) → r ≡ Refused y → ⊥
-    never y f = let g = answer in let z : ◌≡◌ {A = ℕ} 0 1 = cc in omega arith
+    -- the writer refuses none, and says how many bytes there are
+    pub number : result_unwrap_or r 0 ≡ length file
+    number = by r answer
+      where
+        by : (x : Result ℕ Refusal) → by_number x ≡ Ok (length file) → result_unwrap_or x 0 ≡ length file
+        by (Ok n) f = cc
+        by (Err y) f = let z : ◌≡◌ {A = ℕ} 0 1 = cc in omega arith
 
-    module _ (n : ℕ) (f : r ≡ Bytes n) where
-      number : n ≡ length file
-      number = let g = answer in cc
+    pub file_stored : (n : ℕ) → n ≡ result_unwrap_or r 0 → Stored out after 0 n file
+    file_stored n f = record { text = ap (λ (o : Outcome Writing (List ℕ)). o.after) (e ∙ by_writer); place = omega (arith, f, number) }
 
-      pub file_stored : Stored out after 0 n file
-      file_stored = record { text = ap (λ (o : Outcome Writing (List ℕ)). o.after) (e ∙ by_writer); place = number ∙ none (length file) }
-        where
-          none : (k : ℕ) → k ≡ 0 + k
-          none k = omega arith
-
-      pub file_short : n ≤ 65536
-      file_short = omega (arith, number, W.small)
+    pub file_short : (n : ℕ) → n ≡ result_unwrap_or r 0 → n ≤ 65536
+    file_short n f = omega (arith, f, number, W.small)

@@ -23,9 +23,8 @@ use Rattle.fits.proofs.Shown.{shown}
 use Rattle.sheet_format.specs.declared.Edition.{Edition}
 use Rattle.sheet_format.specs.Sheet.{Sheet, edition_of, read_sheet}
 use Rattle.sheet_format.specs.Lists.{floats}
-use Rattle.sheet.specs.declared.Reading.{Reading}
-use Rattle.sheet.specs.declared.Reading.TheVariants as reading
-use Rattle.sheet.specs.Sheets.{sizes_in, job_in, Room, room, roomy, enough, filled, read_into, read_def}
+use Rattle.std.specs.Prelude.{Ok, Err}
+use Rattle.sheet.specs.Sheets.{Reading, sizes_in, job_in, Room, room, roomy, enough, filled, read_into, read_def}
 use Rattle.sheet.proofs.Inverse.{accepted-few, accepted-job, file_again}
 use Rattle.sheet.proofs.Accepted.{within_limit}
 use Rattle.sheet_parts.specs.Front.{Writable, colours_to, front_job, front_palette, Front}
@@ -133,23 +132,23 @@ module _ (size : ℕ) where
       unfolding read_def
       by_sheet = e ∙ ap₂ (λ (s t : Bool). read_into E (cond s (cond t (read_sheet E b) (refused (refusal 3 0))) (refused (refusal 2 0))) h) there roomed
 
-      apart : (y : Answered) (z : Sizes) → ◌≡◌ {A = Reading} (reading.Refused y) (reading.Sheet z) → ⊥
+      apart : (y : Answered) (z : Sizes) → ◌≡◌ {A = Reading} (Err y) (Ok z) → ⊥
       apart y z k = let f : ◌≡◌ {A = ℕ} 0 1 = cc in omega arith
 
-      pub refused_says : (y : Answered) → r ≡ reading.Refused y → read_sheet E b ≡ refused y
+      pub refused_says : (y : Answered) → r ≡ Err y → read_sheet E b ≡ refused y
       refused_says y f = by (read_sheet E b) refl by_sheet
         where
-          same : (y z : Answered) → ◌≡◌ {A = Reading} (reading.Refused y) (reading.Refused z) → y ≡ z
+          same : (y z : Answered) → ◌≡◌ {A = Reading} (Err y) (Err z) → y ≡ z
           same y z k = cc
 
           by : (x : Answer Sheet) → read_sheet E b ≡ x → outcome r after ≡ read_into E x h → read_sheet E b ≡ refused y
           by (refused z) k g = k ∙ ap refused (sym (same y z (sym f ∙ ap (λ (o : Outcome Reading Room). o.answer) g)))
           by (accepted x) k g = absurd (apart y (sizes_in E x) (sym f ∙ ap (λ (o : Outcome Reading Room). o.answer) g))
 
-      pub sheet_says : T (are_bytes b) → (z : Sizes) → r ≡ reading.Sheet z → Given b after z
+      pub sheet_says : T (are_bytes b) → (z : Sizes) → r ≡ Ok z → Given b after z
       sheet_says bytes z f = by (read_sheet E b) refl by_sheet
         where
-          same : (z y : Sizes) → ◌≡◌ {A = Reading} (reading.Sheet z) (reading.Sheet y) → z ≡ y
+          same : (z y : Sizes) → ◌≡◌ {A = Reading} (Ok z) (Ok y) → z ≡ y
           same z y k = cc
 
           by : (x : Answer Sheet) → read_sheet E b ≡ x → outcome r after ≡ read_into E x h → Given b after z

@@ -21,9 +21,8 @@ use Rattle.fit_lines.specs.Lines.{Stored, refused_line}
 use Rattle.sheet_format.specs.Sheet.{Sheet, edition_of, read_sheet}
 use Rattle.sheet_format.specs.Opened.{size_in}
 use Rattle.sheet.proofs.Editions.{asked_sized}
-use Rattle.sheet.specs.declared.Reading.{Reading}
-use Rattle.sheet.specs.declared.Reading.TheVariants as reading
-use Rattle.sheet.specs.Sheets.{Room, read_def}
+use Rattle.std.specs.Prelude.{Ok, Err}
+use Rattle.sheet.specs.Sheets.{Reading, Room, read_def}
 use Rattle.sheet_parts.specs.Front.{front_job, front_palette, Front}
 use Rattle.sheet_parts.specs.Texts.{sheet_text, text_at, text_for, printed_in}
 use Rattle.sheet_parts.proofs.Readings.{Lengths, refused_says, sheet_says}
@@ -38,17 +37,17 @@ module _ (b : List ℕ) (size : ℕ) (asked : size ≡ size_in b) (h : Room) (L 
     by_reading a k s =
         subst (λ (n : ℕ). Stored found out 0 m (text_at f n b)) asked (subst (λ (x : Answer Sheet). Stored found out 0 m (sheet_text f (edition_of size) x)) (sym k) s)
 
-    pub refused-text : (y : Answered) → r ≡ reading.Refused y → Stored found out 0 m (refused_line y.number) → Stored found out 0 m (text_for f b)
+    pub refused-text : (y : Answered) → r ≡ Err y → Stored found out 0 m (refused_line y.number) → Stored found out 0 m (text_for f b)
     refused-text y g s = by_reading _ (refused_says size b h L there r after e y g) s
 
-    pub front_text : T (are_bytes b) → (z : Sizes) → r ≡ reading.Sheet z
+    pub front_text : T (are_bytes b) → (z : Sizes) → r ≡ Ok z
         → Stored found out 0 m (f (front_job z after.tiles after.colours after.counts) (front_palette z after.palette))
         → Stored found out 0 m (text_for f b)
     front_text bytes z g s =
         let G = sheet_says size b h L there r after e bytes z g in
         by_reading _ G.is (subst₂ (λ (J : Job) (p : List Float). Stored found out 0 m (f J p)) G.job G.palette s)
 
-  pub held : T (are_bytes b) → (z : Sizes) → r ≡ reading.Sheet z → Front z after.tiles after.colours after.counts after.palette
+  pub held : T (are_bytes b) → (z : Sizes) → r ≡ Ok z → Front z after.tiles after.colours after.counts after.palette
   held bytes z g = (sheet_says size b h L there r after e bytes z g).front
 
 -- ---- the outcome
