@@ -3,12 +3,12 @@
 #![tactic(auto)]
 
 ghost use Rattle.std.specs.Prelude.{◌≡◌, length};
-ghost use Rattle.job.specs.Job.{job_of};
+ghost use Rattle.job.specs.Job.{job_in};
 ghost use Rattle.palette_tile.specs.Tiles.{hints_of, Shown};
 ghost use Rattle.quantizer.specs.Refining.{gather, means_of, refined};
 ghost use Rattle.quantizer_mean.specs.Means.{Meaning};
 
-use job::Sizes;
+use job::Job;
 
 // The first n colours become the means of their sums.
 fn write_means(pal: &mut [f32], n: usize, sums: &[f32], cnts: &[u32])
@@ -21,20 +21,13 @@ fn write_means(pal: &mut [f32], n: usize, sums: &[f32], cnts: &[u32])
 }
 
 // All s subpalettes of c colours are recentred; the hints name each tile's winner.
-pub fn refine(
-    z: Sizes,
-    tiles: &[u32],
-    colours: &[f32],
-    counts: &[u32],
-    pal: &mut [f32],
-    hints: &mut [u32],
-)
-    requires { Shown (job_of z tiles.now colours.now counts.now) pal.old z.s z.c × (length hints.old ≡ z.t) }
-    ensures { (pal.new ≡ refined (job_of z tiles.now colours.now counts.now) pal.old)
-        × (hints.new ≡ hints_of (job_of z tiles.now colours.now counts.now) pal.old z.s z.c hints.old z.t) }
+pub fn refine(job: &Job, pal: &mut [f32], hints: &mut [u32])
+    requires { Shown (job_in job.now) pal.old job.now.sizes.s job.now.sizes.c × (length hints.old ≡ job.now.sizes.t) }
+    ensures { (pal.new ≡ refined (job_in job.now) pal.old)
+        × (hints.new ≡ hints_of (job_in job.now) pal.old job.now.sizes.s job.now.sizes.c hints.old job.now.sizes.t) }
 {
     let mut sums = [0.0f32; 768];
     let mut cnts = [0u32; 256];
-    quantizer_gather::gather_all(z, tiles, colours, counts, pal, hints, &mut sums, &mut cnts);
-    write_means(pal, z.s * z.c, &sums, &cnts);
+    quantizer_gather::gather_all(job, pal, hints, &mut sums, &mut cnts);
+    write_means(pal, job.sizes.s * job.sizes.c, &sums, &cnts);
 }
