@@ -31,12 +31,9 @@ fn gather_step(
     let best = palette_tile::tile_fit(job, pal, job.sizes.s, job.sizes.c, hints, i);
     let winner = best.index;
     let sub = palette::part(pal, job.sizes.c, job.sizes.c, winner);
-    let tile = job.tile_part(i);
-    let part = job.counts_part(i);
     quantizer_gather_tile::gather_tile(
         sub,
-        tile,
-        part,
+        &palette_tile::tile(job, i),
         job.sizes.weight,
         winner * job.sizes.c,
         sums,

@@ -3,11 +3,12 @@
 #![tactic(auto)]
 
 ghost use Rattle.std.specs.Prelude.{◌≡◌, length};
-ghost use Rattle.palette.specs.Palette.{tile_with};
+ghost use Rattle.palette.specs.Palette.{tile_in};
 ghost use Rattle.quantizer.specs.Refining.{gather, add_at, tile_gather};
 ghost use Rattle.quantizer_gather_tile.specs.Gathers.{Adding, Gathering};
 
 use color::Oklab;
+use palette::Tile;
 
 // m pixels of the colour q go to the sum and the count at p.
 fn add_at(sums: &mut [f32], cnts: &mut [u32], p: usize, q: Oklab, m: u32)
@@ -22,19 +23,18 @@ fn add_at(sums: &mut [f32], cnts: &mut [u32], p: usize, q: Oklab, m: u32)
 // A tile's colours go to the colours of `sub` that are nearest to them, whose sums begin at `base`.
 pub fn gather_tile(
     sub: &[f32],
-    tile: &[f32],
-    counts: &[u32],
+    tile: &Tile,
     w: f32,
     base: usize,
     sums: &mut [f32],
     cnts: &mut [u32],
 )
-    requires { Gathering sub.now (tile_with tile.now counts.now) base (gather sums.old cnts.old) }
+    requires { Gathering sub.now (tile_in tile.now) base (gather sums.old cnts.old) }
     ensures { gather sums.new cnts.new
-        ≡ tile_gather sub.now (tile_with tile.now counts.now) w base (gather sums.old cnts.old) (length counts.now) }
+        ≡ tile_gather sub.now (tile_in tile.now) w base (gather sums.old cnts.old) (length tile.now.counts.now) }
 {
-    for (k, &pixels) in counts.iter().enumerate() {
-        let q = color::colour(tile, k);
+    for (k, &pixels) in tile.counts.iter().enumerate() {
+        let q = color::colour(tile.colours, k);
         let near = palette::nearest(sub, q, w);
         add_at(sums, cnts, base + near.index, q, pixels);
     }
