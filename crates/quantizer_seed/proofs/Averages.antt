@@ -10,7 +10,7 @@ use Rattle.color.specs.Color.{put_at, mean_of}
 use Rattle.quantizer.specs.Course.{Course, sample_colour}
 use Rattle.quantizer.specs.Seeding.{seed_mean, seeded}
 use Rattle.quantizer_sample.proofs.Course.{told}
-use Rattle.quantizer_seed.specs.Seeds.{told_colour, Averaging, Seeding}
+use Rattle.quantizer_seed.specs.Seeds.{Averaging, Seeding}
 
 module _ (K : Course) (pal : List Float) (D : Seeding K pal) where
   pairs : length K.samples / 2 ≡ K.n
@@ -24,6 +24,6 @@ module _ (K : Course) (pal : List Float) (D : Seeding K pal) where
         told = λ i l. told K i D.sampling (omega (arith, pairs));
       }
 
-  pub seed-done : (after : List Float) (mean : Oklab) → mean ≡ mean_of (told_colour K.job.tiles K.job.colours K.samples) (length K.samples / 2) → after ≡ put_at pal 0 mean → after ≡ seeded K pal
-  unfolding seeded seed_mean sample_colour
+  pub seed-done : (after : List Float) (mean : Oklab) → mean ≡ mean_of (sample_colour K) (length K.samples / 2) → after ≡ put_at pal 0 mean → after ≡ seeded K pal
+  unfolding seeded seed_mean
   seed-done after mean e f = f ∙ ap (put_at pal 0) (e ∙ ap (mean_of (sample_colour K)) pairs)

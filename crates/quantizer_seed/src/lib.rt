@@ -3,43 +3,36 @@
 
 ghost use Rattle.std.specs.Prelude.{◌≡◌, ◌/◌, length};
 ghost use Rattle.color.specs.Color.{mean_of};
-ghost use Rattle.quantizer.specs.Course.{course_of};
+ghost use Rattle.quantizer.specs.Course.{course_in, sample_colour};
 ghost use Rattle.quantizer.specs.Seeding.{seeded};
-ghost use Rattle.quantizer_seed.specs.Seeds.{told_colour, Averaging, Seeding};
+ghost use Rattle.quantizer_seed.specs.Seeds.{Averaging, Seeding};
 
 use color::Oklab;
-use job::Sizes;
+use quantizer::Course;
 
 // Component-wise mean of the samples' colours, summed in order.
-pub fn mean_oklab(tiles: &[u32], colours: &[f32], samples: &[u32]) -> Oklab
-    requires { Averaging tiles.now colours.now samples.now }
-    ensures { result ≡ mean_of (told_colour tiles.now colours.now samples.now) (length samples.now / 2) }
+pub fn mean_oklab(course: &Course) -> Oklab
+    requires { Averaging course.now.job.tiles.now course.now.job.colours.now course.now.samples.now }
+    ensures { result ≡ mean_of (sample_colour (course_in course.now)) (length course.now.samples.now / 2) }
 {
-    let n = samples.len() / 2;
+    let n = course.samples.len() / 2;
     let mut sum = Oklab {
         l: 0.0,
         a: 0.0,
         b: 0.0,
     };
     for i in 0..n {
-        let q = quantizer_sample::sample_colour(tiles, colours, samples, i);
+        let q = quantizer_sample::sample_colour(course, i);
         sum = color::plus(sum, q);
     }
     color::over(sum, n)
 }
 
 // The first colour of the palette becomes that mean.
-pub fn seed(
-    z: Sizes,
-    tiles: &[u32],
-    colours: &[f32],
-    counts: &[u32],
-    samples: &[u32],
-    pal: &mut [f32],
-)
-    requires { Seeding (course_of z tiles.now colours.now counts.now samples.now) pal.old }
-    ensures { pal.new ≡ seeded (course_of z tiles.now colours.now counts.now samples.now) pal.old }
+pub fn seed(course: &Course, pal: &mut [f32])
+    requires { Seeding (course_in course.now) pal.old }
+    ensures { pal.new ≡ seeded (course_in course.now) pal.old }
 {
-    let mean = mean_oklab(tiles, colours, samples);
+    let mean = mean_oklab(course);
     color::put(pal, 0, mean);
 }
