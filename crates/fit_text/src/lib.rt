@@ -29,17 +29,10 @@ fn put_job(
         (fit_text (front_job z tiles.now colours.now counts.now) (front_palette z palette.now))
         × (result ≤ most_text) }
 {
-    let mut hints = sheet_parts::no_hints();
-    let n = sheet_parts::colours_to(tiles, z.t);
-    fit_tiles::put_fit(
-        z,
-        &tiles[..2 * z.t],
-        &colours[..3 * n],
-        &counts[..n],
-        &palette[..3 * (z.s * z.c)],
-        &mut hints[..z.t],
-        out,
-    )
+    let mut hints: [u32; 1024] = sheet_parts::room(0);
+    let job = sheet_parts::front_job(z, tiles, colours, counts);
+    let given = &palette[..3 * (z.s * z.c)];
+    fit_tiles::put_fit(&job, given, &mut hints[..z.t], out)
 }
 
 // What `fit` prints for these bytes, into `out`, and how many bytes that is: none where `out` has too little room for any sheet.
@@ -50,10 +43,10 @@ pub fn fit(bytes: &[u8], out: &mut [u8]) -> usize
         return 0;
     }
     let size = sheet_format::size_in(bytes);
-    let mut tiles = sheet_parts::tiles_room();
-    let mut colours = sheet_parts::colours_room();
-    let mut counts = sheet_parts::counts_room();
-    let mut palette = sheet_parts::palette_room();
+    let mut tiles: [u32; 2048] = sheet_parts::room(0);
+    let mut colours: [f32; 15420] = sheet_parts::room(0.0);
+    let mut counts: [u32; 5140] = sheet_parts::room(0);
+    let mut palette: [f32; 768] = sheet_parts::room(0.0);
     match sheet::read(
         size,
         bytes,
@@ -62,7 +55,7 @@ pub fn fit(bytes: &[u8], out: &mut [u8]) -> usize
         &mut counts,
         &mut palette,
     ) {
-        sheet::Reading::Refused(e) => fit_lines::put_refused(out, 0, e.number),
-        sheet::Reading::Sheet(z) => put_job(z, &tiles, &colours, &counts, &palette, out),
+        Err(e) => fit_lines::put_refused(out, 0, e.number()),
+        Ok(z) => put_job(z, &tiles, &colours, &counts, &palette, out),
     }
 }

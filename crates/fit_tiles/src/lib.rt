@@ -2,10 +2,10 @@
 // Assumes nothing.
 #![tactic(auto)]
 
-ghost use Rattle.std.specs.Prelude.{◌≡◌, ◌+◌, ◌<◌, ℕ, ◌*◌, ◌≤◌, not, eqb, length, get_or, set};
+ghost use Rattle.std.specs.Prelude.{◌≡◌, ◌+◌, ◌<◌, ℕ, ◌*◌, ◌≤◌, not, length, get_or, set};
 ghost use Rattle.fit_lines.specs.Lines.{Stored};
 ghost use Rattle.lists.specs.Count.{hit};
-ghost use Rattle.job.specs.Job.{job_in, size_of, most_tiles};
+ghost use Rattle.job.specs.Job.{job_in, is_empty, most_tiles};
 ghost use Rattle.palette_tile.specs.Tiles.{Shown, Paired};
 ghost use Rattle.fit_tiles.specs.Text.{found_of, tile_lines, load_lines, load_of, blanks_of, fit_text, most_text};
 
@@ -13,35 +13,30 @@ use fit_lines::Found;
 use job::Job;
 
 // The load of subpalette `sub` with its tile i: an empty one adds nothing.
-fn count_tile(tiles: &[u32], i: usize, sub: u32, loads: &mut [u32])
-    requires { (2 * i + 1 < length tiles.now) × (sub < length loads.old) × (get_or loads.old sub 0 + 1 < 4294967296) }
+fn count_tile(job: &Job, i: usize, sub: u32, loads: &mut [u32])
+    requires { (2 * i + 1 < length job.now.tiles.now) × (sub < length loads.old) × (get_or loads.old sub 0 + 1 < 4294967296) }
     ensures { loads.new
-        ≡ set loads.old sub (get_or loads.old sub 0 + hit (not (eqb (size_of tiles.now i) 0))) }
+        ≡ set loads.old sub (get_or loads.old sub 0 + hit (not (is_empty (job_in job.now) i))) }
 {
     let k = sub as usize;
-    let one = if job::is_empty(tiles, i) { 0 } else { 1 };
+    let one = if job.is_empty(i) { 0 } else { 1 };
     loads[k] += one;
 }
 
-// How many of the first t tiles are empty.
-fn count_blanks(tiles: &[u32], t: usize) -> u32
-    requires { (2 * t ≤ length tiles.now) × (t ≤ most_tiles) }
-    ensures { result ≡ blanks_of tiles.now t }
+// How many tiles are empty.
+fn count_blanks(job: &Job) -> u32
+    requires { (2 * job.now.sizes.t ≤ length job.now.tiles.now) × (job.now.sizes.t ≤ most_tiles) }
+    ensures { result ≡ blanks_of job.now.tiles.now job.now.sizes.t }
 {
     let mut n = 0;
-    for i in 0..t {
-        n += if job::is_empty(tiles, i) { 1 } else { 0 };
+    for i in 0..job.sizes.t {
+        n += if job.is_empty(i) { 1 } else { 0 };
     }
     n
 }
 
 // Tile i: an empty one has subpalette 0, distance 0 and next 0.
-fn tile_found(
-    job: &Job,
-    palette: &[f32],
-    hints: &mut [u32],
-    i: usize,
-) -> Found
+fn tile_found(job: &Job, palette: &[f32], hints: &mut [u32], i: usize) -> Found
     requires { Paired (job_in job.now) palette.now job.now.sizes.s job.now.sizes.c hints.old i }
     ensures { result ≡ found_of (job_in job.now) palette.now i }
 {
@@ -77,7 +72,7 @@ fn put_tiles(
     for i in 0..job.sizes.t {
         let found = tile_found(job, palette, hints, i);
         q = fit_lines::put_tile(out, q, i as u32, found);
-        count_tile(job.tiles, i, found.sub, loads);
+        count_tile(job, i, found.sub, loads);
     }
     q
 }
@@ -95,20 +90,13 @@ fn put_loads(s: usize, loads: &[u32], out: &mut [u8], at: usize) -> usize
 }
 
 // All lines of a job and a palette that passed their checks.
-pub fn put_fit(
-    job: &Job,
-    palette: &[f32],
-    hints: &mut [u32],
-    out: &mut [u8],
-) -> usize
+pub fn put_fit(job: &Job, palette: &[f32], hints: &mut [u32], out: &mut [u8]) -> usize
     requires { Shown (job_in job.now) palette.now job.now.sizes.s job.now.sizes.c × (length hints.old ≡ job.now.sizes.t) × (most_text ≤ length out.old) }
     ensures { Stored out.old out.new 0 result (fit_text (job_in job.now) palette.now) }
 {
     let mut loads = [0u32; 16];
     let a = fit_lines::put_head(out, 0, job.sizes.t as u32, job.sizes.s as u32);
-    let b = put_tiles(
-        job, palette, hints, &mut loads, out, a,
-    );
+    let b = put_tiles(job, palette, hints, &mut loads, out, a);
     let c = put_loads(job.sizes.s, &loads, out, b);
-    fit_lines::put_blank(out, c, count_blanks(job.tiles, job.sizes.t))
+    fit_lines::put_blank(out, c, count_blanks(job))
 }

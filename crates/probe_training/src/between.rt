@@ -4,7 +4,7 @@ ghost use Rattle.job.specs.Job.{sizes_of, job_of};
 ghost use Rattle.palette_tile.specs.Tiles.{Shown};
 ghost use Rattle.quantizer_needs.specs.Asked.{Growing};
 
-use job::Sizes;
+use job::Job;
 
 #[unsafe(no_mangle)]
 pub extern "C" fn probe_mse(
@@ -23,15 +23,13 @@ pub extern "C" fn probe_mse(
 ) -> f32
     requires { Shown (job_of (sizes_of size s c t 0 weight) tiles.now colours.now counts.now) pal.now n have × (length hints.old ≡ t) }
 {
-    let z = Sizes {
-        size,
-        s,
-        c,
-        t,
-        n: 0,
-        weight,
+    let job = Job {
+        sizes: job::sizes_of(size, s, c, t, 0, weight),
+        tiles,
+        colours,
+        counts,
     };
-    palette_mse_sum::mse(z, tiles, colours, counts, pal, n, have, hints)
+    palette_mse_sum::mse(&job, pal, n, have, hints)
 }
 
 #[unsafe(no_mangle)]
@@ -50,15 +48,13 @@ pub extern "C" fn probe_grow(
 )
     requires { Growing (job_of (sizes_of size s c t 0 weight) tiles.now colours.now counts.now) pal.old have hints.old }
 {
-    let z = Sizes {
-        size,
-        s,
-        c,
-        t,
-        n: 0,
-        weight,
+    let job = Job {
+        sizes: job::sizes_of(size, s, c, t, 0, weight),
+        tiles,
+        colours,
+        counts,
     };
-    quantizer_grow::grow_palette(z, tiles, colours, counts, pal, have, hints)
+    quantizer_grow::grow_palette(&job, pal, have, hints)
 }
 
 #[unsafe(no_mangle)]
@@ -76,15 +72,13 @@ pub extern "C" fn probe_replace_weakest(
 )
     requires { Shown (job_of (sizes_of size s c t 0 weight) tiles.now colours.now counts.now) pal.old s c × (length hints.old ≡ t) }
 {
-    let z = Sizes {
-        size,
-        s,
-        c,
-        t,
-        n: 0,
-        weight,
+    let job = Job {
+        sizes: job::sizes_of(size, s, c, t, 0, weight),
+        tiles,
+        colours,
+        counts,
     };
-    quantizer_replace::replace_weakest(z, tiles, colours, counts, pal, hints)
+    quantizer_replace::replace_weakest(&job, pal, hints)
 }
 
 #[unsafe(no_mangle)]
@@ -102,13 +96,11 @@ pub extern "C" fn probe_refine(
 )
     requires { Shown (job_of (sizes_of size s c t 0 weight) tiles.now colours.now counts.now) pal.old s c × (length hints.old ≡ t) }
 {
-    let z = Sizes {
-        size,
-        s,
-        c,
-        t,
-        n: 0,
-        weight,
+    let job = Job {
+        sizes: job::sizes_of(size, s, c, t, 0, weight),
+        tiles,
+        colours,
+        counts,
     };
-    quantizer_refine::refine(z, tiles, colours, counts, pal, hints)
+    quantizer_refine::refine(&job, pal, hints)
 }

@@ -6,8 +6,9 @@ ghost use Rattle.quantizer.specs.Course.{course_of};
 ghost use Rattle.quantizer_draw.specs.Draws.{Going};
 
 use cycle::SampleCycle;
-use job::Sizes;
+use job::Job;
 use prng::Prng;
+use quantizer::Course;
 
 // Gives the generator's state after the draw.
 #[unsafe(no_mangle)]
@@ -35,16 +36,21 @@ pub extern "C" fn probe_draw(
 {
     let prng = Prng { state };
     let mut at = SampleCycle { prng, made };
-    let z = Sizes {
-        size,
-        s,
-        c,
-        t,
-        n,
-        weight,
+    let job = Job {
+        sizes: job::sizes_of(size, s, c, t, n, weight),
+        tiles,
+        colours,
+        counts,
     };
     quantizer_draw::draw(
-        z, tiles, colours, counts, samples, &mut at, order, pal, subs, have, hints, alpha,
+        &Course { job, samples },
+        &mut at,
+        order,
+        pal,
+        subs,
+        have,
+        hints,
+        alpha,
     );
     at.prng.state
 }

@@ -5,7 +5,8 @@ ghost use Rattle.palette_tile.specs.Tiles.{Shown};
 ghost use Rattle.quantizer.specs.Course.{course_of};
 ghost use Rattle.quantizer_seed.specs.Seeds.{Averaging, Seeding};
 
-use job::Sizes;
+use job::Job;
+use quantizer::Course;
 
 #[unsafe(no_mangle)]
 pub extern "C" fn probe_mean(
@@ -18,7 +19,14 @@ pub extern "C" fn probe_mean(
 )
     requires { Averaging tiles.now colours.now samples.now }
 {
-    let mean = quantizer_seed::mean_oklab(tiles, colours, samples);
+    // Neither the sizes of a job nor its counts make a difference to the mean.
+    let job = Job {
+        sizes: job::sizes_of(0, 0, 0, 0, 0, 0.0),
+        tiles,
+        colours,
+        counts: &[],
+    };
+    let mean = quantizer_seed::mean_oklab(&Course { job, samples });
     *l = mean.l;
     *a = mean.a;
     *b = mean.b;
@@ -40,15 +48,13 @@ pub extern "C" fn probe_seed(
 )
     requires { Seeding (course_of (sizes_of size s c t n weight) tiles.now colours.now counts.now samples.now) pal.old }
 {
-    let z = Sizes {
-        size,
-        s,
-        c,
-        t,
-        n,
-        weight,
+    let job = Job {
+        sizes: job::sizes_of(size, s, c, t, n, weight),
+        tiles,
+        colours,
+        counts,
     };
-    quantizer_seed::seed(z, tiles, colours, counts, samples, pal)
+    quantizer_seed::seed(&Course { job, samples }, pal)
 }
 
 #[unsafe(no_mangle)]
@@ -67,13 +73,11 @@ pub extern "C" fn probe_worst(
 ) -> usize
     requires { Shown (job_of (sizes_of size s c t 0 weight) tiles.now colours.now counts.now) pal.now subs 1 × (length hints.old ≡ t) }
 {
-    let z = Sizes {
-        size,
-        s,
-        c,
-        t,
-        n: 0,
-        weight,
+    let job = Job {
+        sizes: job::sizes_of(size, s, c, t, 0, weight),
+        tiles,
+        colours,
+        counts,
     };
-    quantizer_worst::worst(z, tiles, colours, counts, pal, subs, hints)
+    quantizer_worst::worst(&job, pal, subs, hints)
 }

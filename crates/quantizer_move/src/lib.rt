@@ -6,6 +6,8 @@ ghost use Rattle.std.specs.Prelude.{◌≡◌};
 ghost use Rattle.quantizer.specs.Course.{course_in};
 ghost use Rattle.quantizer_nudge.specs.Nudges.{moved_by, hints_by, Drawing};
 
+use quantizer::Course;
+
 // Sample i nudges a colour by alpha; `subs` subpalettes of `have` colours are present.
 pub fn nudge(
     course: &Course,

@@ -6,15 +6,13 @@ use native.Mathlib.Omega.{arith}
 use lib.ListN.{length, set}
 use lib.Ieee.{Float}
 use Rattle.color.specs.declared.Oklab.{Oklab}
-use Rattle.color.specs.Color.{colour_at}
-use Rattle.job.specs.Job.{tile_of}
 use Rattle.stats.specs.declared.Near.{Near}
 use Rattle.palette.specs.Palette.{sub_of, nearest_of}
 use Rattle.palette_edit.specs.Edits.{nudged_at}
 use Rattle.palette_edit.proofs.Kept.{place-room}
 use Rattle.palette_tile.specs.Tiles.{fit_at, winner, Fitted}
 use Rattle.palette_tile.proofs.Present.{shown-present, shown-part, winner-below, part-nearest}
-use Rattle.quantizer.specs.Course.{Course, sample_tile, sample_place}
+use Rattle.quantizer.specs.Course.{Course, sample_tile, sample_colour}
 use Rattle.quantizer.specs.Drawing.{target_of, moved, moved_hints}
 use Rattle.quantizer_sample.specs.Samples.{Told}
 use Rattle.quantizer_sample.proofs.Course.{told, tile-full}
@@ -52,10 +50,10 @@ module _ (K : Course) (pal : List Float) (subs have : ℕ) (hints : List ℕ) (i
         pub place-small : r.index * K.job.C + v.index < 18446744073709551616
         place-small = omega (arith, place_asked, D.shown.room, D.shown.ready.sizes.cells)
 
-        pub draw-done : (alpha : Float) (after : List Float) (told : List ℕ) → q ≡ colour_at (tile_of K.job (sample_tile K i)) (sample_place K i) → told ≡ set hints tile r.index
+        pub draw-done : (alpha : Float) (after : List Float) (told : List ℕ) → q ≡ sample_colour K i → told ≡ set hints tile r.index
             → after ≡ nudged_at pal (r.index * K.job.C + v.index) q alpha
             → (after ≡ moved_by K pal subs have i alpha) × (told ≡ hints_by K pal subs have i hints)
-        unfolding moved target_of moved_hints
+        unfolding moved target_of moved_hints sample_colour
         draw-done alpha after told p m w =
             let best_is : r.index ≡ winner K.job pal subs have (sample_tile K i) = ap (λ (x : Near). x.index) (f ∙ ap (fit_at K.job pal subs have) e) in (
               w

@@ -34,7 +34,7 @@ pub fn palette_sums(
     ensures { (shares total.new removed.new ≡ shares_of (job_in job.now) pal.now job.now.sizes.t)
         × (hints.new ≡ pair_hints (job_in job.now) pal.now hints.old job.now.sizes.t) }
 {
-    for i in 0..z.t {
+    for i in 0..job.sizes.t {
         let r = palette_tile::tile_two(job, pal, job.sizes.s, job.sizes.c, hints, i);
         add_two(total, removed, r);
     }

@@ -2,7 +2,7 @@
 #![tactic(auto)]
 
 ghost use Rattle.std.specs.Prelude.{◌≡◌, [], ◌*◌, ◌^◌, ◌≤◌, length};
-ghost use Rattle.quantizer.specs.Course.{course_of};
+ghost use Rattle.quantizer.specs.Course.{course_in};
 ghost use Rattle.quantizer.specs.Sums.{zeros};
 ghost use Rattle.quantizer.specs.Seeding.{seeded};
 ghost use Rattle.run_stages.specs.State.{state_with};
@@ -12,26 +12,19 @@ ghost use Rattle.run_blank.specs.Blanks.{dealt, Blanking};
 
 use cycle::SampleCycle;
 use job::Sizes;
+use quantizer::Course;
 use run_stages::Record;
 
 // Both palettes are zeroed, and the first colour becomes the mean of the samples.
-pub fn blank(
-    z: Sizes,
-    tiles: &[u32],
-    colours: &[f32],
-    counts: &[u32],
-    samples: &[u32],
-    palette: &mut [f32],
-    least: &mut [f32],
-)
-    requires { Blanking (course_of z tiles.now colours.now counts.now samples.now) palette.old least.old }
-    ensures { (palette.new ≡ seeded (course_of z tiles.now colours.now counts.now samples.now)
-        (zeros (3 * (z.s * z.c))))
-        × (least.new ≡ zeros (3 * (z.s * z.c))) }
+pub fn blank(course: &Course, palette: &mut [f32], least: &mut [f32])
+    requires { Blanking (course_in course.now) palette.old least.old }
+    ensures { (palette.new ≡ seeded (course_in course.now)
+        (zeros (3 * (course.now.job.sizes.s * course.now.job.sizes.c))))
+        × (least.new ≡ zeros (3 * (course.now.job.sizes.s * course.now.job.sizes.c))) }
 {
     run_memory::zero(least);
     run_memory::zero(palette);
-    quantizer_seed::seed(z, tiles, colours, counts, samples, palette);
+    quantizer_seed::seed(course, palette);
 }
 
 // The first order is written; the record stands at the very beginning, with the job's sizes.

@@ -1,15 +1,13 @@
 -- What looking and the stop leave, from what the functions that they call ensure. Assumes nothing.
 use Prim.Native.Nat.{ℕ, ◌*◌, ◌%◌, ◌^◌, ◌<◌}
 use mathlib.Core.Path.{◌≡◌}
-use mathlib.Core.Logic.{◌≢◌}
 use mathlib.Core.Bool.{Bool, true, false, not}
 use mathlib.Core.List.{List, []}
 use native.Mathlib.Omega.{arith}
 use lib.ListN.{length}
 use lib.Dec.{T, ltb, ltb→lt, not_T}
-use lib.Ieee.{Float, binary32, lt, of_bits, to_bits, is_nan, nan_bits}
+use lib.Ieee.{Float, binary32, to_bits, is_nan, nan_bits}
 use lib.Ieee.Bits.{nan_bits_above}
-use borrow.Author.Tests.{eq-eqb, ne_eqb}
 use Rattle.ieee.proofs.Bounds.{within_real}
 use Rattle.palette_mse.proofs.Fine.{mse_error}
 use Rattle.palette_mse.specs.Mse.{mse_of}

@@ -3,15 +3,15 @@
 #![tactic(auto)]
 
 ghost use Rattle.std.specs.Prelude.{◌≡◌, ◌≢◌, [], ◌<◌};
-ghost use Rattle.job.specs.Job.{job_of};
-ghost use Rattle.quantizer.specs.Course.{course_of};
+ghost use Rattle.job.specs.Job.{job_in};
+ghost use Rattle.quantizer.specs.Course.{unsampled};
 ghost use Rattle.run_stages.specs.State.{state_with};
 ghost use Rattle.run_stages.specs.Stages.{enter_reducing};
 ghost use Rattle.run_record.specs.Sized.{plain};
 ghost use Rattle.run_keeping.specs.Keeping.{keeps, seen};
 ghost use Rattle.run_keeping.specs.Closing.{Judging, Ending};
 
-use job::Sizes;
+use job::{Job, Sizes};
 use run_stages::{Record, Stage};
 
 // Whether a palette of error `e` is kept in a round, where the one kept has an error of these bits: the first of equal errors stays.
@@ -25,22 +25,19 @@ fn is_kept(round: u64, e: f32, error: u64) -> bool
 
 // The palette is seen at the start of a round of replacing: it is kept, with its error's bits, or passed by.
 pub fn look(
-    z: Sizes,
-    tiles: &[u32],
-    colours: &[f32],
-    counts: &[u32],
+    job: &Job,
     hints: &mut [u32],
     palette: &[f32],
     least: &mut [f32],
     round: u64,
     r: Record,
 ) -> Record
-    requires { Judging (job_of z tiles.now colours.now counts.now) hints.old palette.now least.old round r }
+    requires { Judging (job_in job.now) hints.old palette.now least.old round r }
     ensures { state_with [] hints.new palette.now least.new result
-        ≡ seen (course_of z tiles.now colours.now counts.now []) round
+        ≡ seen (unsampled job.now) round
         (state_with [] hints.old palette.now least.old r) }
 {
-    let e = palette_mse_sum::mse(z, tiles, colours, counts, palette, z.s, z.c, hints);
+    let e = palette_mse_sum::mse(job, palette, job.sizes.s, job.sizes.c, hints);
     if is_kept(round, e, r.error) {
         run_memory::copy(palette, least);
         return r.noted(f32::to_bits(e) as u64);

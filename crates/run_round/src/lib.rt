@@ -2,14 +2,15 @@
 // The order and the samples are not read: a round's end leaves them out, and settling names them in what it promises.
 #![tactic(auto)]
 
-use job::Sizes;
+use job::Job;
+use quantizer::Course;
 
 pub mod first;
 mod seeding;
 
 ghost use Rattle.std.specs.Prelude.{◌≡◌, [], ◌≤◌};
-ghost use Rattle.job.specs.Job.{job_of};
-ghost use Rattle.quantizer.specs.Course.{course_of};
+ghost use Rattle.job.specs.Job.{job_in};
+ghost use Rattle.quantizer.specs.Course.{course_in, unsampled};
 ghost use Rattle.run_stages.specs.State.{state_with};
 ghost use Rattle.run_stages.specs.Stages.{finish_round, settle};
 ghost use Rattle.run_round.specs.Settles.{Standing, Closing, turn_after};
@@ -31,32 +32,26 @@ fn turn_after(s: usize, c: usize, r: Record) -> u64
 
 // A round's end, by its stage.
 fn finish_round(
-    z: Sizes,
-    tiles: &[u32],
-    colours: &[f32],
-    counts: &[u32],
+    job: &Job,
     hints: &mut [u32],
     palette: &mut [f32],
     least: &mut [f32],
     r: Record,
 ) -> Record
-    requires { Closing (job_of z tiles.now colours.now counts.now) hints.old palette.old least.old r }
+    requires { Closing (job_in job.now) hints.old palette.old least.old r }
     ensures { state_with [] hints.new palette.new least.new result
-        ≡ finish_round (course_of z tiles.now colours.now counts.now [])
+        ≡ finish_round (unsampled job.now)
         (state_with [] hints.old palette.old least.old r) }
 {
-    let from = seeding::seek(z, tiles, colours, counts, palette, hints, r);
+    let from = seeding::seek(job, palette, hints, r);
     match Stage::try_from(r.stage) {
         Ok(Stage::FinalDraws) => run_next::end_final(r),
         _ => run_turns::open_turn(
-            z,
-            tiles,
-            colours,
-            counts,
+            job,
             hints,
             palette,
             least,
-            turn_after(z.s, z.c, r),
+            turn_after(job.sizes.s, job.sizes.c, r),
             from,
             r,
         ),
@@ -65,25 +60,21 @@ fn finish_round(
 
 // Rounds are closed while one is due.
 pub fn settle(
-    z: Sizes,
-    tiles: &[u32],
-    colours: &[f32],
-    counts: &[u32],
-    samples: &[u32],
+    course: &Course,
     order: &[u32],
     hints: &mut [u32],
     palette: &mut [f32],
     least: &mut [f32],
     r: Record,
 ) -> Record
-    requires { Standing (course_of z tiles.now colours.now counts.now samples.now) (state_with order.now hints.old palette.old least.old r) }
+    requires { Standing (course_in course.now) (state_with order.now hints.old palette.old least.old r) }
     ensures { state_with order.now hints.new palette.new least.new result
-        ≡ settle (course_of z tiles.now colours.now counts.now samples.now)
+        ≡ settle (course_in course.now)
         (state_with order.now hints.old palette.old least.old r) }
 {
     let mut at = r;
     while run_next::is_due(at) {
-        at = finish_round(z, tiles, colours, counts, hints, palette, least, at);
+        at = finish_round(&course.job, hints, palette, least, at);
     }
     at
 }

@@ -3,13 +3,13 @@
 // The order of the samples is not touched, so it is left out.
 #![tactic(auto)]
 
-use job::Sizes;
+use job::{Job, Sizes};
 
 mod replacing;
 
 ghost use Rattle.std.specs.Prelude.{◌≡◌, []};
-ghost use Rattle.job.specs.Job.{job_of};
-ghost use Rattle.quantizer.specs.Course.{course_of};
+ghost use Rattle.job.specs.Job.{job_in};
+ghost use Rattle.quantizer.specs.Course.{unsampled};
 ghost use Rattle.run_stages.specs.State.{state_with};
 ghost use Rattle.run_stages.specs.Stages.{open_seeding, open_growing};
 ghost use Rattle.run_record.specs.Sized.{plain};
@@ -29,32 +29,20 @@ fn open_seeding(z: Sizes, palette: &mut [f32], round: u64, from: usize, r: Recor
 }
 
 // A colour more in each subpalette, and a round of draws begins.
-fn open_growing(
-    z: Sizes,
-    tiles: &[u32],
-    colours: &[f32],
-    counts: &[u32],
-    hints: &mut [u32],
-    palette: &mut [f32],
-    round: u64,
-    r: Record,
-) -> Record
-    requires { Opening (job_of z tiles.now colours.now counts.now) palette.old round hints.old }
+fn open_growing(job: &Job, hints: &mut [u32], palette: &mut [f32], round: u64, r: Record) -> Record
+    requires { Opening (job_in job.now) palette.old round hints.old }
     ensures { state_with [] hints.new palette.new [] result
-        ≡ open_growing (course_of z tiles.now colours.now counts.now []) round
+        ≡ open_growing (unsampled job.now) round
         (state_with [] hints.old palette.old [] r) }
 {
     let have = round as usize + 1;
-    quantizer_grow::grow_palette(z, tiles, colours, counts, palette, have, hints);
-    run_next::open_round(r, Stage::Growing, round, z.n)
+    quantizer_grow::grow_palette(job, palette, have, hints);
+    run_next::open_round(r, Stage::Growing, round, job.sizes.n)
 }
 
 // A turn: the next round in that count. One of seeding copies subpalette `from`.
 pub fn open_turn(
-    z: Sizes,
-    tiles: &[u32],
-    colours: &[f32],
-    counts: &[u32],
+    job: &Job,
     hints: &mut [u32],
     palette: &mut [f32],
     least: &mut [f32],
@@ -62,29 +50,19 @@ pub fn open_turn(
     from: usize,
     r: Record,
 ) -> Record
-    requires { Turning (job_of z tiles.now colours.now counts.now) hints.old palette.old least.old turn from r }
+    requires { Turning (job_in job.now) hints.old palette.old least.old turn from r }
     ensures { state_with [] hints.new palette.new least.new result
-        ≡ open_turn (course_of z tiles.now colours.now counts.now []) turn from
+        ≡ open_turn (unsampled job.now) turn from
         (state_with [] hints.old palette.old least.old r) }
 {
-    let seeded = z.s as u64 - 1;
+    let seeded = job.sizes.s as u64 - 1;
     if turn < seeded {
-        return open_seeding(z, palette, turn, from, r);
+        return open_seeding(job.sizes, palette, turn, from, r);
     }
     let later = turn - seeded;
-    let grown = z.c as u64 - 1;
+    let grown = job.sizes.c as u64 - 1;
     if later < grown {
-        return open_growing(z, tiles, colours, counts, hints, palette, later, r);
+        return open_growing(job, hints, palette, later, r);
     }
-    replacing::replace_on(
-        z,
-        tiles,
-        colours,
-        counts,
-        hints,
-        palette,
-        least,
-        later - grown,
-        r,
-    )
+    replacing::replace_on(job, hints, palette, least, later - grown, r)
 }

@@ -6,9 +6,9 @@ ghost use Rattle.std.specs.Prelude.{◌≡◌, ℕ, ◌*◌, ◌≤◌, length, 
 ghost use Rattle.job.specs.Job.{job_in};
 ghost use Rattle.sheet.specs.Sheets.{file_of};
 ghost use Rattle.fit_lines.specs.Lines.{Stored};
-ghost use Rattle.sheet_parts.specs.Front.{Writable, colours_to};
+ghost use Rattle.sheet_parts.specs.Front.{Writable, colours_to, front_job};
 
-use job::Job;
+use job::{Job, Sizes};
 
 // N places that hold `blank`. The contract gives their number and what each holds, and not the list: callers need no more of room for any sheet.
 pub fn room<T: Copy, const N: usize>(blank: T) -> [T; N]
@@ -24,6 +24,21 @@ pub fn colours_to(tiles: &[u32], t: usize) -> usize
 {
     let last = t - 1;
     job::first_of(tiles, last) + job::size_of(tiles, last)
+}
+
+// The job in the first places of these slices, which are long enough.
+pub fn front_job<'a>(z: Sizes, tiles: &'a [u32], colours: &'a [f32], counts: &'a [u32]) -> Job<'a>
+    requires { (1 ≤ z.t) × (2 * z.t ≤ length tiles.now) × (colours_to tiles.now z.t ≤ 16384)
+        × (3 * colours_to tiles.now z.t ≤ length colours.now) × (colours_to tiles.now z.t ≤ length counts.now) }
+    ensures { (job_in result ≡ front_job z tiles.now colours.now counts.now) × (result.sizes ≡ z) }
+{
+    let n = colours_to(tiles, z.t);
+    Job {
+        sizes: z,
+        tiles: &tiles[..2 * z.t],
+        colours: &colours[..3 * n],
+        counts: &counts[..n],
+    }
 }
 
 // The sheet of a job and a palette that can be written: the writer refuses none.

@@ -16,10 +16,9 @@ use Rattle.answer.proofs.Outcomes.{decided-refused}
 use Rattle.job.specs.Checks.{components_fit}
 use Rattle.job.specs.Gives.{Sampled}
 use Rattle.quantizer.specs.Course.{Course}
-use Rattle.run_stages.specs.declared.Advanced.{Advanced}
 use Rattle.run_stages.specs.State.{State, draws, stops}
 use Rattle.run_stages.specs.Stages.{advance, start, hand_in}
-use Rattle.run_stages.specs.Calls.{Memory, state_of, memory_of, colours_room, job_rules, advance_answer, hand_in_answer, start_call, advance_call}
+use Rattle.run_stages.specs.Calls.{Memory, Advanced, state_of, memory_of, colours_room, job_rules, advance_answer, hand_in_answer, start_call, advance_call}
 use Rattle.run_calls.proofs.Cases.{decide}
 use Rattle.run_calls.specs.Fit.{Fit}
 use Rattle.run_calls.proofs.Fit.{start-fit, advance-fit}

@@ -1,7 +1,7 @@
 // What `train` writes for a sheet: a refusal's line, or the sheet with the palette that its tiles train. Assumes nothing.
 #![tactic(auto)]
 
-use job::Job;
+use job::Sizes;
 
 mod run;
 mod trained;
@@ -19,23 +19,19 @@ const MOST_BYTES: usize = 65536;
 
 // What is written for the job in the first places of these slices.
 fn put_job(
-    job: &Job,
+    z: Sizes,
+    tiles: &[u32],
+    colours: &[f32],
+    counts: &[u32],
     palette: &mut [f32],
     out: &mut [u8],
 ) -> usize
-    requires { Front z job.now.tiles.now job.now.colours.now job.now.counts.now palette.old × (65536 ≤ length out.old) }
+    requires { Front z tiles.now colours.now counts.now palette.old × (65536 ≤ length out.old) }
     ensures { Stored out.old out.new 0 result
-        (job_text (front_job z job.now.tiles.now job.now.colours.now job.now.counts.now)) × (result ≤ 65536) }
+        (job_text (front_job z tiles.now colours.now counts.now)) × (result ≤ 65536) }
 {
-    let n = sheet_parts::colours_to(job.tiles, job.sizes.t);
-    trained::put_trained(
-        job.sizes,
-        &job.tiles[..2 * job.sizes.t],
-        &job.colours[..3 * n],
-        &job.counts[..n],
-        &mut palette[..3 * (job.sizes.s * job.sizes.c)],
-        out,
-    )
+    let job = sheet_parts::front_job(z, tiles, colours, counts);
+    trained::put_trained(&job, &mut palette[..3 * (z.s * z.c)], out)
 }
 
 // What `train` writes for these bytes, into `out`, and how many bytes that is: none where `out` has too little room for any sheet.
@@ -46,10 +42,10 @@ pub fn train(bytes: &[u8], out: &mut [u8]) -> usize
         return 0;
     }
     let size = sheet_format::size_in(bytes);
-    let mut tiles = sheet_parts::tiles_room();
-    let mut colours = sheet_parts::colours_room();
-    let mut counts = sheet_parts::counts_room();
-    let mut palette = sheet_parts::palette_room();
+    let mut tiles: [u32; 2048] = sheet_parts::room(0);
+    let mut colours: [f32; 15420] = sheet_parts::room(0.0);
+    let mut counts: [u32; 5140] = sheet_parts::room(0);
+    let mut palette: [f32; 768] = sheet_parts::room(0.0);
     match sheet::read(
         size,
         bytes,
@@ -58,7 +54,7 @@ pub fn train(bytes: &[u8], out: &mut [u8]) -> usize
         &mut counts,
         &mut palette,
     ) {
-        sheet::Reading::Refused(e) => fit_lines::put_refused(out, 0, e.number),
-        sheet::Reading::Sheet(z) => put_job(z, &tiles, &colours, &counts, &mut palette, out),
+        Err(e) => fit_lines::put_refused(out, 0, e.number()),
+        Ok(z) => put_job(z, &tiles, &colours, &counts, &mut palette, out),
     }
 }

@@ -18,14 +18,14 @@ loop-i-init c = refl
 
 pub overflow_add-n : goal.overflow_add-n
 overflow_add-n c =
-    let few = blanks-few c.args.tiles.now c.loop-i.i in
+    let few = blanks-few c.args.job.now.tiles.now c.loop-i.i in
     elim c.if-is_empty.branch [ then-is_empty w ↦ omega arith | else-is_empty w ↦ omega arith ]
 
 pub loop-i-preserved : goal.loop-i-preserved
 unfolding blanks_of hit
 loop-i-preserved c =
     let turn = c.loop-i in
-    let blank : ℕ → ℕ = λ t. hit (eqb (size_of c.args.tiles.now t) 0) in let is = c.is_empty.ensures in
+    let blank : ℕ → ℕ = λ t. hit (eqb (size_of c.args.job.now.tiles.now t) 0) in let is = c.is_empty.ensures in
     let one : c.if-is_empty.n ≡ blank turn.i =
     elim c.if-is_empty.branch [
       | then-is_empty w ↦ w.n-is ∙ ap hit (sym w.if-is_empty.true ∙ is)
@@ -36,5 +36,5 @@ loop-i-preserved c =
 pub returns : goal.returns
 returns c =
     let turn = c.loop-i in
-    let e : turn.i ≡ c.args.t = omega arith in
-    turn.invariant ∙ ap (blanks_of c.args.tiles.now) e
+    let e : turn.i ≡ c.args.job.now.sizes.t = omega arith in
+    turn.invariant ∙ ap (blanks_of c.args.job.now.tiles.now) e

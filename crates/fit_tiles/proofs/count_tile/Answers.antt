@@ -15,7 +15,7 @@ returns c =
     let a = c.args in
     let is = c.is_empty.ensures in
     let adds : Bool → ℕ = λ b. hit (not b) in
-    let one : c.if-is_empty.one ≡ hit (not (eqb (size_of a.tiles.now a.i) 0)) =
+    let one : c.if-is_empty.one ≡ hit (not (eqb (size_of a.job.now.tiles.now a.i) 0)) =
     elim c.if-is_empty.branch [
       | then-is_empty w ↦ w.one-is ∙ ap adds (sym w.if-is_empty.true ∙ is)
       | else-is_empty w ↦ w.one-is ∙ ap adds (sym w.if-is_empty.false ∙ is)

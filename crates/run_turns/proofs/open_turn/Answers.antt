@@ -8,7 +8,7 @@ pub open_seeding-requires : goal.open_seeding-requires
 open_seeding-requires c = can_double _ _ _ _ _ _ c.args.r c.requires c.if-turn-seeded.true
 
 pub returns-then-turn-seeded : goal.returns-then-turn-seeded
-returns-then-turn-seeded c = seeded_by c.args.z _ _ _ _ _ _ c.args.r _ _ _ _ c.open_seeding.ensures c.if-turn-seeded.true
+returns-then-turn-seeded c = seeded_by c.args.job.now.sizes _ _ _ _ _ _ c.args.r _ _ _ _ c.open_seeding.ensures c.if-turn-seeded.true
 
 pub open_growing-requires : goal.open_growing-requires
 open_growing-requires c = can_open _ _ _ _ c.requires.lent _ c.if-later-grown.true

@@ -8,4 +8,4 @@ returns-then-round-lt10 c = replaced-more _ _ _ _ c.args.r _ _ _ _ c.look-seen.e
 pub returns : goal.returns
 returns c =
     replaced-last _ _ _ _ c.args.r _ _ _ _ c.look-seen.ensures c.if-round-lt10.false _ _ _
-    (end_beside c.args.z _ _ _ _ _ _ _ _ _ _ c.enter_reducing.ensures)
+    (end_beside c.args.job.now.sizes _ _ _ _ _ _ _ _ _ _ c.enter_reducing.ensures)
