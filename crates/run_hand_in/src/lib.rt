@@ -13,6 +13,7 @@ ghost use Rattle.run_refine.specs.Refines.{Handed};
 
 use answer::Refusal;
 use quantizer::Course;
+use run_check::Held;
 use run_stages::{Record, Stage};
 
 // What follows a stop, with the colours handed in as the palette.
@@ -53,7 +54,17 @@ pub fn hand_in(
         ≡ hand_in_call (course_in course.now)
         (memory order.now hints.old palette.old least.now words.old) reduced.now }
 {
-    run_check::check_hand_in(course, order, hints, palette, least, words, reduced)?;
+    run_check::check_hand_in(
+        course,
+        &Held {
+            order,
+            hints,
+            palette,
+            least,
+            words,
+        },
+        reduced,
+    )?;
     run_memory::copy(reduced, palette);
     let r = run_record::record_of(words);
     let next = after_stop(course, order, hints, palette, least, r);

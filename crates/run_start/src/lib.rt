@@ -9,6 +9,7 @@ ghost use Rattle.run_stages.specs.Calls.{memory, start_call};
 
 use answer::Refusal;
 use quantizer::Course;
+use run_check::Held;
 
 // Nothing, or the first rule that is broken; then all memory stays as it is.
 pub fn start(
@@ -24,7 +25,16 @@ pub fn start(
         ≡ start_call (course_in course.now)
         (memory order.old hints.old palette.old least.old words.old) seed }
 {
-    run_check::check_start(course, order, hints, palette, least, words)?;
+    run_check::check_start(
+        course,
+        &Held {
+            order,
+            hints,
+            palette,
+            least,
+            words,
+        },
+    )?;
     run_blank::blank(course, palette, least);
     let r = run_blank::deal(course.job.sizes, order, seed);
     let next = run_round::first::set_out(course, order, hints, palette, least, r);
