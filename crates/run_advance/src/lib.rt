@@ -8,6 +8,7 @@ ghost use Rattle.run_stages.specs.Calls.{memory, advanced_as, advance_call};
 
 use answer::Refusal;
 use quantizer::Course;
+use run_check::Held;
 
 // A refusal makes no draw and writes nothing.
 pub fn advance(
@@ -23,7 +24,16 @@ pub fn advance(
         ≡ advance_call (course_in course.now)
         (memory order.old hints.old palette.old least.old words.old) allotment }
 {
-    run_check::check_advance(course, order, hints, palette, least, words)?;
+    run_check::check_advance(
+        course,
+        &Held {
+            order,
+            hints,
+            palette,
+            least,
+            words,
+        },
+    )?;
     let draws = run_steps::advance_work(course, order, hints, palette, least, words, allotment);
     Ok(draws)
 }
