@@ -8,6 +8,7 @@ use Rattle.answer.specs.Refusals.{Answered, refusal_of}
 use Rattle.answer.specs.Outcome.{Outcome, outcome}
 use Rattle.answer.specs.Rules.{answer}
 use Rattle.quantizer.specs.Course.{Course, course_of, course_in}
+use Rattle.run_check.specs.Held.{memory_in}
 use Rattle.run_stages.specs.Calls.{Memory, memory, result_rules, result_call}
 use Rattle.demands.specs.First.{itself}
 use Rattle.answer.specs.Words.{told}
@@ -24,15 +25,13 @@ module _ (κs : Lfts (function.signature).lifetimes) (a : Args function.signatur
   course_given = course_in a.0.now
 
   abbrev pub memory_lent : Memory
-  memory_lent =
-      let m = a.1 in
-      memory m.0.now m.1.0.now m.1.1.0.now m.1.1.1.0.now m.1.1.1.1.0.now
+  memory_lent = memory_in a.1.0.now
 
   abbrev pub out_lent : List Float
-  out_lent = a.1.1.1.1.1.1.0.now
+  out_lent = a.1.1.0.now
 
   abbrev pub out_left : AtExit function.ended κs → List Float
-  out_left e = e.1.1.1.1.1.1.0.now
+  out_left e = e.1.1.0.now
 
   abbrev pub seen : Res function.signature κs → AtExit function.ended κs → Outcome Answered (List Float)
   seen r e = outcome (refusal_of r) (out_left e)

@@ -1,6 +1,6 @@
 // Forwarders to the single fit and `best_two`. Assumes nothing.
 // Each gives the number, and in `fault` the index of a refusal; what is found goes through the other references, which a refusal leaves.
-use fits_outcome::{Pair, Single};
+use job::Job;
 
 #[unsafe(no_mangle)]
 pub extern "C" fn probe_single_fit(
@@ -18,16 +18,22 @@ pub extern "C" fn probe_single_fit(
     dist: &mut f32,
     fault: &mut usize,
 ) -> u32 {
-    let z = job::sizes_of(size, s, c, t, 0, weight);
-    match fits::single_fit(z, tiles, colours, counts, palette, hints) {
-        Single::Best(near) => {
+    let sizes = job::sizes_of(size, s, c, t, 0, weight);
+    let job = Job {
+        sizes,
+        tiles,
+        colours,
+        counts,
+    };
+    match fits::single_fit(&job, palette, hints) {
+        Ok(near) => {
             *index = near.index;
             *dist = near.dist;
             0
         }
-        Single::Refused(e) => {
-            *fault = e.index;
-            e.number
+        Err(e) => {
+            *fault = e.index();
+            e.number()
         }
     }
 }
@@ -50,18 +56,24 @@ pub extern "C" fn probe_public_best_two(
     second: &mut f32,
     fault: &mut usize,
 ) -> u32 {
-    let z = job::sizes_of(size, s, c, t, 0, weight);
-    match fits_two::best_two(z, tiles, colours, counts, palette, hints) {
-        Pair::Best(two) => {
+    let sizes = job::sizes_of(size, s, c, t, 0, weight);
+    let job = Job {
+        sizes,
+        tiles,
+        colours,
+        counts,
+    };
+    match fits_two::best_two(&job, palette, hints) {
+        Ok(two) => {
             *index = two.index;
             *dist = two.dist;
             *next = two.next;
             *second = two.second;
             0
         }
-        Pair::Refused(e) => {
-            *fault = e.index;
-            e.number
+        Err(e) => {
+            *fault = e.index();
+            e.number()
         }
     }
 }

@@ -1,13 +1,5 @@
 // A forwarder to grouping. Assumes nothing.
-use group::Grouped;
-use group_pixels::Zero;
-
-fn zero_of(given: bool, r: u8, g: u8, b: u8) -> Zero {
-    if given {
-        return Zero::Given(r, g, b);
-    }
-    Zero::Absent
-}
+use group_pixels::{Pixels, Rgb};
 
 // Gives the number, in `entries` how many were written, and in `fault` the index of a refusal.
 #[unsafe(no_mangle)]
@@ -27,25 +19,21 @@ pub extern "C" fn probe_group(
     entries: &mut usize,
     fault: &mut usize,
 ) -> u32 {
-    let zero = zero_of(given, r, g, b);
-    match group::group(
-        size,
+    let zero = if given { Some(Rgb { r, g, b }) } else { None };
+    let q = Pixels {
         p,
-        pixels,
+        bytes: pixels,
         oklab,
         zero,
-        entry_bytes,
-        entry_oklab,
-        entry_counts,
-        index,
-    ) {
-        Grouped::Done(n) => {
+    };
+    match group::group(size, &q, entry_bytes, entry_oklab, entry_counts, index) {
+        Ok(n) => {
             *entries = n;
             0
         }
-        Grouped::Refused(e) => {
-            *fault = e.index;
-            e.number
+        Err(e) => {
+            *fault = e.index();
+            e.number()
         }
     }
 }

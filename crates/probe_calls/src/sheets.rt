@@ -1,6 +1,6 @@
 // Forwarders to the sheet's reader and writer. Assumes nothing.
 // Each gives the number, and in `fault` the index of a refusal; what else there is goes through the other references, which a refusal leaves.
-use sheet::{Reading, Writing};
+use job::Job;
 
 #[unsafe(no_mangle)]
 pub extern "C" fn probe_sheet_read(
@@ -17,11 +17,11 @@ pub extern "C" fn probe_sheet_read(
     fault: &mut usize,
 ) -> u32 {
     match sheet::read(size, bytes, tiles, colours, counts, palette) {
-        Reading::Refused(e) => {
-            *fault = e.index;
-            e.number
+        Err(e) => {
+            *fault = e.index();
+            e.number()
         }
-        Reading::Sheet(z) => {
+        Ok(z) => {
             *subs = z.s;
             *each = z.c;
             *many = z.t;
@@ -46,13 +46,19 @@ pub extern "C" fn probe_sheet_write(
     written: &mut usize,
     fault: &mut usize,
 ) -> u32 {
-    let z = job::sizes_of(size, s, c, t, 0, weight);
-    match sheet::write(z, tiles, colours, counts, palette, dst) {
-        Writing::Refused(e) => {
-            *fault = e.index;
-            e.number
+    let sizes = job::sizes_of(size, s, c, t, 0, weight);
+    let job = Job {
+        sizes,
+        tiles,
+        colours,
+        counts,
+    };
+    match sheet::write(&job, palette, dst) {
+        Err(e) => {
+            *fault = e.index();
+            e.number()
         }
-        Writing::Bytes(n) => {
+        Ok(n) => {
             *written = n;
             0
         }

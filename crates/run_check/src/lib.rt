@@ -5,7 +5,8 @@
 ghost use Rattle.std.specs.Prelude.{◌≡◌, IfOk, true, ◌&&◌, ◌*◌, eqb, length};
 ghost use Rattle.answer.specs.Refusals.{refusal_of};
 ghost use Rattle.quantizer.specs.Course.{course_in};
-ghost use Rattle.run_stages.specs.Calls.{memory, record_of, record_words, memory_room, colours_room, start_answer, advance_answer, hand_in_answer, result_answer};
+ghost use Rattle.run_stages.specs.Calls.{record_of, record_words, memory_room, colours_room, start_answer, advance_answer, hand_in_answer, result_answer};
+ghost use Rattle.run_check.specs.Held.{memory_in};
 ghost use Rattle.run_check.specs.Room.{SameInRange, Lends, run_answer};
 ghost use Rattle.run_record.specs.Sized.{plain};
 
@@ -17,6 +18,16 @@ use run_stages::Record;
 const MOST_SUBPALETTES: usize = 16;
 
 const MOST_COLOURS: usize = 16;
+
+// The memory of a run, as a call reads it: the samples' order, the hints, both palettes, and the record's words.
+#[derive(Clone, Copy)]
+pub struct Held<'a> {
+    pub order: &'a [u32],
+    pub hints: &'a [u32],
+    pub palette: &'a [f32],
+    pub least: &'a [f32],
+    pub words: &'a [u64],
+}
 
 // ---- lengths
 
@@ -34,129 +45,76 @@ fn colours_room(s: usize, c: usize, numbers: usize) -> bool
 }
 
 // Whether the memory lent has its lengths.
-fn memory_room(
-    z: Sizes,
-    order: &[u32],
-    hints: &[u32],
-    palette: &[f32],
-    least: &[f32],
-    words: &[u64],
-) -> bool
-    ensures { Lends z.s z.c result (memory_room (plain z) (memory order.now hints.now palette.now least.now words.now)) words.now }
+fn memory_room(z: Sizes, held: &Held) -> bool
+    ensures { Lends z.s z.c result (memory_room (plain z) (memory_in held.now)) held.now.words.now }
 {
-    if order.len() != z.n {
+    if held.order.len() != z.n {
         return false;
     }
-    if hints.len() != z.t {
+    if held.hints.len() != z.t {
         return false;
     }
-    if !colours_room(z.s, z.c, palette.len()) {
+    if !colours_room(z.s, z.c, held.palette.len()) {
         return false;
     }
-    if !colours_room(z.s, z.c, least.len()) {
+    if !colours_room(z.s, z.c, held.least.len()) {
         return false;
     }
-    words.len() == run_stages::RECORD_WORDS
+    held.words.len() == run_stages::RECORD_WORDS
 }
 
 // The same, with one slice of s·c colours more.
-fn wider_room(
-    z: Sizes,
-    order: &[u32],
-    hints: &[u32],
-    palette: &[f32],
-    least: &[f32],
-    words: &[u64],
-    more: &[f32],
-) -> bool
+fn wider_room(z: Sizes, held: &Held, more: &[f32]) -> bool
     ensures { Lends z.s z.c result
-        (memory_room (plain z) (memory order.now hints.now palette.now least.now words.now)
-        && colours_room (plain z) more.now) words.now }
+        (memory_room (plain z) (memory_in held.now)
+        && colours_room (plain z) more.now) held.now.words.now }
 {
-    if !memory_room(z, order, hints, palette, least, words) {
+    if !memory_room(z, held) {
         return false;
     }
     colours_room(z.s, z.c, more.len())
 }
 
 // The job's numbers, then those of what a run holds, whose record is read. `room` says whether the slices lent have their lengths.
-fn check_run(
-    course: &Course,
-    order: &[u32],
-    hints: &[u32],
-    palette: &[f32],
-    least: &[f32],
-    words: &[u64],
-    room: bool,
-) -> Result<Record, Refusal>
-    requires { room ≡ true → length words.now ≡ record_words }
-    ensures answered { refusal_of result ≡ run_answer (course_in course.now) (memory order.now hints.now palette.now least.now words.now) room }
-    ensures read { IfOk result (λ r. r ≡ record_of words.now) }
+fn check_run(course: &Course, held: &Held, room: bool) -> Result<Record, Refusal>
+    requires { room ≡ true → length held.now.words.now ≡ record_words }
+    ensures answered { refusal_of result ≡ run_answer (course_in course.now) (memory_in held.now) room }
+    ensures read { IfOk result (λ r. r ≡ record_of held.now.words.now) }
 {
     job_check::check_sampled(&course.job, course.samples, room)?;
-    let r = run_record::record_of(words);
-    run_state::check_state(course.job.sizes, order, palette, least, r)?;
+    let r = run_record::record_of(held.words);
+    run_state::check_state(course.job.sizes, held.order, held.palette, held.least, r)?;
     Ok(r)
 }
 
 // ---- the calls
 
-pub fn check_start(
-    course: &Course,
-    order: &[u32],
-    hints: &[u32],
-    palette: &[f32],
-    least: &[f32],
-    words: &[u64],
-) -> Result<(), Refusal>
+pub fn check_start(course: &Course, held: &Held) -> Result<(), Refusal>
     ensures { refusal_of result ≡ start_answer (course_in course.now)
-        (memory order.now hints.now palette.now least.now words.now) }
+        (memory_in held.now) }
 {
-    let room = memory_room(course.job.sizes, order, hints, palette, least, words);
+    let room = memory_room(course.job.sizes, held);
     job_check::check_sampled(&course.job, course.samples, room)
 }
 
-pub fn check_advance(
-    course: &Course,
-    order: &[u32],
-    hints: &[u32],
-    palette: &[f32],
-    least: &[f32],
-    words: &[u64],
-) -> Result<(), Refusal>
+pub fn check_advance(course: &Course, held: &Held) -> Result<(), Refusal>
     ensures { refusal_of result ≡ advance_answer (course_in course.now)
-        (memory order.now hints.now palette.now least.now words.now) }
+        (memory_in held.now) }
 {
-    let room = memory_room(course.job.sizes, order, hints, palette, least, words);
-    let r = check_run(course, order, hints, palette, least, words, room)?;
+    let room = memory_room(course.job.sizes, held);
+    let r = check_run(course, held, room)?;
     if !run_record::makes_draws(r.stage) {
         return Err(Refusal::Moment);
     }
     Ok(())
 }
 
-pub fn check_hand_in(
-    course: &Course,
-    order: &[u32],
-    hints: &[u32],
-    palette: &[f32],
-    least: &[f32],
-    words: &[u64],
-    reduced: &[f32],
-) -> Result<(), Refusal>
+pub fn check_hand_in(course: &Course, held: &Held, reduced: &[f32]) -> Result<(), Refusal>
     ensures { refusal_of result ≡ hand_in_answer (course_in course.now)
-        (memory order.now hints.now palette.now least.now words.now) reduced.now }
+        (memory_in held.now) reduced.now }
 {
-    let room = wider_room(
-        course.job.sizes,
-        order,
-        hints,
-        palette,
-        least,
-        words,
-        reduced,
-    );
-    let r = check_run(course, order, hints, palette, least, words, room)?;
+    let room = wider_room(course.job.sizes, held, reduced);
+    let r = check_run(course, held, room)?;
     if !run_record::is_stop(r.stage) {
         return Err(Refusal::Moment);
     }
@@ -166,20 +124,12 @@ pub fn check_hand_in(
     Ok(())
 }
 
-pub fn check_result(
-    course: &Course,
-    order: &[u32],
-    hints: &[u32],
-    palette: &[f32],
-    least: &[f32],
-    words: &[u64],
-    out: &[f32],
-) -> Result<(), Refusal>
+pub fn check_result(course: &Course, held: &Held, out: &[f32]) -> Result<(), Refusal>
     ensures { refusal_of result ≡ result_answer (course_in course.now)
-        (memory order.now hints.now palette.now least.now words.now) out.now }
+        (memory_in held.now) out.now }
 {
-    let room = wider_room(course.job.sizes, order, hints, palette, least, words, out);
-    let r = check_run(course, order, hints, palette, least, words, room)?;
+    let room = wider_room(course.job.sizes, held, out);
+    let r = check_run(course, held, room)?;
     if !run_cycle::is_finished(r.stage) {
         return Err(Refusal::Moment);
     }

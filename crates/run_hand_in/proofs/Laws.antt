@@ -9,8 +9,7 @@ use lib.Dec.{eqb}
 use lib.Ieee.{Float}
 use lib.ListN.{length}
 use borrow.Author.Tests.{eq-eqb, ne_eqb, eqb-true}
-use Rattle.answer.specs.declared.Refusal.{Refusal}
-use Rattle.answer.specs.Rules.{nothing}
+use Rattle.answer.specs.Refusals.{Answered, nothing}
 use Rattle.answer.specs.Outcome.{outcome}
 use Rattle.answer.proofs.Outcomes.{was_refused, was_done}
 use Rattle.color.proofs.Sizes.{bounded_wider}
@@ -63,14 +62,14 @@ module _ (K : Course) (o h : List ℕ) (p l : List Float) (r : Record) (A : Hand
   last_on a k x er = rw (ne_eqb r.stage 3 a, ne_eqb r.stage 5 k, er)
 
 -- ---- the call
-module _ (K : Course) (m : Memory) (reduced : List Float) (a : Refusal) (e : a ≡ hand_in_answer K m reduced) where
+module _ (K : Course) (m : Memory) (reduced : List Float) (a : Answered) (e : a ≡ hand_in_answer K m reduced) where
   pub refused : (a.number ≡ 0 → ⊥) → outcome a m ≡ hand_in_call K m reduced
   unfolding hand_in_call
   refused h = was_refused a (hand_in_answer K m reduced) e (outcome nothing (memory_of (hand_in K reduced (state_of m)))) (λ x. x) m h
 
   module _ (z : a.number ≡ 0) where
     answered : (hand_in_answer K m reduced).number ≡ 0
-    answered = subst (λ (x : Refusal). x.number ≡ 0) e z
+    answered = subst (λ (x : Answered). x.number ≡ 0) e z
 
     sized : length reduced ≡ 3 * (K.job.S * K.job.C)
     unfolding colours_room

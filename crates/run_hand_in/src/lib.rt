@@ -3,39 +3,37 @@
 #![tactic(auto)]
 
 ghost use Rattle.std.specs.Prelude.{◌≡◌};
+ghost use Rattle.answer.specs.Refusals.{refusal_of};
 ghost use Rattle.answer.specs.Outcome.{outcome};
-ghost use Rattle.quantizer.specs.Course.{course_of};
+ghost use Rattle.quantizer.specs.Course.{course_in};
 ghost use Rattle.run_stages.specs.State.{state_with};
 ghost use Rattle.run_stages.specs.Stages.{hand_in};
 ghost use Rattle.run_stages.specs.Calls.{memory, hand_in_call};
 ghost use Rattle.run_refine.specs.Refines.{Handed};
 
 use answer::Refusal;
-use job::Sizes;
+use quantizer::Course;
+use run_check::Held;
 use run_stages::{Record, Stage};
 
 // What follows a stop, with the colours handed in as the palette.
 fn after_stop(
-    z: Sizes,
-    tiles: &[u32],
-    colours: &[f32],
-    counts: &[u32],
-    samples: &[u32],
+    course: &Course,
     order: &[u32],
     hints: &mut [u32],
     palette: &mut [f32],
     least: &[f32],
     r: Record,
 ) -> Record
-    requires { Handed (course_of z tiles.now colours.now counts.now samples.now) (state_with order.now hints.old palette.old least.now r) }
+    requires { Handed (course_in course.now) (state_with order.now hints.old palette.old least.now r) }
     ensures { state_with order.now hints.new palette.new least.now result
-        ≡ hand_in (course_of z tiles.now colours.now counts.now samples.now) palette.old
+        ≡ hand_in (course_in course.now) palette.old
         (state_with order.now hints.old palette.old least.now r) }
 {
     match Stage::try_from(r.stage) {
-        Ok(Stage::Reducing) => run_refine::final_draws(z.n, r),
+        Ok(Stage::Reducing) => run_refine::final_draws(course.job.sizes.n, r),
         Ok(Stage::Refining) => {
-            run_refine::refine_four(z, tiles, colours, counts, palette, hints);
+            run_refine::refine_four(&course.job, palette, hints);
             r.placed(Stage::Refined, 0, 0)
         }
         _ => r.placed(Stage::Finished, 0, 0),
@@ -44,33 +42,32 @@ fn after_stop(
 
 // Nothing, or the first rule that is broken; then all memory stays as it is.
 pub fn hand_in(
-    z: Sizes,
-    tiles: &[u32],
-    colours: &[f32],
-    counts: &[u32],
-    samples: &[u32],
+    course: &Course,
     order: &[u32],
     hints: &mut [u32],
     palette: &mut [f32],
     least: &[f32],
     words: &mut [u64],
     reduced: &[f32],
-) -> Refusal
-    ensures { outcome result (memory order.now hints.new palette.new least.now words.new)
-        ≡ hand_in_call (course_of z tiles.now colours.now counts.now samples.now)
+) -> Result<(), Refusal>
+    ensures { outcome (refusal_of result) (memory order.now hints.new palette.new least.now words.new)
+        ≡ hand_in_call (course_in course.now)
         (memory order.now hints.old palette.old least.now words.old) reduced.now }
 {
-    let refusal = run_check::refuses_hand_in(
-        z, tiles, colours, counts, samples, order, hints, palette, least, words, reduced,
-    );
-    if refusal.number != 0 {
-        return refusal;
-    }
+    run_check::check_hand_in(
+        course,
+        &Held {
+            order,
+            hints,
+            palette,
+            least,
+            words,
+        },
+        reduced,
+    )?;
     run_memory::copy(reduced, palette);
     let r = run_record::record_of(words);
-    let next = after_stop(
-        z, tiles, colours, counts, samples, order, hints, palette, least, r,
-    );
+    let next = after_stop(course, order, hints, palette, least, r);
     run_memory::write_record(words, next);
-    answer::DONE
+    Ok(())
 }

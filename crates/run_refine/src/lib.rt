@@ -2,10 +2,10 @@
 #![tactic(auto)]
 
 ghost use Rattle.std.specs.Prelude.{◌≡◌, ◌≤◌};
-ghost use Rattle.job.specs.Job.{job_of};
+ghost use Rattle.job.specs.Job.{job_in};
 ghost use Rattle.run_refine.specs.Refines.{refined_times, hints_times, final_draws, Refinable};
 
-use job::Sizes;
+use job::Job;
 use run_stages::{Record, Stage};
 
 // The final draws begin; with fewer than ten samples there are none, and the next stop is reached at once.
@@ -22,21 +22,14 @@ pub fn final_draws(n: usize, r: Record) -> Record
 }
 
 // Four passes of refinement.
-pub fn refine_four(
-    z: Sizes,
-    tiles: &[u32],
-    colours: &[f32],
-    counts: &[u32],
-    palette: &mut [f32],
-    hints: &mut [u32],
-)
-    requires { Refinable (job_of z tiles.now colours.now counts.now) hints.old palette.old }
-    ensures { (palette.new ≡ refined_times (job_of z tiles.now colours.now counts.now) 4 palette.old)
+pub fn refine_four(job: &Job, palette: &mut [f32], hints: &mut [u32])
+    requires { Refinable (job_in job.now) hints.old palette.old }
+    ensures { (palette.new ≡ refined_times (job_in job.now) 4 palette.old)
         ×
-        (hints.new ≡ hints_times (job_of z tiles.now colours.now counts.now) 4 palette.old
+        (hints.new ≡ hints_times (job_in job.now) 4 palette.old
         hints.old) }
 {
     for _ in 0..4usize {
-        quantizer_refine::refine(z, tiles, colours, counts, palette, hints);
+        quantizer_refine::refine(job, palette, hints);
     }
 }

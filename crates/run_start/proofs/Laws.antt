@@ -1,5 +1,5 @@
 -- What the call asks of its steps, and what it leaves, refused or not. Assumes nothing.
-use Prim.Native.Nat.{ℕ, ◌*◌, ◌^◌, ◌≤◌, ◌<◌}
+use Prim.Native.Nat.{ℕ, ◌*◌, ◌^◌, ◌≤◌}
 use mathlib.Core.Path.{◌≡◌, ap, subst, ◌∙◌}
 use mathlib.Core.Bool.{true}
 use mathlib.Core.List.{List, []}
@@ -7,8 +7,7 @@ use native.Mathlib.Nat.{le_trans, le_of_lt}
 use lib.Dec.{lit<}
 use lib.Ieee.{Float}
 use lib.ListN.{length}
-use Rattle.answer.specs.declared.Refusal.{Refusal}
-use Rattle.answer.specs.Rules.{nothing}
+use Rattle.answer.specs.Refusals.{Answered, nothing}
 use Rattle.answer.specs.Outcome.{outcome}
 use Rattle.answer.proofs.Outcomes.{was_refused, was_done}
 use Rattle.job.specs.Gives.{Sampled}
@@ -25,14 +24,14 @@ use Rattle.run_calls.proofs.Answers.{start_opened}
 use Rattle.run_blank.specs.Blanks.{dealt, Blanking}
 use Rattle.run_round.specs.First.{first_round, Beginning}
 
-module _ (K : Course) (m : Memory) (seed : ℕ) (a : Refusal) (e : a ≡ start_answer K m) where
+module _ (K : Course) (m : Memory) (seed : ℕ) (a : Answered) (e : a ≡ start_answer K m) where
   pub refused : (a.number ≡ 0 → ⊥) → outcome a m ≡ start_call K m seed
   unfolding start_call
   refused h = was_refused a (start_answer K m) e (outcome nothing (memory_of (start K seed m.hints))) (λ x. x) m h
 
   module _ (z : a.number ≡ 0) where
     answered : (start_answer K m).number ≡ 0
-    answered = subst (λ (x : Refusal). x.number ≡ 0) e z
+    answered = subst (λ (x : Answered). x.number ≡ 0) e z
 
     pub passed : Sampled K.job K.n K.samples true
     passed = job-passed K true (start_opened K m answered).0

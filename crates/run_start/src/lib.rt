@@ -2,42 +2,42 @@
 #![tactic(auto)]
 
 ghost use Rattle.std.specs.Prelude.{◌≡◌};
+ghost use Rattle.answer.specs.Refusals.{refusal_of};
 ghost use Rattle.answer.specs.Outcome.{outcome};
-ghost use Rattle.quantizer.specs.Course.{course_of};
+ghost use Rattle.quantizer.specs.Course.{course_in};
 ghost use Rattle.run_stages.specs.Calls.{memory, start_call};
 
 use answer::Refusal;
-use job::Sizes;
+use quantizer::Course;
+use run_check::Held;
 
 // Nothing, or the first rule that is broken; then all memory stays as it is.
 pub fn start(
-    z: Sizes,
+    course: &Course,
     seed: u64,
-    tiles: &[u32],
-    colours: &[f32],
-    counts: &[u32],
-    samples: &[u32],
     order: &mut [u32],
     hints: &mut [u32],
     palette: &mut [f32],
     least: &mut [f32],
     words: &mut [u64],
-) -> Refusal
-    ensures { outcome result (memory order.new hints.new palette.new least.new words.new)
-        ≡ start_call (course_of z tiles.now colours.now counts.now samples.now)
+) -> Result<(), Refusal>
+    ensures { outcome (refusal_of result) (memory order.new hints.new palette.new least.new words.new)
+        ≡ start_call (course_in course.now)
         (memory order.old hints.old palette.old least.old words.old) seed }
 {
-    let refusal = run_check::refuses_start(
-        z, tiles, colours, counts, samples, order, hints, palette, least, words,
-    );
-    if refusal.number != 0 {
-        return refusal;
-    }
-    run_blank::blank(z, tiles, colours, counts, samples, palette, least);
-    let r = run_blank::deal(z, order, seed);
-    let next = run_round::first::set_out(
-        z, tiles, colours, counts, samples, order, hints, palette, least, r,
-    );
+    run_check::check_start(
+        course,
+        &Held {
+            order,
+            hints,
+            palette,
+            least,
+            words,
+        },
+    )?;
+    run_blank::blank(course, palette, least);
+    let r = run_blank::deal(course.job.sizes, order, seed);
+    let next = run_round::first::set_out(course, order, hints, palette, least, r);
     run_memory::write_record(words, next);
-    answer::DONE
+    Ok(())
 }

@@ -7,6 +7,10 @@ ghost use Rattle.fit_lines.specs.Lines.{Stored};
 ghost use Rattle.train_samples.specs.Samples.{alike, tile_samples, units, units_to, samples_to, Countable};
 ghost use Rattle.job.specs.Job.{most_tile_size};
 ghost use Rattle.train_samples.specs.Refusal.{refusal_of};
+ghost use Rattle.answer.specs.Refusals.{refusal_of as answered_by};
+
+use answer::Refusal;
+use job::Job;
 
 // The samples of a tile whose counts are `part`.
 fn count_tile(part: &[u32]) -> usize
@@ -20,14 +24,14 @@ fn count_tile(part: &[u32]) -> usize
     n
 }
 
-// The samples of t tiles.
-pub fn count_samples(t: usize, tiles: &[u32], counts: &[u32]) -> usize
-    requires { Countable tiles.now counts.now t }
-    ensures { result ≡ units_to tiles.now counts.now t }
+// The samples of a job.
+pub fn count_samples(job: &Job) -> usize
+    requires { Countable job.now.tiles.now job.now.counts.now job.now.sizes.t }
+    ensures { result ≡ units_to job.now.tiles.now job.now.counts.now job.now.sizes.t }
 {
     let mut n = 0;
-    for i in 0..t {
-        let part = job::counts_part(tiles, counts, i);
+    for i in 0..job.sizes.t {
+        let part = job.counts_part(i);
         n += count_tile(part);
     }
     n
@@ -59,14 +63,15 @@ fn put_tile(samples: &mut [u32], at: usize, i: u32, part: &[u32]) -> usize
     q
 }
 
-// The samples of t tiles, from the first place on.
-pub fn put_samples(t: usize, tiles: &[u32], counts: &[u32], samples: &mut [u32]) -> usize
-    requires { Countable tiles.now counts.now t × (2 * units_to tiles.now counts.now t ≤ length samples.old) }
-    ensures { Stored samples.old samples.new 0 result (samples_to tiles.now counts.now t) }
+// The samples of a job, from the first place on.
+pub fn put_samples(job: &Job, samples: &mut [u32]) -> usize
+    requires { Countable job.now.tiles.now job.now.counts.now job.now.sizes.t
+        × (2 * units_to job.now.tiles.now job.now.counts.now job.now.sizes.t ≤ length samples.old) }
+    ensures { Stored samples.old samples.new 0 result (samples_to job.now.tiles.now job.now.counts.now job.now.sizes.t) }
 {
     let mut q = 0;
-    for i in 0..t {
-        let part = job::counts_part(tiles, counts, i);
+    for i in 0..job.sizes.t {
+        let part = job.counts_part(i);
         q = put_tile(samples, q, i as u32, part);
     }
     q
@@ -74,15 +79,15 @@ pub fn put_samples(t: usize, tiles: &[u32], counts: &[u32], samples: &mut [u32])
 
 const MOST_SAMPLES: usize = 16384;
 
-// 1 where there is no sample, 2 where there are too many, 0 where they can be drawn.
-pub fn refusal(n: usize) -> u32
-    ensures { result ≡ refusal_of n }
+// Whether so many can be drawn: none is 1, too many are 2.
+pub fn refusal(n: usize) -> Result<(), Refusal>
+    ensures { (answered_by result).number ≡ refusal_of n }
 {
     if n == 0 {
-        return 1;
+        return Err(Refusal::NoSamples);
     }
     if n > MOST_SAMPLES {
-        return 2;
+        return Err(Refusal::Sizes);
     }
-    0
+    Ok(())
 }

@@ -13,8 +13,7 @@ use Rattle.answer.specs.Refusals.{Answered}
 use Rattle.answer.specs.Rules.{Passed}
 use Rattle.answer.specs.Outcome.{Outcome, outcome}
 use Rattle.quantizer.specs.Course.{Course}
-use Rattle.run_stages.specs.declared.Advanced.{Advanced}
-use Rattle.run_stages.specs.Calls.{Memory, job_rules, start_call, advance_call, hand_in_call}
+use Rattle.run_stages.specs.Calls.{Memory, Advanced, job_rules, start_call, advance_call, hand_in_call}
 use Rattle.run_calls.specs.Accepted.{Roomy}
 use Rattle.train_run.specs.Training.{cut, all, trained, stop_call, turn_call, turn_calls}
 use Rattle.train_run.proofs.ByCalls.{calls_train}

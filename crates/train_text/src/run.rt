@@ -6,13 +6,14 @@ ghost use Rattle.run_stages.specs.Calls.{memory};
 ghost use Rattle.train_run.specs.Training.{turn_calls};
 ghost use Rattle.train_text.specs.Trained.{trained_palette, Drawable};
 
+use quantizer::Course;
 
 const SEED: u64 = 0;
 
 // More draws than any run makes.
 const ALL: u64 = 0xffff_ffff_ffff_ffff;
 
-const STOPS: u64 = 3;
+const STOPS: usize = 3;
 
 // A turn for each stop: all draws up to the stop, then the working colours are cut and handed in. At a stop the advance is refused and
 // changes nothing.
@@ -29,23 +30,11 @@ fn turns(
         ≡ turn_calls (course_in course.now) 3
         (memory order.old hints.old palette.old least.old words.old) }
 {
-    let mut passed = 0;
-    while passed < STOPS {
-        run_advance::advance(
-            course, order, hints, palette, least, words, ALL,
-        );
+    for _passed in 0..STOPS {
+        run_advance::advance(course, order, hints, palette, least, words, ALL);
         let size = palette.len();
         let reduced = train_parts::cut(palette);
-        run_hand_in::hand_in(
-            course,
-            order,
-            hints,
-            palette,
-            least,
-            words,
-            &reduced[..size],
-        );
-        passed += 1;
+        run_hand_in::hand_in(course, order, hints, palette, least, words, &reduced[..size]);
     }
 }
 
@@ -58,19 +47,16 @@ pub fn train_palette(
     ensures { palette.new
         ≡ trained_palette (course_in course.now) }
 {
-    let mut orders = train_parts::order_room();
-    let mut firsts = sheet_parts::no_hints();
-    let mut errors = sheet_parts::palette_room();
+    let z = course.job.sizes;
+    let size = 3 * (z.s * z.c);
+    let mut orders: [u32; 16384] = sheet_parts::room(0);
+    let mut firsts: [u32; 1024] = sheet_parts::room(0);
+    let mut errors: [f32; 768] = sheet_parts::room(0.0);
     let mut record = [0u64; 7];
-    let size = 3 * (course.job.sizes.s * course.job.sizes.c);
     let order = &mut orders[..z.n];
     let hints = &mut firsts[..z.t];
     let least = &mut errors[..size];
     let words = &mut record[..];
-    run_start::start(
-        course.job.sizes, SEED, course.job.tiles, course.job.colours, course.job.counts, course.samples, order, hints, palette, least, words,
-    );
-    turns(
-        course, order, hints, palette, least, words,
-    );
+    run_start::start(course, SEED, order, hints, palette, least, words);
+    turns(course, order, hints, palette, least, words);
 }

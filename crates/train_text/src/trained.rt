@@ -6,6 +6,7 @@ ghost use Rattle.fit_lines.specs.Lines.{Stored};
 ghost use Rattle.train_text.specs.Trained.{job_text};
 
 use job::{Job, Sizes};
+use quantizer::Course;
 
 // What is written for a job: its sheet trained, or a refusal's line. The palette is lent to the run.
 pub fn put_trained(
@@ -17,21 +18,17 @@ pub fn put_trained(
     ensures { Stored out.old out.new 0 result
         (job_text (job_in job.now)) × (result ≤ 65536) }
 {
-    let n = train_samples::count_samples(job.sizes.t, job.tiles, job.counts);
-    let number = train_samples::refusal(n);
-    if number != 0 {
-        return fit_lines::put_refused(out, 0, number);
+    let n = train_samples::count_samples(job);
+    if let Err(e) = train_samples::refusal(n) {
+        return fit_lines::put_refused(out, 0, e.number());
     }
-    let mut samples = train_parts::samples_room();
-    let m = train_samples::put_samples(job.sizes.t, job.tiles, job.counts, &mut samples);
-    let sampled = Sizes {
-        size: job.sizes.size,
-        s: job.sizes.s,
-        c: job.sizes.c,
-        t: job.sizes.t,
-        n,
-        weight: job.sizes.weight,
+    let mut samples: [u32; 32768] = sheet_parts::room(0);
+    let m = train_samples::put_samples(job, &mut samples);
+    let sizes = Sizes { n, ..job.sizes };
+    let course = Course {
+        job: Job { sizes, ..*job },
+        samples: &samples[..m],
     };
-    crate::run::train_palette(sampled, job.tiles, job.colours, job.counts, &samples[..m], palette);
+    crate::run::train_palette(&course, palette);
     sheet_parts::put_sheet(job, palette, out)
 }

@@ -4,17 +4,17 @@ use mathlib.Core.Path.{ap}
 use Rattle.run_check.proofs.Rooms.{order_unlike, hints_unlike, palette_unlike, least_unlike, words_last}
 use Rattle.run_check.proofs.memory_room.Goals as goal
 
-pub returns-then-order-z : goal.returns-then-order-z
-returns-then-order-z c = order_unlike _ _ _ _ _ _ c.if-order-z.true
+pub returns-then-held-z : goal.returns-then-held-z
+returns-then-held-z c = order_unlike _ _ _ _ _ _ c.if-held-z.true
 
-pub returns-then-hints-z : goal.returns-then-hints-z
-returns-then-hints-z c = hints_unlike _ _ _ _ _ _ c.if-order-z.false c.if-hints-z.true
+pub returns-then-held-z-2 : goal.returns-then-held-z-2
+returns-then-held-z-2 c = hints_unlike _ _ _ _ _ _ c.if-held-z.false c.if-held-z-2.true
 
 pub returns-then-not-colours_room : goal.returns-then-not-colours_room
-returns-then-not-colours_room c = palette_unlike _ _ _ _ _ _ c.if-order-z.false c.if-hints-z.false _ c.colours_room.ensures (ap not c.if-not-colours_room.true)
+returns-then-not-colours_room c = palette_unlike _ _ _ _ _ _ c.if-held-z.false c.if-held-z-2.false _ c.colours_room.ensures (ap not c.if-not-colours_room.true)
 
 pub returns-then-not-colours_room-2 : goal.returns-then-not-colours_room-2
-returns-then-not-colours_room-2 c = least_unlike _ _ _ _ _ _ c.if-order-z.false c.if-hints-z.false _ c.colours_room.ensures (ap not c.if-not-colours_room.false) _ c.colours_room-2.ensures (ap not c.if-not-colours_room-2.true)
+returns-then-not-colours_room-2 c = least_unlike _ _ _ _ _ _ c.if-held-z.false c.if-held-z-2.false _ c.colours_room.ensures (ap not c.if-not-colours_room.false) _ c.colours_room-2.ensures (ap not c.if-not-colours_room-2.true)
 
 pub returns : goal.returns
-returns c = words_last _ _ _ _ _ _ c.if-order-z.false c.if-hints-z.false _ c.colours_room.ensures (ap not c.if-not-colours_room.false) _ c.colours_room-2.ensures (ap not c.if-not-colours_room-2.false)
+returns c = words_last _ _ _ _ _ _ c.if-held-z.false c.if-held-z-2.false _ c.colours_room.ensures (ap not c.if-not-colours_room.false) _ c.colours_room-2.ensures (ap not c.if-not-colours_room-2.false)

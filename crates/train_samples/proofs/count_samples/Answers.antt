@@ -7,7 +7,7 @@ use Rattle.train_samples.proofs.Counts.{no_tile, tile-more, few-units}
 use Rattle.train_samples.proofs.count_samples.Goals as goal
 
 pub loop-i-init : goal.loop-i-init
-loop-i-init c = sym (no_tile c.args.tiles.now c.args.counts.now)
+loop-i-init c = sym (no_tile c.args.job.now.tiles.now c.args.job.now.counts.now)
 
 pub counts_part-part-requires : goal.counts_part-part-requires
 counts_part-part-requires c = c.requires.placed _ c.loop-i-test.true
@@ -18,15 +18,15 @@ count_tile-n-requires c = omega (arith, ap units c.counts_part-part.ensures, c.r
 pub overflow_add-n : goal.overflow_add-n
 overflow_add-n c =
     let a = c.args in
-    let more = tile-more a.tiles.now a.counts.now c.loop-i.i c.loop-i.n _ c.loop-i.invariant c.counts_part-part.ensures c.count_tile-n.ensures in
-    omega (arith, more, few-units a.tiles.now a.counts.now a.t c.requires (c.loop-i.i + 1) (omega (arith, c.loop-i-test.true)), c.requires.few)
+    let more = tile-more a.job.now.tiles.now a.job.now.counts.now c.loop-i.i c.loop-i.n _ c.loop-i.invariant c.counts_part-part.ensures c.count_tile-n.ensures in
+    omega (arith, more, few-units a.job.now.tiles.now a.job.now.counts.now a.job.now.sizes.t c.requires (c.loop-i.i + 1) (omega (arith, c.loop-i-test.true)), c.requires.few)
 
 pub loop-i-preserved : goal.loop-i-preserved
 loop-i-preserved c =
     let a = c.args in
-    tile-more a.tiles.now a.counts.now c.loop-i.i c.loop-i.n _ c.loop-i.invariant c.counts_part-part.ensures c.count_tile-n.ensures
+    tile-more a.job.now.tiles.now a.job.now.counts.now c.loop-i.i c.loop-i.n _ c.loop-i.invariant c.counts_part-part.ensures c.count_tile-n.ensures
 
 pub returns : goal.returns
 returns c =
-    let all : c.loop-i.i ≡ c.args.t = omega arith in
-    c.loop-i.invariant ∙ ap (units_to c.args.tiles.now c.args.counts.now) all
+    let all : c.loop-i.i ≡ c.args.job.now.sizes.t = omega arith in
+    c.loop-i.invariant ∙ ap (units_to c.args.job.now.tiles.now c.args.job.now.counts.now) all

@@ -4,4 +4,4 @@ use Rattle.train_samples.specs.Samples.{units_to}
 use Rattle.train_samples.proofs.count_samples.Given as goal
 
 abbrev pub invariant-loop-i : goal.invariant-loop-i
-invariant-loop-i l = l.n ≡ units_to l.tiles l.counts l.i
+invariant-loop-i l = l.n ≡ units_to l.job.tiles.now l.job.counts.now l.i

@@ -25,4 +25,4 @@ loop-i-preserved c =
     samples-more _ _ _ _ _ _ _ _ _ c.loop-i.invariant (rw c.counts_part-part.ensures at c.put_tile-q.ensures)
 
 pub returns : goal.returns
-returns c = let e : c.loop-i.i ≡ c.args.t = omega arith in rw e at c.loop-i.invariant
+returns c = let e : c.loop-i.i ≡ c.args.job.now.sizes.t = omega arith in rw e at c.loop-i.invariant

@@ -4,4 +4,4 @@ use Rattle.train_samples.specs.Samples.{samples_to}
 use Rattle.train_samples.proofs.put_samples.Given as goal
 
 abbrev pub invariant-loop-i : goal.invariant-loop-i
-invariant-loop-i l = Stored l.initial.samples l.samples 0 l.q (samples_to l.tiles l.counts l.i)
+invariant-loop-i l = Stored l.initial.samples l.samples 0 l.q (samples_to l.job.tiles.now l.job.counts.now l.i)

@@ -29,12 +29,6 @@ slice_bounds-hand_in-end c =
 pub hand_in-requires : goal.hand_in-requires
 hand_in-requires c = tt
 
-pub overflow_add-passed : goal.overflow_add-passed
-overflow_add-passed c = next_fits _ _ _ _ c.loop-passed.invariant c.loop-passed-test.true
-
-pub loop-passed-smaller : goal.loop-passed-smaller
-loop-passed-smaller c = nearer _ _ _ _ c.loop-passed.invariant c.loop-passed-test.true
-
 pub loop-passed-preserved : goal.loop-passed-preserved
 loop-passed-preserved c =
     one_more _ _ _ _ c.loop-passed.invariant c.loop-passed-test.true _ _ _ _ _ c.advance.ensures c.cut-reduced.ensures.1

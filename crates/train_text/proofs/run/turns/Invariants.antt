@@ -6,7 +6,4 @@ use Rattle.train_text.proofs.Joined.{Turned}
 use Rattle.train_text.proofs.run.turns.Given as goal
 
 abbrev pub invariant-loop-passed : goal.invariant-loop-passed
-invariant-loop-passed l = Turned (course_in l.course) l.passed (memory l.initial.order l.initial.hints l.initial.palette l.initial.least l.initial.words) (memory l.order l.hints l.palette l.least l.words)
-
-abbrev pub decreases-loop-passed : goal.decreases-loop-passed
-decreases-loop-passed l = 3 - l.passed
+invariant-loop-passed l = Turned (course_in l.course) l._passed (memory l.initial.order l.initial.hints l.initial.palette l.initial.least l.initial.words) (memory l.order l.hints l.palette l.least l.words)

@@ -1,5 +1,7 @@
 -- `put_trained` meets its contract, by the refusal that its number of samples gets. Assumes nothing.
+use mathlib.Core.Path.{refl}
 use native.Mathlib.Omega.{arith}
+use Rattle.answer.proofs.Refusals.{never_done}
 use Rattle.sheet_parts.proofs.Parts.{front_long}
 use Rattle.fit_lines.proofs.Lengths.{refused-most}
 use Rattle.train_text.proofs.Rules.{countable}
@@ -9,37 +11,31 @@ use Rattle.train_text.proofs.trained.put_trained.Goals as goal
 pub count_samples-n-requires : goal.count_samples-n-requires
 count_samples-n-requires c = countable _ _ c.requires.0.passed
 
-pub refusal-number-requires : goal.refusal-number-requires
-refusal-number-requires c = tt
+pub shape_of-out-in-Err : goal.shape_of-out-in-Err
+shape_of-out-in-Err c = c.put_refused.auto.out
 
-pub shape_of-out-then-number-ne0 : goal.shape_of-out-then-number-ne0
-shape_of-out-then-number-ne0 c = c.put_refused.auto.out
-
-pub returns-then-number-ne0 : goal.returns-then-number-ne0
-returns-then-number-ne0 c = (
-  refused-text _ _ c.requires.0 _ c.count_samples-n.ensures _ _ _ _ c.refusal-number.ensures c.if-number-ne0.true
-      c.put_refused.ensures,
-  omega (arith, c.put_refused.ensures.place, refused-most c.refusal-number.result),
+pub returns-in-Err : goal.returns-in-Err
+returns-in-Err c = (
+  refused-text _ _ c.requires.0 _ c.count_samples-n.ensures _ _ _ _ c.in-Err.ensures (never_done _)
+      (rw c.number.ensures at c.put_refused.ensures),
+  omega (arith, c.put_refused.ensures.place, refused-most c.number.result),
 )
-
-pub samples_room-samples-requires : goal.samples_room-samples-requires
-samples_room-samples-requires c = tt
 
 pub put_samples-m-requires : goal.put_samples-m-requires
 put_samples-m-requires c = (
   countable _ _ c.requires.0.passed,
-  place_for-all _ _ c.requires.0 _ c.count_samples-n.ensures _ c.refusal-number.ensures c.if-number-ne0.false
-      c.samples_room-samples.result c.samples_room-samples.ensures,
+  place_for-all _ _ c.requires.0 _ c.count_samples-n.ensures _ c.in_default.ensures refl
+      c.room-samples.result c.room-samples.ensures.0,
 )
 
 pub slice_bounds-samples-end : goal.slice_bounds-samples-end
 slice_bounds-samples-end c =
     omega (
       arith,
-      taken _ _ c.requires.0 _ c.count_samples-n.ensures _ c.refusal-number.ensures c.if-number-ne0.false _ _
-          c.samples_room-samples.ensures _ c.put_samples-m.ensures,
+      taken _ _ c.requires.0 _ c.count_samples-n.ensures _ c.in_default.ensures refl _ _
+          c.room-samples.ensures.0 _ c.put_samples-m.ensures,
       c.put_samples-m.auto.samples,
-      c.samples_room-samples.ensures,
+      c.room-samples.ensures.0,
     )
 
 pub slice_bounds-train_palette-end : goal.slice_bounds-train_palette-end
@@ -47,21 +43,21 @@ slice_bounds-train_palette-end c =
     front_long c.put_samples-m.result c.put_samples-m.new.samples
     (omega (
       arith,
-      taken _ _ c.requires.0 _ c.count_samples-n.ensures _ c.refusal-number.ensures c.if-number-ne0.false _ _
-          c.samples_room-samples.ensures _ c.put_samples-m.ensures,
+      taken _ _ c.requires.0 _ c.count_samples-n.ensures _ c.in_default.ensures refl _ _
+          c.room-samples.ensures.0 _ c.put_samples-m.ensures,
       c.put_samples-m.auto.samples,
-      c.samples_room-samples.ensures,
+      c.room-samples.ensures.0,
     ))
 
 pub train_palette-requires : goal.train_palette-requires
 train_palette-requires c =
-    drawable _ _ c.requires.0 _ c.count_samples-n.ensures _ c.refusal-number.ensures c.if-number-ne0.false _ _
-    c.samples_room-samples.ensures _ c.put_samples-m.ensures
+    drawable _ _ c.requires.0 _ c.count_samples-n.ensures _ c.in_default.ensures refl _ _
+    c.room-samples.ensures.0 _ c.put_samples-m.ensures
 
 pub put_sheet-requires : goal.put_sheet-requires
 put_sheet-requires c = (
-  trained-writable _ _ c.requires.0 _ c.count_samples-n.ensures _ c.refusal-number.ensures c.if-number-ne0.false _ _
-      c.samples_room-samples.ensures _ c.put_samples-m.ensures _ c.train_palette.ensures,
+  trained-writable _ _ c.requires.0 _ c.count_samples-n.ensures _ c.in_default.ensures refl _ _
+      c.room-samples.ensures.0 _ c.put_samples-m.ensures _ c.train_palette.ensures,
   c.requires.1,
 )
 
@@ -73,8 +69,8 @@ shape_of-out c = c.put_sheet.auto.out
 
 pub returns : goal.returns
 returns c = (
-  trained-text _ _ c.requires.0 _ c.count_samples-n.ensures _ c.refusal-number.ensures c.if-number-ne0.false _ _
-      c.samples_room-samples.ensures _ c.put_samples-m.ensures _ c.train_palette.ensures _ _ _
+  trained-text _ _ c.requires.0 _ c.count_samples-n.ensures _ c.in_default.ensures refl _ _
+      c.room-samples.ensures.0 _ c.put_samples-m.ensures _ c.train_palette.ensures _ _ _
       c.put_sheet.ensures.0,
   c.put_sheet.ensures.1,
 )
