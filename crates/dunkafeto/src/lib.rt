@@ -16,7 +16,7 @@ ghost use Rattle.dunkafeto.specs.Told.{told_advance};
 use answer::Refusal;
 use job::Job;
 use quantizer::Course;
-use run_check::Held;
+use run_check::Memory;
 
 // A host's numbers and slices as a job.
 fn lent_job<'a>(
@@ -187,7 +187,7 @@ pub fn dunkafeto_result(
         (memory order.now hints.now palette.now least.now words.now) out.old) }
 {
     let course = lent_course(size, s, c, t, n, weight, tiles, colours, counts, samples);
-    let held = Held {
+    let held = Memory {
         order,
         hints,
         palette,
