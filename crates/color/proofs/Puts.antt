@@ -11,8 +11,8 @@ use Rattle.lists.proofs.Runs.{lt_or_gt, sets-before, sets-after, sets_in, all_se
 use Rattle.color.specs.declared.Oklab.{Oklab}
 use Rattle.color.specs.Color.{colour_at, put_at}
 
-pub colour-eq : {x y : Oklab} → x.l ≡ y.l → x.a ≡ y.a → x.b ≡ y.b → x ≡ y
-colour-eq {x} {y} p q r =
+pub colour_eq : {x y : Oklab} → x.l ≡ y.l → x.a ≡ y.a → x.b ≡ y.b → x ≡ y
+colour_eq {x} {y} p q r =
     ap (λ (z : Float). record { l = z; a = x.a; b = x.b }) p
     ∙ ap (λ (z : Float). record { l = y.l; a = z; b = x.b }) q
     ∙ ap (λ (z : Float). record { l = y.l; a = y.a; b = z }) r
@@ -48,13 +48,13 @@ module _ (s : List Float) (i : ℕ) (x : Oklab) where
       ]
 
   pub put_elsewhere : (j : ℕ) → j ≢ i → colour_at (put_at s i x) j ≡ colour_at s j
-  put_elsewhere j n = colour-eq (put_other (3 * j) (side (3 * j) (omega arith) (omega arith))) (put_other (3 * j + 1) (side (3 * j + 1) (omega arith) (omega arith))) (put_other (3 * j + 2) (side (3 * j + 2) (omega arith) (omega arith)))
+  put_elsewhere j n = colour_eq (put_other (3 * j) (side (3 * j) (omega arith) (omega arith))) (put_other (3 * j + 1) (side (3 * j + 1) (omega arith) (omega arith))) (put_other (3 * j + 2) (side (3 * j + 2) (omega arith) (omega arith)))
     where
       side : (k : ℕ) → 3 * j < k + 1 → k < 3 * j + 3 → (k < 3 * i) ⊎ (3 * i + 2 < k)
       side k a b = elim (lt_or_gt n) [ inl g ↦ inl (omega arith) | inr g ↦ inr (omega arith) ]
 
   pub put_here : 3 * i + 2 < length s → colour_at (put_at s i x) i ≡ x
-  put_here h = colour-eq (at (3 * i) 0 (omega arith) (omega arith)) (at (3 * i + 1) 1 refl (omega arith)) (at (3 * i + 2) 2 refl (omega arith))
+  put_here h = colour_eq (at (3 * i) 0 (omega arith) (omega arith)) (at (3 * i + 1) 1 refl (omega arith)) (at (3 * i + 2) 2 refl (omega arith))
     where
       at : (k d : ℕ) → k ≡ 3 * i + d → d < 3 → get_or (put_at s i x) k nan ≡ get_or (numbers x) d nan
       at k d e l =

@@ -3,13 +3,8 @@ use Prim.Native.Nat.{ℕ, ◌+◌, ◌≤◌}
 use mathlib.Core.Path.{◌≡◌, refl, ap, sym, ◌∙◌}
 use native.Mathlib.Numerals.{add-one}
 use native.Mathlib.Nat.{le_antisymm}
-use lib.IntN.{pos}
-use lib.Ieee.{binary32, of_int}
 use Rattle.color.specs.declared.Oklab.{Oklab}
-use Rattle.color.specs.Color.{black, plus_of, scaled_of, plus_times, over_of, sum_of, mean_of}
-
-pub times-done : (x q t r : Oklab) (m : ℕ) → t ≡ scaled_of q (of_int binary32 (pos m)) → r ≡ plus_of x t → r ≡ plus_times x q m
-times-done x q t r m e f = f ∙ ap (plus_of x) e
+use Rattle.color.specs.Color.{black, plus_of, over_of, sum_of, mean_of}
 
 module _ (c : ℕ → Oklab) where
   pub sum-none : black ≡ sum_of c 0

@@ -27,6 +27,7 @@ pub fn colour(s: &[f32], i: usize) -> Oklab
 }
 
 // Colour i of a flat slice becomes x.
+#[tactic(auto, unfolding(crate::specs::Color::put_at))]
 pub fn put(s: &mut [f32], i: usize, x: Oklab)
     requires { 3 * i + 2 < length s.old }
     ensures { s.new ≡ put_at s.old i x }
@@ -96,6 +97,7 @@ fn blend(alpha: f32, c: f32, t: f32) -> f32
 }
 
 // A colour moves towards another.
+#[tactic(auto, using(crate::proofs::Puts::colour_eq))]
 pub fn nudged(alpha: f32, c: Oklab, t: Oklab) -> Oklab
     ensures { result ≡ nudged alpha c t }
 {

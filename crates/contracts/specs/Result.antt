@@ -8,7 +8,7 @@ use Rattle.answer.specs.Refusals.{Answered, refusal_of}
 use Rattle.answer.specs.Outcome.{Outcome, outcome}
 use Rattle.answer.specs.Rules.{answer}
 use Rattle.quantizer.specs.Course.{Course, course_of, course_in}
-use Rattle.run_check.specs.Held.{memory_in}
+use Rattle.run_check.specs.Reads.{memory_in}
 use Rattle.run_stages.specs.Calls.{Memory, memory, result_rules, result_call}
 use Rattle.demands.specs.First.{itself}
 use Rattle.answer.specs.Words.{told}

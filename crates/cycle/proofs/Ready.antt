@@ -15,13 +15,13 @@ over : (n made : ℕ) (b : Bool) → 0 < made → eqb (made % n) 0 ≡ b → rou
 over n made b h e = simp (lt-ltb 0 made h, e)
 
 module _ (d : Deck) where
-  pub ready-first : ready (cycle d 0) ≡ d
+  pub ready_first : ready (cycle d 0) ≡ d
   unfolding ready
-  ready-first = refl
+  ready_first = refl
 
-  pub ready-within : (made : ℕ) → 0 < made % length d.order → ready (cycle d made) ≡ d
+  pub ready_within : (made : ℕ) → 0 < made % length d.order → ready (cycle d made) ≡ d
   unfolding ready
-  ready-within made h =
+  ready_within made h =
       let n : ℕ = length d.order in
       ap (λ (b : Bool). shuffled_if b d) (over n made false (omega (arith, mod-le made n)) (ne_eqb (made % n) 0 (omega arith)))
 

@@ -14,7 +14,7 @@ use Rattle.lists.specs.Firsts.{up_to}
 use Rattle.lists.proofs.Hits.{length-firsts, count-above, count-up_to}
 use Rattle.prng.specs.Shuffle.{Deck}
 use Rattle.prng.proofs.Shuffled.{shuffle_permutes, below_by_count}
-use Rattle.cycle.proofs.Ready.{ready-within, ready_again}
+use Rattle.cycle.proofs.Ready.{ready_within, ready_again}
 use Rattle.cycle.specs.Cycle.{Cycle, cycle, ready, draw_one, after, draw_at, round_at}
 
 -- ---- each round is a permutation of 0 .. n - 1
@@ -57,7 +57,7 @@ module _ (n seed : ℕ) (pos : 0 < n) where
       let size : length d.order ≡ n = round-size n seed (t / n) in
       ⊎_elim
       (λ h. ready_again d (suc t) (zero-lt-suc t) (rw size h.1) ∙ ap (round_at n seed) (sym h.0))
-      (λ h. ready-within d (suc t) (rw size (omega (arith, h.1))) ∙ ap (round_at n seed) (sym h.0))
+      (λ h. ready_within d (suc t) (rw size (omega (arith, h.1))) ∙ ap (round_at n seed) (sym h.0))
       (next_place n t pos)
 
   -- the state of a run after its first t + 1 draws

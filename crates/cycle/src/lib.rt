@@ -10,6 +10,7 @@ ghost use Rattle.cycle.specs.Cycle.{cycle, ready, drawn, draw_one, after};
 use prng::Prng;
 
 // Shuffles the present order again where, after `made` draws, a round is over and another begins.
+#[tactic(auto, using(crate::proofs::Ready::ready_first, crate::proofs::Ready::ready_within, crate::proofs::Ready::ready_again))]
 pub fn reshuffle(prng: &mut Prng, made: u64, order: &mut [u32])
     requires { 0 < length order.old }
     ensures { deck order.new prng.new.state ≡ ready (cycle (deck order.old prng.old.state) made) }
@@ -35,6 +36,7 @@ pub struct SampleCycle {
 }
 
 // Fills order with 0, 1 ..
+#[tactic(auto, unfolding(lists::specs::Firsts::firsts))]
 fn fill(order: &mut [u32])
     requires { length order.old ≤ 2 ^ 32 }
     ensures { order.new ≡ up_to (length order.old) }
@@ -46,6 +48,7 @@ fn fill(order: &mut [u32])
 
 impl SampleCycle {
     // Writes the first order: 0, 1 .. shuffled from the seed.
+    #[tactic(auto, unfolding(crate::specs::Cycle::after))]
     pub fn new(order: &mut [u32], seed: u64) -> SampleCycle
         requires { length order.old ≤ 2 ^ 32 }
         ensures { cycle (deck order.new result.prng.state) result.made ≡ after (length order.old) seed 0 }
@@ -57,6 +60,7 @@ impl SampleCycle {
     }
 
     // The next draw.
+    #[tactic(auto, unfolding(crate::specs::Cycle::draw_one))]
     pub fn next(&mut self, order: &mut [u32]) -> u32
         requires { (0 < length order.old) × (self.old.made + 1 < 2 ^ 64) }
         ensures { drawn result (cycle (deck order.new self.new.prng.state) self.new.made) ≡ draw_one (cycle (deck order.old self.old.prng.state) self.old.made) }

@@ -8,8 +8,8 @@ use lib.Dec.{eqb}
 use lib.Ieee.{Float}
 use lib.ListN.{length}
 use borrow.Author.Tests.{eqb-true}
-use Rattle.answer.specs.declared.Refusal.{Refusal}
-use Rattle.answer.specs.Rules.{nothing, answer}
+use Rattle.answer.specs.Refusals.{Answered, nothing}
+use Rattle.answer.specs.Rules.{answer}
 use Rattle.answer.specs.Outcome.{Outcome, outcome, decided}
 use Rattle.job.specs.Job.{Job}
 use Rattle.job.specs.Checks.{plain_answer}
@@ -17,9 +17,8 @@ use Rattle.job.specs.Bad.{plain_names, most_index}
 use Rattle.job.proofs.Indexes.{unplaced, plain-placed}
 use Rattle.assign.specs.Assign as assigning
 use Rattle.quantizer.specs.Course.{Course}
-use Rattle.run_stages.specs.declared.Advanced.{Advanced}
 use Rattle.run_stages.specs.Stages.{advance, draws_of}
-use Rattle.run_stages.specs.Calls.{Memory, state_of, start_answer, advance_answer, hand_in_answer, result_answer, start_call, advance_call, hand_in_call, result_call}
+use Rattle.run_stages.specs.Calls.{Memory, state_of, start_answer, advance_answer, hand_in_answer, result_answer, start_call, advance_call, hand_in_call, result_call, Advanced}
 use Rattle.run_calls.proofs.Cases.{by-test}
 use Rattle.run_calls.proofs.Place.{advance-rests}
 use Rattle.run_calls.proofs.Made.{advance-made}
@@ -29,7 +28,7 @@ use Rattle.run_calls.proofs.Indexes.{start-placed, advance-placed, hand_in-place
 use Rattle.run_draw.proofs.Draws.{few-made}
 
 -- the index of a call that is done or refused
-decided-few : {M : Type 0} (e : Refusal) (after lent : M) → e.index ≤ most_index → (decided e (outcome nothing after) e lent).answer.index ≤ most_index
+decided-few : {M : Type 0} (e : Answered) (after lent : M) → e.index ≤ most_index → (decided e (outcome nothing after) e lent).answer.index ≤ most_index
 unfolding decided
 decided-few {M} e after lent h = by (eqb e.number 0)
   where

@@ -2,8 +2,7 @@
 use Rattle.std.specs.Prelude.{ℕ}
 use Rattle.answer.specs.Outcome.{Outcome, outcome}
 use Rattle.answer.specs.Words.{word}
-use Rattle.run_stages.specs.declared.Advanced.{Advanced}
-use Rattle.run_stages.specs.Calls.{Memory}
+use Rattle.run_stages.specs.Calls.{Memory, Advanced}
 
 -- the draws that it made, or a refusal's index
 unfoldable pub told_advance : Outcome Advanced Memory → Outcome ℕ Memory

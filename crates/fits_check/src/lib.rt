@@ -24,7 +24,8 @@ pub fn check_one(job: &Job, palette: &[f32], hints: usize) -> Result<(), Refusal
 pub fn check_single(job: &Job, palette: &[f32], hints: usize) -> Result<(), Refusal>
     ensures { refusal_of result ≡ single_answer (job_in job.now) palette.now hints }
 {
-    check_one(job, palette, hints)?;
+    let one = check_one(job, palette, hints);
+    one?;
     if job.is_empty(0) {
         return Err(Refusal::EmptyTile);
     }

@@ -89,13 +89,14 @@ pub fn group(
     ensures { outcome (by_number result) (entry_room entry_bytes.new entry_oklab.new entry_counts.new index.new)
         ≡ grouping size (given_in q.now) (entry_room entry_bytes.old entry_oklab.old entry_counts.old index.old) }
 {
-    group_refusal::check_group(
+    let checked = group_refusal::check_group(
         size,
         q,
         entry_bytes.len(),
         entry_oklab.len(),
         entry_counts.len(),
         index.len(),
-    )?;
+    );
+    checked?;
     Ok(fill(q, entry_bytes, entry_oklab, entry_counts, index))
 }

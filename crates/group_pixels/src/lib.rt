@@ -35,7 +35,13 @@ pub fn is_zero(zero: Option<Rgb>, x: Rgba) -> bool
     ensures { result ≡ is_zero zero x }
 {
     match zero {
-        Some(z) => x.r == z.r && x.g == z.g && x.b == z.b,
+        Some(z) => {
+            z == Rgb {
+                r: x.r,
+                g: x.g,
+                b: x.b,
+            }
+        }
         None => false,
     }
 }

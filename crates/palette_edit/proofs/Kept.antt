@@ -13,7 +13,7 @@ use Rattle.lists.proofs.Runs.{lt_or_gt, all-paste}
 use Rattle.lists.proofs.Copies.{row_before, row_room, part_length, part_at, part_here, part_elsewhere, length-copied}
 use Rattle.color.specs.declared.Oklab.{Oklab}
 use Rattle.color.specs.Color.{colour_at, put_at}
-use Rattle.color.proofs.Puts.{colour-eq, length_put, put_other}
+use Rattle.color.proofs.Puts.{colour_eq, length_put, put_other}
 use Rattle.palette.specs.Palette.{sub_of}
 use Rattle.palette_edit.specs.Edits.{place_of, sub_copied}
 
@@ -28,7 +28,7 @@ place-room n c i j size l m h = omega (arith, place_at c i j, row_room i n (3 * 
 -- the numbers of the colours of a subpalette are those at its places of the whole
 pub sub-colour : (pal : List Float) (c have i j : ℕ) → j < have → colour_at (sub_of pal c have i) j ≡ colour_at pal (place_of c i j)
 sub-colour pal c have i j l =
-    colour-eq
+    colour_eq
     (part_at nan pal (3 * c) (3 * have) i (3 * j) (omega arith) ∙ ap (λ (k : ℕ). get_or pal k nan) (sym (place_at c i j)))
     (part_at nan pal (3 * c) (3 * have) i (3 * j + 1) (omega arith) ∙ ap (λ (k : ℕ). get_or pal k nan) (one_more 1))
     (part_at nan pal (3 * c) (3 * have) i (3 * j + 2) (omega arith) ∙ ap (λ (k : ℕ). get_or pal k nan) (one_more 2))

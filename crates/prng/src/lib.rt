@@ -21,6 +21,7 @@ fn wrapping_mul(a: u64, b: u64) -> u64
 }
 
 // SplitMix64's finalizer.
+#[tactic(auto, unfolding(crate::specs::SplitMix::mix, crate::specs::SplitMix::xor_shift))]
 pub fn mixed(x: u64) -> u64
     ensures { result ≡ mix x }
 {
@@ -44,6 +45,7 @@ impl Prng {
     }
 
     // The next output; the generator goes on.
+    #[tactic(auto, unfolding(crate::specs::SplitMix::output, crate::specs::SplitMix::next_state))]
     pub fn next(&mut self) -> u64
         ensures { (result ≡ output self.old.state) × (self.new.state ≡ next_state self.old.state) }
     {

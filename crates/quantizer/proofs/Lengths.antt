@@ -20,7 +20,8 @@ use Rattle.quantizer.proofs.Lists.{length-bump, length-zeros}
 use Rattle.quantizer.specs.Seeding.{seed_mean, seeded, distance_step, distances_of}
 use Rattle.quantizer.specs.Growing.{tile_needs, need_step, needs_of, grown_by, grown, grown_hints}
 use Rattle.quantizer.specs.Replacing.{Shares, shares_of, pair_hints, tile_shares, spread_step, spread_of, replaced_hints}
-use Rattle.quantizer.specs.Refining.{Gather, gather_of, mean_step, means_of, refined}
+use Rattle.quantizer.specs.declared.Gather.{Gather}
+use Rattle.quantizer.specs.Refining.{gather_of, mean_step, means_of, refined}
 use Rattle.quantizer.specs.Drawing.{target_of, moved, moved_hints}
 use Rattle.quantizer.specs.Lengths.{Wide}
 

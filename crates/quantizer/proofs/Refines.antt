@@ -26,7 +26,8 @@ use Rattle.palette.specs.Palette.{Tile, sub_of, nearest_of}
 use Rattle.palette_tile.specs.Tiles.{tile_at, winner, Shown}
 use Rattle.palette_tile.proofs.Present.{winner-below, part-nearest, tile_sized_lem}
 use Rattle.quantizer.specs.Sums.{zeros, places}
-use Rattle.quantizer.specs.Refining.{Gather, nothing, add_at, tile_gather, gather_step, gather_of, mean_step, means_of, refined}
+use Rattle.quantizer.specs.declared.Gather.{Gather}
+use Rattle.quantizer.specs.Refining.{nothing, add_at, tile_gather, gather_step, gather_of, mean_step, means_of, refined}
 use Rattle.quantizer.proofs.Lists.{length-zeros, zeros-bounded}
 use Rattle.quantizer.proofs.Indexes.{shown-few, place-placed}
 use Rattle.quantizer.specs.Refines.{Gathered, SumsWithin}

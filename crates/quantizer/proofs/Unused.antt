@@ -12,7 +12,7 @@ use lib.Ieee.{Float, nan}
 use Rattle.lists.proofs.Runs.{lt_or_gt, paste-before, paste-after}
 use Rattle.lists.proofs.Copies.{part_length}
 use Rattle.color.specs.Color.{colour_at}
-use Rattle.color.proofs.Puts.{colour-eq, put_elsewhere}
+use Rattle.color.proofs.Puts.{colour_eq, put_elsewhere}
 use Rattle.job.specs.Job.{Job, tile_of}
 use Rattle.palette.specs.Palette.{sub_of, nearest_of}
 use Rattle.palette_edit.specs.Edits.{place_of}
@@ -42,7 +42,7 @@ module _ (J : Job) (pal : List Float) (from to : ℕ) (some : 1 ≤ J.C) (F : fr
   pub duplicated_unused : (i c : ℕ) → c < J.C → (i ≢ to) ⊎ (c ≢ 0) → colour_at (duplicated J from to pal) (place_of J.C i c) ≡ colour_at pal (place_of J.C i c)
   duplicated_unused i c h u =
       let m = place_of J.C i c in
-      colour-eq (other-number (3 * m) (side (3 * m) (omega arith) (omega arith))) (other-number (3 * m + 1) (side (3 * m + 1) (omega arith) (omega arith))) (other-number (3 * m + 2) (side (3 * m + 2) (omega arith) (omega arith)))
+      colour_eq (other-number (3 * m) (side (3 * m) (omega arith) (omega arith))) (other-number (3 * m + 1) (side (3 * m + 1) (omega arith) (omega arith))) (other-number (3 * m + 2) (side (3 * m + 2) (omega arith) (omega arith)))
     where
       apart : place_of J.C i c ≢ to * J.C
       apart e = elim u [

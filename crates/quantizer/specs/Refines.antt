@@ -2,7 +2,7 @@
 use Rattle.std.specs.Prelude.{ℕ, ◌*◌, ◌≤◌, ◌<◌, ◌≡◌, get_or, length}
 use Rattle.color.specs.Color.{colour_at, Sized}
 use Rattle.quantizer.specs.Sums.{places}
-use Rattle.quantizer.specs.Refining.{Gather}
+use Rattle.quantizer.specs.declared.Gather.{Gather}
 
 -- the arrays are whole, and each sum is at most 2 for each pixel counted
 pub record SumsWithin (A : Gather) : Type 0 where

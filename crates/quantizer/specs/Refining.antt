@@ -8,12 +8,9 @@ use Rattle.palette.specs.Palette.{Tile, sub_of, nearest_of}
 use Rattle.palette_tile.specs.Walk.{walk}
 use Rattle.palette_tile.specs.Tiles.{tile_at, winner}
 use Rattle.quantizer.specs.Sums.{zeros, places}
+use Rattle.quantizer.specs.declared.Gather.{Gather}
 
 -- the sums, three numbers a colour, and how many pixels went into each
-pub record Gather : Type 0 where
-  pub sums : List Float
-  pub cnts : List ℕ
-
 abbrev pub gather : List Float → List ℕ → Gather
 gather sums cnts = record { sums = sums; cnts = cnts }
 

@@ -12,6 +12,7 @@ use Rattle.palette_edit.specs.Edits.{colour_copied, sub_copied}
 use Rattle.palette_tile.specs.Walk.{walk}
 use Rattle.palette_tile.specs.Tiles.{tile_at, two_at}
 use Rattle.quantizer.specs.declared.Swap.{Swap}
+use Rattle.quantizer.specs.declared.Shares as declared
 use Rattle.quantizer.specs.Sums.{bump, zeros, places, sums_at, greatest, smallest}
 
 -- what each has, and what would be added without it
@@ -21,6 +22,10 @@ pub record Shares : Type 0 where
 
 abbrev pub shares : List Float → List Float → Shares
 shares had lost = record { had = had; lost = lost }
+
+-- those of a struct of n places
+abbrev pub shares_in : {n : ℕ} → declared.Shares n → Shares
+shares_in x = shares x.had x.lost
 
 abbrev pub no_shares : ℕ → Shares
 no_shares n = shares (zeros n) (zeros n)

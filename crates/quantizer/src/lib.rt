@@ -17,3 +17,17 @@ pub struct Swap {
     pub from: usize,
     pub to: usize,
 }
+
+// What a pass of refinement takes its means from: for each colour's place a sum, three numbers, and how many pixels went into it.
+#[derive(Drop)]
+pub struct Gather {
+    pub sums: [f32; 768],
+    pub cnts: [u32; 256],
+}
+
+// What each of N places has, and what would be added without it.
+#[derive(Drop)]
+pub struct Shares<const N: usize> {
+    pub had: [f32; N],
+    pub lost: [f32; N],
+}

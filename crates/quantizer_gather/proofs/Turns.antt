@@ -12,7 +12,8 @@ use Rattle.palette_tile.specs.Tiles.{tile_at, fit_at, winner, hint_step, Shown}
 use Rattle.palette_tile.proofs.Present.{winner-below}
 use Rattle.palette_tile.proofs.Walks.{Walked, walked_has}
 use Rattle.palette_tile.proofs.Turns.{no_colours, hint-kept, hint-written, goes_same, goes_asks, fit-index}
-use Rattle.quantizer.specs.Refining.{Gather, nothing, tile_gather, gather_step}
+use Rattle.quantizer.specs.declared.Gather.{Gather}
+use Rattle.quantizer.specs.Refining.{nothing, tile_gather, gather_step}
 use Rattle.quantizer.specs.Refines.{SumsWithin, Gathered}
 use Rattle.quantizer.proofs.Refines.{nothing-gathered, gathered}
 use Rattle.quantizer_gather_tile.specs.Gathers.{Gathering}

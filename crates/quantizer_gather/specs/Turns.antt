@@ -2,7 +2,7 @@
 use Rattle.std.specs.Prelude.{ℕ, ◌*◌, List, Float}
 use Rattle.job.specs.Job.{Job, most_tile_size}
 use Rattle.palette_tile.specs.Tiles.{Paired}
-use Rattle.quantizer.specs.Refining.{Gather}
+use Rattle.quantizer.specs.declared.Gather.{Gather}
 use Rattle.quantizer.specs.Refines.{Gathered}
 
 -- of tile t of a job, where each tile before it had the pixels of the largest at most

@@ -5,24 +5,18 @@
 ghost use Rattle.std.specs.Prelude.{◌≡◌, length};
 ghost use Rattle.job.specs.Job.{job_in};
 ghost use Rattle.palette_tile.specs.Tiles.{winner, hint_step, hints_of, Shown};
-ghost use Rattle.quantizer.specs.Refining.{gather, nothing, gather_step, gather_of};
+ghost use Rattle.quantizer.specs.Refining.{gather_step, gather_of};
 ghost use Rattle.quantizer_gather.specs.Turns.{Turned};
 
 use job::Job;
+use quantizer::Gather;
 
 // Tile i's part; its hint is written, where it is not empty.
-fn gather_step(
-    job: &Job,
-    pal: &[f32],
-    hints: &mut [u32],
-    i: usize,
-    sums: &mut [f32],
-    cnts: &mut [u32],
-)
-    requires { Turned (job_in job.now) pal.now hints.old i (gather sums.old cnts.old) }
-    ensures { (gather sums.new cnts.new
+fn gather_step(job: &Job, pal: &[f32], hints: &mut [u32], i: usize, gathered: &mut Gather)
+    requires { Turned (job_in job.now) pal.now hints.old i gathered.old }
+    ensures { (gathered.new
         ≡ gather_step (job_in job.now) pal.now
-        (winner (job_in job.now) pal.now job.now.sizes.s job.now.sizes.c i) i (gather sums.old cnts.old))
+        (winner (job_in job.now) pal.now job.now.sizes.s job.now.sizes.c i) i gathered.old)
         × (hints.new ≡ hint_step (job_in job.now) pal.now job.now.sizes.s job.now.sizes.c i hints.old) }
 {
     if job.is_empty(i) {
@@ -36,18 +30,22 @@ fn gather_step(
         &palette_tile::tile(job, i),
         job.sizes.weight,
         winner * job.sizes.c,
-        sums,
-        cnts,
+        gathered,
     );
 }
 
-// All tiles' parts, from sums and counts of 0.
-pub fn gather_all(job: &Job, pal: &[f32], hints: &mut [u32], sums: &mut [f32], cnts: &mut [u32])
-    requires { Shown (job_in job.now) pal.now job.now.sizes.s job.now.sizes.c × ((length hints.old ≡ job.now.sizes.t) × (gather sums.old cnts.old ≡ nothing)) }
-    ensures { (gather sums.new cnts.new ≡ gather_of (job_in job.now) pal.now job.now.sizes.t)
+// All tiles' parts.
+pub fn gather_all(job: &Job, pal: &[f32], hints: &mut [u32]) -> Gather
+    requires { Shown (job_in job.now) pal.now job.now.sizes.s job.now.sizes.c × (length hints.old ≡ job.now.sizes.t) }
+    ensures { (result ≡ gather_of (job_in job.now) pal.now job.now.sizes.t)
         × (hints.new ≡ hints_of (job_in job.now) pal.now job.now.sizes.s job.now.sizes.c hints.old job.now.sizes.t) }
 {
+    let mut gathered = Gather {
+        sums: [0.0; 768],
+        cnts: [0; 256],
+    };
     for i in 0..job.sizes.t {
-        gather_step(job, pal, hints, i, sums, cnts);
+        gather_step(job, pal, hints, i, &mut gathered);
     }
+    gathered
 }

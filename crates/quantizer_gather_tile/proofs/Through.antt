@@ -15,7 +15,8 @@ use Rattle.palette.proofs.Near.{nearest-below}
 use Rattle.palette_tile.specs.Tiles.{tile_at, Shown}
 use Rattle.palette_tile.proofs.Present.{part-colours, part-some}
 use Rattle.quantizer.specs.Sums.{places}
-use Rattle.quantizer.specs.Refining.{Gather, tile_gather}
+use Rattle.quantizer.specs.declared.Gather.{Gather}
+use Rattle.quantizer.specs.Refining.{tile_gather}
 use Rattle.quantizer.proofs.Indexes.{row-placed}
 use Rattle.quantizer.specs.Refines.{Gathered}
 use Rattle.quantizer.proofs.Refines.{Summed, tile_summed}

@@ -11,7 +11,8 @@ use Rattle.color.specs.Color.{colour_at, put_at, plus_times}
 use Rattle.stats.specs.declared.Near.{Near}
 use Rattle.palette.specs.Palette.{Tile, nearest_of}
 use Rattle.quantizer.specs.Sums.{places}
-use Rattle.quantizer.specs.Refining.{Gather, gather, add_at, tile_gather}
+use Rattle.quantizer.specs.declared.Gather.{Gather}
+use Rattle.quantizer.specs.Refining.{gather, add_at, tile_gather}
 use Rattle.quantizer_gather_tile.specs.Gathers.{Adding, Gathering}
 use Rattle.quantizer_gather_tile.proofs.Through.{place_in, pixels-part, through}
 

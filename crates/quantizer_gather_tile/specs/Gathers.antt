@@ -4,7 +4,7 @@ use Rattle.lists.specs.Every.{sum}
 use Rattle.color.specs.Color.{Bounded}
 use Rattle.palette.specs.Palette.{Tile}
 use Rattle.quantizer.specs.Sums.{places}
-use Rattle.quantizer.specs.Refining.{Gather}
+use Rattle.quantizer.specs.declared.Gather.{Gather}
 use Rattle.quantizer.specs.Refines.{SumsWithin}
 
 -- the pixels of a tile

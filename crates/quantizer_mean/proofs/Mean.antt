@@ -8,7 +8,8 @@ use lib.Ieee.{Float}
 use borrow.Author.Tests.{eq-eqb, ne_eqb}
 use Rattle.color.specs.declared.Oklab.{Oklab}
 use Rattle.color.specs.Color.{colour_at, put_at, over_of}
-use Rattle.quantizer.specs.Refining.{Gather, mean_step}
+use Rattle.quantizer.specs.declared.Gather.{Gather}
+use Rattle.quantizer.specs.Refining.{mean_step}
 
 module _ (A : Gather) (p : ℕ) (pal : List Float) where
   pub mean_kept : get_or A.cnts p 0 ≡ 0 → pal ≡ mean_step A p pal

@@ -2,18 +2,20 @@
 #![tactic(auto)]
 
 ghost use Rattle.std.specs.Prelude.{◌≡◌, ◌+◌};
-ghost use Rattle.quantizer.specs.Refining.{gather, mean_step};
+ghost use Rattle.quantizer.specs.Refining.{mean_step};
 ghost use Rattle.quantizer_mean.specs.Means.{Meaning};
 
+use quantizer::Gather;
+
 // Colour p becomes the mean of its sum, where pixels were counted.
-pub fn mean_at(pal: &mut [f32], p: usize, sums: &[f32], cnts: &[u32])
-    requires { Meaning pal.old (p + 1) (gather sums.now cnts.now) }
-    ensures { pal.new ≡ mean_step (gather sums.now cnts.now) p pal.old }
+pub fn mean_at(pal: &mut [f32], p: usize, gathered: &Gather)
+    requires { Meaning pal.old (p + 1) gathered.now }
+    ensures { pal.new ≡ mean_step gathered.now p pal.old }
 {
-    let m = cnts[p];
+    let m = gathered.cnts[p];
     if m == 0 {
         return;
     }
-    let x = color::colour(sums, p);
+    let x = color::colour(&gathered.sums, p);
     color::put(pal, p, color::over(x, job::wide(m)));
 }

@@ -11,8 +11,7 @@ use Rattle.palette_tile.specs.Tiles.{Shown, Paired}
 use Rattle.palette_tile.proofs.Present.{pair-below}
 use Rattle.palette_tile.proofs.Walks.{Walked, walked_more, walked_has}
 use Rattle.quantizer.specs.Replacing.{Shares, no_shares, share_with, pair_at}
-use Rattle.quantizer.specs.Lengths.{Wide}
-use Rattle.quantizer.proofs.Lengths.{shares-wide, length-pair_hints}
+use Rattle.quantizer.proofs.Lengths.{length-pair_hints}
 use Rattle.quantizer.proofs.Indexes.{shown-subs}
 
 -- what the walk holds: the sums, and the hints after the best two
@@ -24,19 +23,13 @@ module _ (J : Job) (pal : List Float) (S : Shown J pal J.S J.C) (first hints : L
   pub pairing_length : length hints ≡ length first
   pairing_length = walked_has G.1 (λ i h. length h ≡ length first) (λ i l. length-pair_hints J pal first i)
 
-  pub pairing_wide : Wide B most_subpalettes
-  pairing_wide = walked_has G.0 (λ i A. Wide A most_subpalettes) (λ i l. shares-wide J pal i)
-
   pub pairing_paired : length first ≡ J.T → t < J.T → Paired J pal J.S J.C hints t
   pairing_paired L l = record { shown = S; tile = l; each = pairing_length ∙ L }
 
   -- r is the tile's best two
   module _ (r : Two) (p : r ≡ pair_at J pal t) where
-    index_below : r.index < most_subpalettes
-    index_below = subst⁻¹ (λ (x : Two). x.index < most_subpalettes) p (omega (arith, pair-below J pal J.S J.C S t, shown-subs J pal J.S J.C S))
-
-    pub pairing_room : (r.index < length B.had) × (r.index < length B.lost)
-    pairing_room = (omega (arith, index_below, pairing_wide.had), omega (arith, index_below, pairing_wide.lost))
+    pub pairing_below : r.index < most_subpalettes
+    pairing_below = subst⁻¹ (λ (x : Two). x.index < most_subpalettes) p (omega (arith, pair-below J pal J.S J.C S t, shown-subs J pal J.S J.C S))
 
     pub pairing_more : t < J.T → (after : List ℕ) (C : Shares) → C ≡ share_with r B → after ≡ set hints t r.index → Pairing J pal first after C (t + 1)
     pairing_more l after C e g = (walked_more G.0 l (e ∙ ap (λ (x : Two). share_with x B) p), walked_more G.1 l (g ∙ ap (λ (x : Two). set hints t x.index) p))

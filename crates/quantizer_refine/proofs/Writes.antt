@@ -9,7 +9,8 @@ use lib.ListN.{length}
 use lib.Ieee.{Float}
 use Rattle.job.specs.Job.{Job, most_tile_size}
 use Rattle.palette_tile.specs.Tiles.{Shown}
-use Rattle.quantizer.specs.Refining.{Gather, gather_of, mean_step, means_of, refined}
+use Rattle.quantizer.specs.declared.Gather.{Gather}
+use Rattle.quantizer.specs.Refining.{gather_of, mean_step, means_of, refined}
 use Rattle.quantizer.proofs.Lengths.{length_means}
 use Rattle.quantizer.specs.Refines.{Gathered}
 use Rattle.quantizer.proofs.Refines.{gathered}

@@ -5,18 +5,19 @@
 ghost use Rattle.std.specs.Prelude.{◌≡◌, length};
 ghost use Rattle.job.specs.Job.{job_in};
 ghost use Rattle.palette_tile.specs.Tiles.{hints_of, Shown};
-ghost use Rattle.quantizer.specs.Refining.{gather, means_of, refined};
+ghost use Rattle.quantizer.specs.Refining.{means_of, refined};
 ghost use Rattle.quantizer_mean.specs.Means.{Meaning};
 
 use job::Job;
+use quantizer::Gather;
 
 // The first n colours become the means of their sums.
-fn write_means(pal: &mut [f32], n: usize, sums: &[f32], cnts: &[u32])
-    requires { Meaning pal.old n (gather sums.now cnts.now) }
-    ensures { pal.new ≡ means_of pal.old (gather sums.now cnts.now) n }
+fn write_means(pal: &mut [f32], n: usize, gathered: &Gather)
+    requires { Meaning pal.old n gathered.now }
+    ensures { pal.new ≡ means_of pal.old gathered.now n }
 {
     for p in 0..n {
-        quantizer_mean::mean_at(pal, p, sums, cnts);
+        quantizer_mean::mean_at(pal, p, gathered);
     }
 }
 
@@ -26,8 +27,6 @@ pub fn refine(job: &Job, pal: &mut [f32], hints: &mut [u32])
     ensures { (pal.new ≡ refined (job_in job.now) pal.old)
         × (hints.new ≡ hints_of (job_in job.now) pal.old job.now.sizes.s job.now.sizes.c hints.old job.now.sizes.t) }
 {
-    let mut sums = [0.0f32; 768];
-    let mut cnts = [0u32; 256];
-    quantizer_gather::gather_all(job, pal, hints, &mut sums, &mut cnts);
-    write_means(pal, job.sizes.s * job.sizes.c, &sums, &cnts);
+    let gathered = quantizer_gather::gather_all(job, pal, hints);
+    write_means(pal, job.sizes.s * job.sizes.c, &gathered);
 }

@@ -8,7 +8,7 @@ ghost use Rattle.run_stages.specs.Calls.{memory, advanced_as, advance_call};
 
 use answer::Refusal;
 use quantizer::Course;
-use run_check::Held;
+use run_check::Memory;
 
 // A refusal makes no draw and writes nothing.
 pub fn advance(
@@ -26,7 +26,7 @@ pub fn advance(
 {
     run_check::check_advance(
         course,
-        &Held {
+        &Memory {
             order,
             hints,
             palette,

@@ -6,7 +6,7 @@ ghost use Rattle.std.specs.Prelude.{◌≡◌, IfOk, true, ◌&&◌, ◌*◌, eq
 ghost use Rattle.answer.specs.Refusals.{refusal_of};
 ghost use Rattle.quantizer.specs.Course.{course_in};
 ghost use Rattle.run_stages.specs.Calls.{record_of, record_words, memory_room, colours_room, start_answer, advance_answer, hand_in_answer, result_answer};
-ghost use Rattle.run_check.specs.Held.{memory_in};
+ghost use Rattle.run_check.specs.Reads.{memory_in};
 ghost use Rattle.run_check.specs.Room.{SameInRange, Lends, run_answer};
 ghost use Rattle.run_record.specs.Sized.{plain};
 
@@ -21,7 +21,7 @@ const MOST_COLOURS: usize = 16;
 
 // The memory of a run, as a call reads it: the samples' order, the hints, both palettes, and the record's words.
 #[derive(Clone, Copy)]
-pub struct Held<'a> {
+pub struct Memory<'a> {
     pub order: &'a [u32],
     pub hints: &'a [u32],
     pub palette: &'a [f32],
@@ -45,7 +45,7 @@ fn colours_room(s: usize, c: usize, numbers: usize) -> bool
 }
 
 // Whether the memory lent has its lengths.
-fn memory_room(z: Sizes, held: &Held) -> bool
+fn memory_room(z: Sizes, held: &Memory) -> bool
     ensures { Lends z.s z.c result (memory_room (plain z) (memory_in held.now)) held.now.words.now }
 {
     if held.order.len() != z.n {
@@ -64,7 +64,7 @@ fn memory_room(z: Sizes, held: &Held) -> bool
 }
 
 // The same, with one slice of s·c colours more.
-fn wider_room(z: Sizes, held: &Held, more: &[f32]) -> bool
+fn wider_room(z: Sizes, held: &Memory, more: &[f32]) -> bool
     ensures { Lends z.s z.c result
         (memory_room (plain z) (memory_in held.now)
         && colours_room (plain z) more.now) held.now.words.now }
@@ -76,7 +76,7 @@ fn wider_room(z: Sizes, held: &Held, more: &[f32]) -> bool
 }
 
 // The job's numbers, then those of what a run holds, whose record is read. `room` says whether the slices lent have their lengths.
-fn check_run(course: &Course, held: &Held, room: bool) -> Result<Record, Refusal>
+fn check_run(course: &Course, held: &Memory, room: bool) -> Result<Record, Refusal>
     requires { room ≡ true → length held.now.words.now ≡ record_words }
     ensures answered { refusal_of result ≡ run_answer (course_in course.now) (memory_in held.now) room }
     ensures read { IfOk result (λ r. r ≡ record_of held.now.words.now) }
@@ -89,7 +89,7 @@ fn check_run(course: &Course, held: &Held, room: bool) -> Result<Record, Refusal
 
 // ---- the calls
 
-pub fn check_start(course: &Course, held: &Held) -> Result<(), Refusal>
+pub fn check_start(course: &Course, held: &Memory) -> Result<(), Refusal>
     ensures { refusal_of result ≡ start_answer (course_in course.now)
         (memory_in held.now) }
 {
@@ -97,7 +97,7 @@ pub fn check_start(course: &Course, held: &Held) -> Result<(), Refusal>
     job_check::check_sampled(&course.job, course.samples, room)
 }
 
-pub fn check_advance(course: &Course, held: &Held) -> Result<(), Refusal>
+pub fn check_advance(course: &Course, held: &Memory) -> Result<(), Refusal>
     ensures { refusal_of result ≡ advance_answer (course_in course.now)
         (memory_in held.now) }
 {
@@ -109,7 +109,7 @@ pub fn check_advance(course: &Course, held: &Held) -> Result<(), Refusal>
     Ok(())
 }
 
-pub fn check_hand_in(course: &Course, held: &Held, reduced: &[f32]) -> Result<(), Refusal>
+pub fn check_hand_in(course: &Course, held: &Memory, reduced: &[f32]) -> Result<(), Refusal>
     ensures { refusal_of result ≡ hand_in_answer (course_in course.now)
         (memory_in held.now) reduced.now }
 {
@@ -124,7 +124,7 @@ pub fn check_hand_in(course: &Course, held: &Held, reduced: &[f32]) -> Result<()
     Ok(())
 }
 
-pub fn check_result(course: &Course, held: &Held, out: &[f32]) -> Result<(), Refusal>
+pub fn check_result(course: &Course, held: &Memory, out: &[f32]) -> Result<(), Refusal>
     ensures { refusal_of result ≡ result_answer (course_in course.now)
         (memory_in held.now) out.now }
 {

@@ -13,7 +13,7 @@ ghost use Rattle.run_refine.specs.Refines.{Handed};
 
 use answer::Refusal;
 use quantizer::Course;
-use run_check::Held;
+use run_check::Memory;
 use run_stages::{Record, Stage};
 
 // What follows a stop, with the colours handed in as the palette.
@@ -56,7 +56,7 @@ pub fn hand_in(
 {
     run_check::check_hand_in(
         course,
-        &Held {
+        &Memory {
             order,
             hints,
             palette,

@@ -9,7 +9,7 @@ ghost use Rattle.run_stages.specs.Calls.{memory, start_call};
 
 use answer::Refusal;
 use quantizer::Course;
-use run_check::Held;
+use run_check::Memory;
 
 // Nothing, or the first rule that is broken; then all memory stays as it is.
 pub fn start(
@@ -27,7 +27,7 @@ pub fn start(
 {
     run_check::check_start(
         course,
-        &Held {
+        &Memory {
             order,
             hints,
             palette,

@@ -17,15 +17,6 @@ use Rattle.stats.specs.Lesser.{lesser_of}
 abbrev pub lowest_of : Float → Float → Float → Float → Float
 lowest_of a b c e = lesser_of e (lesser_of c (lesser_of b a))
 
-module _ (x y : Float) where
-  pub lesser_taken : lt x y ≡ true → x ≡ lesser_of x y
-  unfolding lesser_of
-  lesser_taken t = sym (ap (λ (b : Bool). cond b x y) t)
-
-  pub lesser_left : lt x y ≡ false → y ≡ lesser_of x y
-  unfolding lesser_of
-  lesser_left t = sym (ap (λ (b : Bool). cond b x y) t)
-
 -- ---- one distance more
 pick_dist : (t : Bool) (n : ℕ) (x : Float) (b : Near) → (pick_near t (record { index = n; dist = x }) b).dist ≡ cond t x b.dist
 pick_dist true n x b = refl

@@ -11,7 +11,7 @@ use Rattle.ieee.proofs.Ranks.{no_lt}
 use Rattle.stats.specs.declared.Two.{Two}
 use Rattle.stats.specs.Stats.{pick_two, led, followed, step_two, scan_two, with_other, least_two}
 use Rattle.stats.proofs.Scan.{is-inf}
-use Rattle.stats.proofs.Steps.{other_apart, other-few, other_named}
+use Rattle.stats.proofs.Steps.{other_apart, other_few, other_named}
 use Rattle.stats.proofs.BestTwo.{two-same}
 
 module _ (x : Float) (g : Good binary32 x) where
@@ -68,7 +68,7 @@ module _ (x : Float) (g : Good binary32 x) where
   module _ (d : ℕ → Float) (n : ℕ) (e : (j : ℕ) → j < n → d j ≡ x) where
     pub level_one : n ≡ 1 → least_two d n ≡ lone
     unfolding least_two
-    level_one h = two-same d level n e ∙ ap (least_two level) h ∙ other-few 1 (scan_two level 1) refl ∙ one
+    level_one h = two-same d level n e ∙ ap (least_two level) h ∙ other_few 1 (scan_two level 1) refl ∙ one
 
     pub level_more : 2 ≤ n → least_two d n ≡ tied
     level_more h = two-same d level n e ∙ ap (least_two level) (from_two n h) ∙ more (n - 2)

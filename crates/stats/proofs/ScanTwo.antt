@@ -15,7 +15,7 @@ use Rattle.ieee.proofs.Ranks.{lt_yes, lt_no}
 use Rattle.stats.specs.declared.Two.{Two}
 use Rattle.stats.specs.Stats.{pick_two, led, followed, step_two, scan_two, with_other, least_two}
 use Rattle.stats.proofs.Scan.{is-inf}
-use Rattle.stats.proofs.Steps.{other_apart, other-few, other_named}
+use Rattle.stats.proofs.Steps.{other_apart, other_few, other_named}
 use Rattle.stats.proofs.BestTwo.{scan_below, scan_lone}
 use Rattle.stats.proofs.Runner.{Alone, Other, Runner, run-start, run_skips, run_drops, run_follows, run_takes, runner_unique}
 
@@ -57,7 +57,7 @@ module _ (b : Two) (i : ℕ) (x : Float) (s : 1 ≤ i) (l : b.index < i) where
           same (other_apart i b apart) (other_apart (suc i) b apart ∙ sym (ap (λ (t : Bool). pick_two t (followed b i b.second) b) e))
       by true false e f =
           let own = eqb-true b.next b.index e in
-          same (other-few i b f)
+          same (other_few i b f)
           (other_named (suc i) b own behind ∙ ap (λ (k : ℕ). followed b k b.second) (sym (one i s (ltb-false 1 i f))) ∙ sym (ap (λ (t : Bool). pick_two t (followed b i b.second) b) e))
       by true true e f =
           let own = eqb-true b.next b.index e in
@@ -72,7 +72,7 @@ module _ (b : Two) (i : ℕ) (x : Float) (s : 1 ≤ i) (l : b.index < i) where
 module _ (d : ℕ → Float) (n : ℕ) (G : (j : ℕ) → j < n → Good binary32 (d j)) (H : 0 < n) (N : n < 18446744073709551616) where
   first_run : Runner d n 0 1 (with_other 1 (scan_two d 1))
   unfolding scan_two
-  first_run = subst⁻¹ (Runner d n 0 1) (other-few 1 (scan_two d 1) refl) (by (lt (d 0) (inf false)) refl)
+  first_run = subst⁻¹ (Runner d n 0 1) (other_few 1 (scan_two d 1) refl) (by (lt (d 0) (inf false)) refl)
     where
       alone : Float → Two
       alone x = record { index = 0; dist = x; next = 0; second = inf false }

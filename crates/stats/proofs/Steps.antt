@@ -30,8 +30,8 @@ module _ (n : ℕ) (b : Two) where
   pub other_apart : (b.next ≡ b.index → ⊥) → with_other n b ≡ b
   other_apart f = ap (λ (t : Bool). pick_two (t && ltb 1 n) (followed b 1 b.second) b) (ne_eqb b.next b.index f)
 
-  pub other-few : ltb 1 n ≡ false → with_other n b ≡ b
-  other-few e = ap (λ (t : Bool). pick_two (eqb b.next b.index && t) (followed b 1 b.second) b) e ∙ by (eqb b.next b.index)
+  pub other_few : ltb 1 n ≡ false → with_other n b ≡ b
+  other_few e = ap (λ (t : Bool). pick_two (eqb b.next b.index && t) (followed b 1 b.second) b) e ∙ by (eqb b.next b.index)
     where
       by : (t : Bool) → pick_two (t && false) (followed b 1 b.second) b ≡ b
       by true = refl

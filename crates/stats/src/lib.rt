@@ -22,6 +22,7 @@ pub struct Two {
 }
 
 // The smallest with one value more, d at index i.
+#[tactic(auto, using(crate::proofs::Steps::near_by))]
 pub fn step_near(best: Near, i: usize, d: f32) -> Near
     ensures { result ≡ step_near best i d }
 {
@@ -34,6 +35,7 @@ pub fn step_near(best: Near, i: usize, d: f32) -> Near
 
 // The smallest two, b, with one value more, d at index i. The Rust's walks the values; here whoever has them does, from index 0 and
 // infinity twice.
+#[tactic(auto, using(crate::proofs::Steps::two_by))]
 pub fn smallest_two(b: Two, i: usize, d: f32) -> Two
     ensures { result ≡ step_two b i d }
 {
@@ -57,6 +59,7 @@ pub fn smallest_two(b: Two, i: usize, d: f32) -> Two
 
 // The smallest two of n values, all of which b has seen: where it met no other below infinity, the first other is next. After the walk and
 // not in it: a third test there keeps the compiler from lanes.
+#[tactic(auto, using(crate::proofs::Steps::other_apart, crate::proofs::Steps::other_few, crate::proofs::Steps::other_named))]
 pub fn with_other(b: Two, n: usize) -> Two
     ensures { result ≡ with_other n b }
 {

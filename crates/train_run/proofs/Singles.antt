@@ -17,7 +17,8 @@ use Rattle.quantizer.specs.Sums.{zeros}
 use Rattle.quantizer.specs.Seeding.{seed_mean, seeded, duplicated, worst_of}
 use Rattle.quantizer.specs.Growing.{grown_by, grown}
 use Rattle.quantizer.specs.Replacing.{Shares, shares_of, swap_in, recoloured, colours_replaced, sub_replaced, replaced}
-use Rattle.quantizer.specs.Refining.{Gather, mean_step, means_of, refined}
+use Rattle.quantizer.specs.declared.Gather.{Gather}
+use Rattle.quantizer.specs.Refining.{mean_step, means_of, refined}
 use Rattle.quantizer.specs.Drawing.{moved}
 use Rattle.quantizer.proofs.Swaps.{colour_either, sub_either}
 use Rattle.run_stages.specs.State.{State, at, painted}

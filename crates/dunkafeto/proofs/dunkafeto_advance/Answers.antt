@@ -2,29 +2,23 @@
 use Rattle.dunkafeto.proofs.Forwards.{advance-told, advance-fits}
 use Rattle.dunkafeto.proofs.dunkafeto_advance.Goals as goal
 
-pub sizes_of-z-requires : goal.sizes_of-z-requires
-sizes_of-z-requires c = tt
-
-pub advance-a-requires : goal.advance-a-requires
-advance-a-requires c = tt
-
 pub word-requires : goal.word-requires
-word-requires c = advance-fits _ _ _ _ _ c.advance-a.ensures
+word-requires c = advance-fits _ _ _ _ _ c.advance-answer.ensures
 
 pub shape_of-order : goal.shape_of-order
-shape_of-order c = c.advance-a.auto.order
+shape_of-order c = c.advance-answer.auto.order
 
 pub shape_of-hints : goal.shape_of-hints
-shape_of-hints c = c.advance-a.auto.hints
+shape_of-hints c = c.advance-answer.auto.hints
 
 pub shape_of-palette : goal.shape_of-palette
-shape_of-palette c = c.advance-a.auto.palette
+shape_of-palette c = c.advance-answer.auto.palette
 
 pub shape_of-least : goal.shape_of-least
-shape_of-least c = c.advance-a.auto.least
+shape_of-least c = c.advance-answer.auto.least
 
 pub shape_of-words : goal.shape_of-words
-shape_of-words c = c.advance-a.auto.words
+shape_of-words c = c.advance-answer.auto.words
 
 pub returns : goal.returns
-returns c = advance-told _ _ c.sizes_of-z.ensures _ _ _ _ _ _ _ _ c.advance-a.ensures _ c.word.ensures
+returns c = advance-told _ _ c.lent_course-course.ensures _ _ _ _ c.advance-answer.ensures _ c.word.ensures

@@ -2,20 +2,14 @@
 use Rattle.dunkafeto.proofs.Forwards.{assign-told, assign-fits}
 use Rattle.dunkafeto.proofs.dunkafeto_assign.Goals as goal
 
-pub sizes_of-z-requires : goal.sizes_of-z-requires
-sizes_of-z-requires c = tt
-
-pub assign-refusal-requires : goal.assign-refusal-requires
-assign-refusal-requires c = tt
-
-pub word-requires : goal.word-requires
-word-requires c = assign-fits _ _ _ _ _ c.assign-refusal.ensures
+pub word_of_call-requires : goal.word_of_call-requires
+word_of_call-requires c = assign-fits _ _ _ _ _ c.assign-answer.ensures
 
 pub shape_of-hints : goal.shape_of-hints
-shape_of-hints c = c.assign-refusal.auto.hints
+shape_of-hints c = c.assign-answer.auto.hints
 
 pub shape_of-out : goal.shape_of-out
-shape_of-out c = c.assign-refusal.auto.out
+shape_of-out c = c.assign-answer.auto.out
 
 pub returns : goal.returns
-returns c = assign-told _ _ c.sizes_of-z.ensures _ _ _ _ _ _ _ c.assign-refusal.ensures _ c.word.ensures
+returns c = assign-told _ _ c.lent_job-job.ensures _ _ _ _ c.assign-answer.ensures _ c.word_of_call.ensures

@@ -2,17 +2,11 @@
 use Rattle.dunkafeto.proofs.Forwards.{result-told, result_fits}
 use Rattle.dunkafeto.proofs.dunkafeto_result.Goals as goal
 
-pub sizes_of-z-requires : goal.sizes_of-z-requires
-sizes_of-z-requires c = tt
-
-pub result-refusal-requires : goal.result-refusal-requires
-result-refusal-requires c = tt
-
-pub word-requires : goal.word-requires
-word-requires c = result_fits _ _ _ _ _ c.result-refusal.ensures
+pub word_of_call-requires : goal.word_of_call-requires
+word_of_call-requires c = result_fits _ _ _ _ _ c.result-answer.ensures
 
 pub shape_of-out : goal.shape_of-out
-shape_of-out c = c.result-refusal.auto.out
+shape_of-out c = c.result-answer.auto.out
 
 pub returns : goal.returns
-returns c = result-told _ _ c.sizes_of-z.ensures _ _ _ _ _ _ _ _ c.result-refusal.ensures _ c.word.ensures
+returns c = result-told _ _ c.lent_course-course.ensures _ _ _ _ c.result-answer.ensures _ c.word_of_call.ensures

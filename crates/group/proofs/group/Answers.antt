@@ -5,11 +5,11 @@ use Rattle.answer.proofs.Refusals.{never_done, passed_on}
 use Rattle.group.proofs.Laws.{accepted, stop, done}
 use Rattle.group.proofs.group.Goals as goal
 
-pub returns-in_err-check_group : goal.returns-in_err-check_group
-returns-in_err-check_group c = rw (passed_on _ _ c.from_residual.ensures) (stop _ _ _ _ c.in_err-check_group.ensures (never_done _))
+pub returns-in_err-checked : goal.returns-in_err-checked
+returns-in_err-checked c = rw (passed_on _ _ c.from_residual.ensures) (stop _ _ _ _ c.in_err-checked.ensures (never_done _))
 
 pub fill-requires : goal.fill-requires
-fill-requires c = let a = accepted _ _ _ _ c.in_ok-check_group.ensures refl in (omega arith, a.1)
+fill-requires c = let a = accepted _ _ _ _ c.in_ok-checked.ensures refl in (omega arith, a.1)
 
 pub returns : goal.returns
-returns c = done _ _ _ _ _ _ c.in_ok-check_group.ensures refl c.fill.ensures
+returns c = done _ _ _ _ _ _ c.in_ok-checked.ensures refl c.fill.ensures

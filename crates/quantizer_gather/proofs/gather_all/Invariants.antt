@@ -3,10 +3,10 @@
 use Rattle.job.specs.Job.{job_in}
 use Rattle.palette_tile.specs.Tiles.{winner, hint_step}
 use Rattle.palette_tile.proofs.Walks.{Walked}
-use Rattle.quantizer.specs.Refining.{gather, nothing, gather_step}
+use Rattle.quantizer.specs.Refining.{nothing, gather_step}
 use Rattle.quantizer_gather.proofs.gather_all.Given as goal
 
 abbrev pub invariant-loop-i : goal.invariant-loop-i
 invariant-loop-i l =
     let J = job_in l.job in
-    Walked J.T (λ k. gather_step J l.pal (winner J l.pal J.S J.C k) k) nothing (gather l.sums l.cnts) l.i × Walked J.T (hint_step J l.pal J.S J.C) l.initial.hints l.hints l.i
+    Walked J.T (λ k. gather_step J l.pal (winner J l.pal J.S J.C k) k) nothing l.gathered l.i × Walked J.T (hint_step J l.pal J.S J.C) l.initial.hints l.hints l.i
