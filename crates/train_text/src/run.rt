@@ -31,18 +31,23 @@ fn turns(
         (memory order.old hints.old palette.old least.old words.old) }
 {
     for _passed in 0..STOPS {
-        run_advance::advance(course, order, hints, palette, least, words, ALL);
+        let _ = run_advance::advance(course, order, hints, palette, least, words, ALL);
         let size = palette.len();
         let reduced = train_parts::cut(palette);
-        run_hand_in::hand_in(course, order, hints, palette, least, words, &reduced[..size]);
+        let _ = run_hand_in::hand_in(
+            course,
+            order,
+            hints,
+            palette,
+            least,
+            words,
+            &reduced[..size],
+        );
     }
 }
 
 // The palette becomes the trained one. The rest of the run's memory is local.
-pub fn train_palette(
-    course: &Course,
-    palette: &mut [f32],
-)
+pub fn train_palette(course: &Course, palette: &mut [f32])
     requires { Drawable (course_in course.now) palette.old }
     ensures { palette.new
         ≡ trained_palette (course_in course.now) }
@@ -57,6 +62,6 @@ pub fn train_palette(
     let hints = &mut firsts[..z.t];
     let least = &mut errors[..size];
     let words = &mut record[..];
-    run_start::start(course, SEED, order, hints, palette, least, words);
+    let _ = run_start::start(course, SEED, order, hints, palette, least, words);
     turns(course, order, hints, palette, least, words);
 }

@@ -9,11 +9,7 @@ use job::{Job, Sizes};
 use quantizer::Course;
 
 // What is written for a job: its sheet trained, or a refusal's line. The palette is lent to the run.
-pub fn put_trained(
-    job: &Job,
-    palette: &mut [f32],
-    out: &mut [u8],
-) -> usize
+pub fn put_trained(job: &Job, palette: &mut [f32], out: &mut [u8]) -> usize
     requires { Writable (job_in job.now) palette.old × (65536 ≤ length out.old) }
     ensures { Stored out.old out.new 0 result
         (job_text (job_in job.now)) × (result ≤ 65536) }

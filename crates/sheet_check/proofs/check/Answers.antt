@@ -8,14 +8,9 @@ use Rattle.std.specs.Prelude.{Err}
 use Rattle.sheet_format.specs.Sheet.{rest}
 use Rattle.sheet_format.proofs.Exact.{rest_lawful}
 use Rattle.sheet_format.proofs.Light.{rest_light}
-use Rattle.answer.specs.Refusals.{numbered_as}
-use Rattle.answer.proofs.Refusals.{passed_on}
 use Rattle.sheet_colours.specs.Steps.{stopped, number_of}
-use Rattle.sheet_check.proofs.Whole.{headed_of, parted_of, read-long, read_head, read-rest, read_end}
+use Rattle.sheet_check.proofs.Whole.{headed_of, parted_of, read-rest, read_end}
 use Rattle.sheet_check.proofs.check.Goals as goal
-
-pub returns-then-s-gt65536 : goal.returns-then-s-gt65536
-returns-then-s-gt65536 c = read-long c.args.e c.args.s.now c.if-s-gt65536.true
 
 -- the head that was read sizes the palette
 pub overflow_mul-n : goal.overflow_mul-n
@@ -49,10 +44,6 @@ only_spare-requires c =
     let h = headed_of a.e a.s.now x.subs x.each x.tiles x.weight c.in_ok-found.ensures in
     let parts = parted_of a.e a.s.now (3 * (x.subs * x.each)) x.tiles c.in-Ok.at h.long c.in-Ok.ensures in
     (omega arith, parts.reach)
-
-pub returns-in_err-found : goal.returns-in_err-found
-returns-in_err-found c =
-    rw (passed_on _ _ c.from_residual.ensures) (read_head c.args.e c.args.s.now (omega arith) (numbered_as c.in_err-found.field-0.0) c.in_err-found.ensures)
 
 pub returns-in-Err : goal.returns-in-Err
 returns-in-Err c =

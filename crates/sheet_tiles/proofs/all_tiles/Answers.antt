@@ -12,11 +12,8 @@ use Rattle.sheet_format.specs.Sheet.{tile}
 use Rattle.sheet_format.proofs.Exact.{tile_lawful}
 use Rattle.sheet_format.proofs.Light.{tile_light}
 use Rattle.sheet_colours.specs.Steps.{Step, reached, stopped, number_of, numbered, step_at}
-use Rattle.sheet_colours.proofs.Turns.{turn-start, turn_end, turn-fault, turn-got, Read, read_at, few, behind-ok, behind-err}
+use Rattle.sheet_colours.proofs.Turns.{turn_end, turn-fault, turn-got, Read, read_at, few, behind-ok, behind-err}
 use Rattle.sheet_tiles.proofs.all_tiles.Goals as goal
-
-pub loop-i-init : goal.loop-i-init
-loop-i-init c = let a = c.args in (omega arith, omega arith, turn-start (tile a.e) a.s.now a.t a.p)
 
 -- the next tile, read from bit p of s
 read-tile : (E : Edition) (s : List ℕ) (p : ℕ) → p ≤ 8 * length s → (x : Step) → x ≡ step_at (tile E) s p → Read (tile E) s p x

@@ -12,22 +12,14 @@ use Rattle.sheet_format.specs.Sheet.{component, tile}
 use Rattle.sheet_format.proofs.Exact.{component_lawful, tile_lawful}
 use Rattle.sheet_format.proofs.Light.{component_light, tile_light}
 use Rattle.std.specs.Prelude.{Ok}
-use Rattle.std.proofs.lemmas.Result.{err_from_is_err_and}
-use Rattle.sheet_colours.specs.Steps.{Step, stopped, number_of, step_at, behind}
+use Rattle.sheet_colours.specs.Steps.{Step, step_at, behind}
 use Rattle.sheet_colours.proofs.Turns.{Read, read_at, few}
-use Rattle.sheet_tiles.proofs.Rest.{rest-fault, rest-got}
+use Rattle.sheet_tiles.proofs.Rest.{rest-got}
 use Rattle.sheet_tiles.proofs.palette_then_tiles.Goals as goal
 
 -- n components, read from bit p of s
 read-palette : (s : List ℕ) (p n : ℕ) → p ≤ 8 * length s → (x : Step) → x ≡ step_at (times n component) s p → Read (times n component) s p x
 read-palette s p n h = read_at (times n component) (times_lawful n component component_lawful) (times_light n component component_light) s p h
-
-pub returns-in_err-palette : goal.returns-in_err-palette
-returns-in_err-palette c =
-    let a = c.args in let f = c.in_err-palette.field-0.0 in
-    let p = err_from_is_err_and c.from_residual.result c.from_residual.ensures.1 in
-    rw (p.1, p.2) (sym (rest-fault a.e a.s.now a.p a.n a.t (number_of f.kind) f.passed
-    (read-palette a.s.now a.p a.n (omega arith) (stopped (number_of f.kind) f.passed) c.in_err-palette.ensures).0))
 
 pub all_tiles-requires : goal.all_tiles-requires
 all_tiles-requires c =

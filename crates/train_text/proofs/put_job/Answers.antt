@@ -3,7 +3,6 @@ use mathlib.Core.Path.{subst, subst⁻¹}
 use Rattle.job.specs.Job.{Job}
 use Rattle.fit_lines.specs.Lines.{Stored}
 use Rattle.sheet_parts.specs.Front.{front_palette, Writable}
-use Rattle.sheet_parts.proofs.Parts.{front_long}
 use Rattle.train_text.specs.Trained.{job_text}
 use Rattle.train_text.proofs.put_job.Goals as goal
 
@@ -13,7 +12,7 @@ front_job-job-requires c =
     (F.shown.ready.sizes.tiled, F.tiled, F.few, F.coloured, F.counted)
 
 pub slice_bounds-put_trained-end : goal.slice_bounds-put_trained-end
-slice_bounds-put_trained-end c = front_long _ _ c.requires.0.given
+slice_bounds-put_trained-end c = c.requires.0.given
 
 pub put_trained-requires : goal.put_trained-requires
 put_trained-requires c =

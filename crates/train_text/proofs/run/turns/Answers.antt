@@ -1,7 +1,7 @@
 -- `turns` meets its contract. The loop's invariant: the memory is what so many turns leave. Assumes nothing.
 use native.Mathlib.Omega.{arith}
 use Rattle.sheet_parts.proofs.Parts.{front_long}
-use Rattle.train_text.proofs.Joined.{none_turned, one_more, next_fits, nearer, all_turned}
+use Rattle.train_text.proofs.Joined.{none_turned, one_more, all_turned}
 use Rattle.train_text.proofs.run.turns.Goals as goal
 
 pub loop-passed-init : goal.loop-passed-init

@@ -1,5 +1,4 @@
 -- `turns` meets its contract. The loop's invariant: the memory is what so many turns leave. Assumes nothing.
-use Prim.Native.Nat.{◌-◌}
 use Rattle.quantizer.specs.Course.{course_in}
 use Rattle.run_stages.specs.Calls.{memory}
 use Rattle.train_text.proofs.Joined.{Turned}

@@ -38,8 +38,8 @@ slice_bounds-samples-end c =
       c.room-samples.ensures.0,
     )
 
-pub slice_bounds-train_palette-end : goal.slice_bounds-train_palette-end
-slice_bounds-train_palette-end c =
+pub slice_bounds-course-end : goal.slice_bounds-course-end
+slice_bounds-course-end c =
     front_long c.put_samples-m.result c.put_samples-m.new.samples
     (omega (
       arith,
