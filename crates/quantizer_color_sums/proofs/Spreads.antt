@@ -1,25 +1,22 @@
 -- Sums by colour: a tile's part in them, in the subpalette that it goes to. Assumes nothing.
 use Prim.Native.Nat.{ℕ, ◌+◌, ◌*◌, ◌≤◌, ◌<◌}
-use mathlib.Core.Path.{◌≡◌, sym, ◌∙◌}
+use mathlib.Core.Path.{◌≡◌, refl, ◌∙◌}
 use mathlib.Core.List.{List}
 use lib.ListN.{length}
 use lib.Ieee.{Float}
 use Rattle.job.specs.Job.{Job, tile_of, counts_of}
 use Rattle.palette.specs.Palette.{tile_with, sub_of}
 use Rattle.palette_tile.specs.Tiles.{Paired}
-use Rattle.palette_tile.proofs.Walks.{Walked, walked_has}
 use Rattle.palette_tile.proofs.Turns.{goes_below, goes_part, goes_same, goes_asks}
 use Rattle.quantizer.specs.Sums.{places}
-use Rattle.quantizer.specs.Replacing.{Shares, no_shares, tile_shares, owner_of, spread_step}
-use Rattle.quantizer.specs.Lengths.{Wide}
-use Rattle.quantizer.proofs.Lengths.{spread_wide}
+use Rattle.quantizer.specs.Replacing.{Shares, tile_shares, owner_of, spread_step}
 use Rattle.quantizer.proofs.Indexes.{owner-below, row-placed}
 use Rattle.quantizer_matches.specs.Matches.{Matched}
 use Rattle.quantizer_matches.proofs.Asked.{tile_matched}
 use Rattle.quantizer_owner.specs.Owner.{owner_in}
 use Rattle.quantizer_color_sums.specs.Asked.{OwnerTurn}
 
-module _ (J : Job) (pal : List Float) (hints : List ℕ) (t : ℕ) (A : Shares) (K : OwnerTurn J pal hints t A) where
+module _ (J : Job) (pal : List Float) (hints : List ℕ) (t : ℕ) (K : OwnerTurn J pal hints t) where
   pub owner-paired : Paired J pal J.S J.C hints t
   owner-paired = record { shown = K.owned.shown; tile = K.tile; each = K.owned.each }
 
@@ -37,17 +34,11 @@ module _ (J : Job) (pal : List Float) (hints : List ℕ) (t : ℕ) (A : Shares) 
     owner-row = row-placed J pal J.S J.C K.owned.shown i (goes_below J pal J.S J.C K.owned.shown i (owner_of J pal t) mine below)
 
     module _ (sub tile : List Float) (part : List ℕ) (S : sub ≡ sub_of pal J.C J.C i) (E : tile ≡ tile_of J t) (C : part ≡ counts_of J t) where
-      pub owner_matched : Matched sub (tile_with tile part) (i * J.C) (length A.had) × (length A.lost ≡ length A.had)
-      owner_matched = (
-        goes_asks J pal J.C t i (owner_of J pal t) mine sub tile part S E C (λ k s X. Matched s X (k * J.C) (length A.had))
-            (tile_matched J pal J.S J.C K.owned.shown t K.tile (owner_of J pal t) below (length A.had) K.wide.had),
-        K.wide.lost ∙ sym K.wide.had,
-      )
+      pub owner_matched : Matched sub (tile_with tile part) (i * J.C) places
+      owner_matched =
+          goes_asks J pal J.C t i (owner_of J pal t) mine sub tile part S E C (λ k s X. Matched s X (k * J.C) places)
+          (tile_matched J pal J.S J.C K.owned.shown t K.tile (owner_of J pal t) below places refl)
 
-      pub owner-done : (B : Shares) → B ≡ tile_shares sub (tile_with tile part) J.weight (i * J.C) A (length part) → B ≡ spread_step J pal (owner_of J pal t) t A
+      pub owner-done : (A B : Shares) → B ≡ tile_shares sub (tile_with tile part) J.weight (i * J.C) A (length part) → B ≡ spread_step J pal (owner_of J pal t) t A
       unfolding spread_step
-      owner-done B h = h ∙ goes_same J pal J.C t i (owner_of J pal t) mine sub tile part S E C (λ k s X. tile_shares s X J.weight (k * J.C) A (length X.counts))
-
--- ---- while the tiles are walked over
-pub walked_wide : (J : Job) (pal : List Float) {B : Shares} {t : ℕ} → Walked J.T (λ i. spread_step J pal (owner_of J pal i) i) (no_shares places) B t → Wide B places
-walked_wide J pal W = walked_has W (λ i A. Wide A places) (λ i l. spread_wide J pal (owner_of J pal) i)
+      owner-done A B h = h ∙ goes_same J pal J.C t i (owner_of J pal t) mine sub tile part S E C (λ k s X. tile_shares s X J.weight (k * J.C) A (length X.counts))

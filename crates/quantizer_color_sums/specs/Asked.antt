@@ -2,9 +2,7 @@
 use Rattle.std.specs.Prelude.{ℕ, ◌<◌, ◌≡◌, List, length, Float}
 use Rattle.job.specs.Job.{Job}
 use Rattle.palette_tile.specs.Tiles.{Shown}
-use Rattle.quantizer.specs.Sums.{places}
-use Rattle.quantizer.specs.Replacing.{Shares, owner_of}
-use Rattle.quantizer.specs.Lengths.{Wide}
+use Rattle.quantizer.specs.Replacing.{owner_of}
 use Rattle.quantizer_owner.specs.Owner.{owner_in}
 
 pub record Owned (J : Job) (pal : List Float) (hints : List ℕ) : Type 0 where
@@ -13,7 +11,6 @@ pub record Owned (J : Job) (pal : List Float) (hints : List ℕ) : Type 0 where
   pub owner : (t : ℕ) → t < J.T → owner_in J.S hints t ≡ owner_of J pal t
 
 -- tile t's part in the sums
-pub record OwnerTurn (J : Job) (pal : List Float) (hints : List ℕ) (t : ℕ) (A : Shares) : Type 0 where
+pub record OwnerTurn (J : Job) (pal : List Float) (hints : List ℕ) (t : ℕ) : Type 0 where
   pub owned : Owned J pal hints
   pub tile : t < J.T
-  pub wide : Wide A places

@@ -4,19 +4,20 @@
 
 ghost use Rattle.std.specs.Prelude.{◌≡◌, ◌*◌};
 ghost use Rattle.job.specs.Job.{job_in};
-ghost use Rattle.quantizer.specs.Replacing.{shares, swap_in, colour_swapped, colours_replaced};
+ghost use Rattle.quantizer.specs.Replacing.{shares_in, swap_in, colour_swapped, colours_replaced};
 ghost use Rattle.quantizer_color_sums.specs.Asked.{Owned};
 ghost use Rattle.quantizer_recolor.specs.Row.{Row};
 
 use job::Job;
+use quantizer::Shares;
 
 // In subpalette i, the colour that gives way becomes the one that has most.
-fn replace_color(pal: &mut [f32], c: usize, i: usize, total: &[f32], second: &[f32])
-    requires { Row pal.old c i (shares total.now second.now) }
-    ensures { pal.new ≡ colour_swapped pal.old c i (swap_in (shares total.now second.now) (i * c) c) }
+fn replace_color(pal: &mut [f32], c: usize, i: usize, sums: &Shares<256>)
+    requires { Row pal.old c i (shares_in sums.now) }
+    ensures { pal.new ≡ colour_swapped pal.old c i (swap_in (shares_in sums.now) (i * c) c) }
 {
     let at = i * c;
-    let swap = quantizer_choice::choose(&total[at..at + c], &second[at..at + c]);
+    let swap = quantizer_choice::choose(&sums.had[at..at + c], &sums.lost[at..at + c]);
     quantizer_swap::swap_color(pal, c, i, swap)
 }
 
@@ -28,10 +29,8 @@ pub fn replace_colors(job: &Job, pal: &mut [f32], hints: &[u32])
     if job.sizes.c == 1 {
         return;
     }
-    let mut total_color_mse = [0.0f32; 256];
-    let mut second_color_mse = [0.0f32; 256];
-    quantizer_color_sums::color_sums(job, pal, hints, &mut total_color_mse, &mut second_color_mse);
+    let sums = quantizer_color_sums::color_sums(job, pal, hints);
     for i in 0..job.sizes.s {
-        replace_color(pal, job.sizes.c, i, &total_color_mse, &second_color_mse);
+        replace_color(pal, job.sizes.c, i, &sums);
     }
 }

@@ -21,16 +21,8 @@ fn weakest_palette(job: &Job, pal: &[f32], hints: &mut [u32]) -> Option<Swap>
     if subs == 1 {
         return None;
     }
-    let mut total_palette_mse = [0.0f32; 16];
-    let mut removed_palette_mse = [0.0f32; 16];
-    quantizer_palette_sums::palette_sums(
-        job,
-        pal,
-        hints,
-        &mut total_palette_mse,
-        &mut removed_palette_mse,
-    );
-    quantizer_choice::choose(&total_palette_mse[0..subs], &removed_palette_mse[0..subs])
+    let sums = quantizer_palette_sums::palette_sums(job, pal, hints);
+    quantizer_choice::choose(&sums.had[0..subs], &sums.lost[0..subs])
 }
 
 // A colour in each subpalette, then a subpalette.

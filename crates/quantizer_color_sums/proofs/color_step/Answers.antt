@@ -5,12 +5,12 @@ use Rattle.quantizer_color_sums.proofs.Spreads.{owner-part, owner_matched, owner
 use Rattle.quantizer_color_sums.proofs.color_step.Goals as goal
 
 pub part-sub-requires : goal.part-sub-requires
-part-sub-requires c = owner-part _ _ _ _ _ c.requires _ c.nearest_palette_of-owner.ensures
+part-sub-requires c = owner-part _ _ _ _ c.requires _ c.nearest_palette_of-owner.ensures
 
 pub for_each_match_two-requires : goal.for_each_match_two-requires
-for_each_match_two-requires c = owner_matched _ _ _ _ _ c.requires _ c.nearest_palette_of-owner.ensures _ _ _ c.part-sub.ensures (ap (λ (x : Tile). x.colours) c.tile.ensures) (ap (λ (x : Tile). x.counts) c.tile.ensures)
+for_each_match_two-requires c = owner_matched _ _ _ _ c.requires _ c.nearest_palette_of-owner.ensures _ _ _ c.part-sub.ensures (ap (λ (x : Tile). x.colours) c.tile.ensures) (ap (λ (x : Tile). x.counts) c.tile.ensures)
 
 pub returns : goal.returns
 returns c =
-    owner-done _ _ _ _ _ c.requires _ c.nearest_palette_of-owner.ensures _ _ _ c.part-sub.ensures (ap (λ (x : Tile). x.colours) c.tile.ensures)
-    (ap (λ (x : Tile). x.counts) c.tile.ensures) _ c.for_each_match_two.ensures
+    owner-done _ _ _ _ c.requires _ c.nearest_palette_of-owner.ensures _ _ _ c.part-sub.ensures (ap (λ (x : Tile). x.colours) c.tile.ensures)
+    (ap (λ (x : Tile). x.counts) c.tile.ensures) _ _ c.for_each_match_two.ensures

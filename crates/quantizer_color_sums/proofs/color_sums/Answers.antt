@@ -1,11 +1,10 @@
 -- `quantizer_color_sums::color_sums` meets its contract. The loop's invariant: the sums are those after the first i tiles. Assumes nothing.
+use mathlib.Core.Path.{refl}
 use Rattle.palette_tile.proofs.Walks.{walked_start, walked_more}
-use Rattle.quantizer.specs.Sums.{places}
-use Rattle.quantizer.proofs.Lists.{no_shares_lem}
 use Rattle.quantizer_color_sums.proofs.color_sums.Goals as goal
 
 pub loop-i-init : goal.loop-i-init
-loop-i-init c = walked_start (no_shares_lem _ _ places c.requires.1.0 c.requires.1.1)
+loop-i-init c = walked_start refl
 
 pub loop-i-preserved : goal.loop-i-preserved
 loop-i-preserved c = walked_more c.loop-i.invariant c.loop-i-test.true c.color_step.ensures

@@ -3,13 +3,12 @@
 use mathlib.Core.Path.{◌≡◌, refl, ap, ◌∙◌}
 use mathlib.Core.List.{List}
 use native.Mathlib.Omega.{arith}
-use lib.ListN.{length}
 use lib.Ieee.{Float}
 use Rattle.color.specs.declared.Oklab.{Oklab}
 use Rattle.palette.specs.Palette.{tile_in}
 use Rattle.palette_two.specs.PaletteTwo.{nearest_two_of}
-use Rattle.quantizer.specs.Replacing.{shares}
-use Rattle.quantizer_matches_two.proofs.Walks.{shares-start, shares-wide, match_asks, match_more, one-after, four-after}
+use Rattle.quantizer.specs.Replacing.{shares_in}
+use Rattle.quantizer_matches_two.proofs.Walks.{shares-start, match_asks, match_more, one-after, four-after}
 use Rattle.quantizer_matches_two.proofs.for_each_match_two.Goals as goal
 
 nearest-of : (s : List Float) (w : Float) (p q : Oklab) → p ≡ q → nearest_two_of s p w ≡ nearest_two_of s q w
@@ -25,8 +24,7 @@ loop-j-preserved c = four-after _ _ _ _ _ _ _ _ _ (omega arith) c.loop-j.invaria
 pub add_nearest-requires : goal.add_nearest-requires
 add_nearest-requires c =
     let r = c.nearest_two-r.ensures ∙ nearest-of _ _ _ _ c.colour.ensures in
-    let W = shares-wide _ _ _ _ _ _ (length c.args.total.now) _ (record { had = refl; lost = c.requires.1 }) c.loop-k.invariant.1 in
-    match_asks _ (tile_in c.args.tile.now) _ c.args.base c.loop-k.k _ r _ c.requires.0 (shares c.loop-k.total c.loop-k.second) W _ (omega arith)
+    match_asks _ (tile_in c.args.tile.now) _ c.args.base c.loop-k.k _ r _ c.requires _ (omega arith)
 
 pub loop-k-preserved : goal.loop-k-preserved
 loop-k-preserved c =
@@ -34,6 +32,6 @@ loop-k-preserved c =
     let b = c.args.base in
     let k = c.loop-k.k in
     let r = c.nearest_two-r.ensures ∙ nearest-of _ _ _ _ c.colour.ensures in
-    let A = shares c.args.total.now c.args.second.now in
-    let B = shares c.loop-k.total c.loop-k.second in
+    let A = shares_in c.args.sums.now in
+    let B = shares_in c.loop-k.sums in
     (omega arith, one-after _ X _ b A B _ k _ refl c.loop-k.invariant.1 (match_more _ X _ b k _ r B _ c.add_nearest.ensures))

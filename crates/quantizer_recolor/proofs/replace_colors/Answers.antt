@@ -9,10 +9,10 @@ pub loop-i-init : goal.loop-i-init
 loop-i-init c = recolouring_start _ _ _ c.requires _
 
 pub replace_color-requires : goal.replace_color-requires
-replace_color-requires c = recolouring_row _ _ _ c.requires _ c.color_sums.ensures _ _ c.loop-i.invariant c.loop-i-test.true
+replace_color-requires c = recolouring_row _ _ _ c.requires _ c.color_sums-sums.ensures _ _ c.loop-i.invariant c.loop-i-test.true
 
 pub loop-i-preserved : goal.loop-i-preserved
-loop-i-preserved c = recolouring_more _ _ _ c.requires _ c.color_sums.ensures _ _ c.loop-i.invariant c.loop-i-test.true _ c.replace_color.ensures
+loop-i-preserved c = recolouring_more _ _ _ c.requires _ c.color_sums-sums.ensures _ _ c.loop-i.invariant c.loop-i-test.true _ c.replace_color.ensures
 
 pub returns : goal.returns
-returns c = recolouring_end _ _ _ c.requires _ c.color_sums.ensures _ _ c.loop-i.invariant c.if-job-eq1.false c.loop-i-test.false
+returns c = recolouring_end _ _ _ c.requires _ c.color_sums-sums.ensures _ _ c.loop-i.invariant c.if-job-eq1.false c.loop-i-test.false

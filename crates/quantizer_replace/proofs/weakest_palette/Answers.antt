@@ -6,7 +6,7 @@ pub returns-then-subs-eq1 : goal.returns-then-subs-eq1
 returns-then-subs-eq1 c = one-palette _ _ c.requires.0 _ c.requires.1 c.if-subs-eq1.true
 
 pub choose-requires : goal.choose-requires
-choose-requires c = palettes_choosing _ _ c.requires.0 _ c.palette_sums.ensures.0
+choose-requires c = palettes_choosing _ _ c.requires.0 _ c.palette_sums-sums.ensures.0
 
 pub returns : goal.returns
-returns c = palettes_chosen _ _ c.requires.0 _ c.requires.1 _ c.palette_sums.ensures.0 c.if-subs-eq1.false _ c.choose.ensures _ c.palette_sums.ensures.1
+returns c = palettes_chosen _ _ c.requires.0 _ c.requires.1 _ c.palette_sums-sums.ensures.0 c.if-subs-eq1.false _ c.choose.ensures _ c.palette_sums-sums.ensures.1
