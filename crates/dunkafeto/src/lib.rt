@@ -30,7 +30,8 @@ fn lent_job<'a>(
     colours: &'a [f32],
     counts: &'a [u32],
 ) -> Job<'a>
-    ensures { job_in result ≡ job_of (sizes_of size s c t n weight) tiles.now colours.now counts.now }
+    ensures lent { job_in result ≡ job_of (sizes_of size s c t n weight) tiles.now colours.now counts.now }
+    ensures many { result.sizes.n ≡ n }
 {
     Job {
         sizes: job::sizes_of(size, s, c, t, n, weight),
@@ -56,12 +57,7 @@ fn lent_course<'a>(
     ensures { course_in result ≡ course_of (sizes_of size s c t n weight) tiles.now colours.now counts.now samples.now }
 {
     Course {
-        job: Job {
-            sizes: job::sizes_of(size, s, c, t, n, weight),
-            tiles,
-            colours,
-            counts,
-        },
+        job: lent_job(size, s, c, t, n, weight, tiles, colours, counts),
         samples,
     }
 }

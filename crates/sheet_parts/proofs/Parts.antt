@@ -1,17 +1,15 @@
 -- Parts of slices from the front. Assumes nothing.
-use mathlib.Core.Path.{◌≡◌, sym, ap, ap₂, ◌∙◌, subst, subst⁻¹}
+use mathlib.Core.Path.{◌≡◌, sym, ap, ap₂, ◌∙◌}
 use Prim.Native.Nat.{ℕ, suc, ◌+◌, ◌-◌, ◌*◌, ◌≤◌, ◌<◌}
 use native.Mathlib.Omega.{arith}
 use mathlib.Core.List.{List}
 use lib.ListN.{length, get_or, take}
-use lib.Ieee.{Float}
 use lib.Seq.{sets, get_or-take, length-take-le}
 use Rattle.lists.specs.Every.{sum}
-use Rattle.job.specs.declared.Sizes.{Sizes}
-use Rattle.job.specs.Job.{Job, job_of, first_of, size_of}
+use Rattle.job.specs.Job.{Job, first_of, size_of}
 use Rattle.job.specs.Gives.{Ready}
 use Rattle.sheet.proofs.Inverse.{sets_front}
-use Rattle.sheet_parts.specs.Front.{colours_to, front_job}
+use Rattle.sheet_parts.specs.Front.{colours_to}
 
 -- a part from the front has the length that was asked for
 pub front_long : {A : Type 0} (n : ℕ) (l : List A) → n ≤ length l → n ≡ length (take n l)
@@ -34,14 +32,3 @@ module _ (J : Job) (R : Ready J) (tiles : List ℕ) (e : take (2 * J.T) tiles �
 
   pub number : colours_to tiles J.T ≡ length J.counts
   number = last_sum (J.T - 1) (omega (arith, R.sizes.tiled))
-
--- what holds of the job in the first places holds of the parts that a program lends, whose number of colours is n
-module _ (z : Sizes) (tiles : List ℕ) (colours : List Float) (counts : List ℕ) (n : ℕ) (e : n ≡ colours_to tiles z.t) (P : Job → Type 0) where
-  abbrev ByNumber : ℕ → Type 0
-  ByNumber k = P (job_of z (take (2 * z.t) tiles) (take (3 * k) colours) (take k counts))
-
-  pub parts_hold : P (front_job z tiles colours counts) → P (job_of z (take (2 * z.t) tiles) (take (3 * n) colours) (take n counts))
-  parts_hold x = subst⁻¹ ByNumber e x
-
-  pub front_holds : P (job_of z (take (2 * z.t) tiles) (take (3 * n) colours) (take n counts)) → P (front_job z tiles colours counts)
-  front_holds x = subst ByNumber e x

@@ -62,13 +62,6 @@ module _ (K : Course) where
       words = w₃ ∙ w₂ ∙ T.words;
     }
 
-    -- its number fits, and is nearer to three
-    pub next_fits : Fits w64 (i + 1)
-    next_fits = omega arith
-
-    pub nearer : 3 - (i + 1) < 3 - i
-    nearer = omega arith
-
   pub all_turned : (i : ℕ) (m₀ m₁ : Memory) → 3 ≤ i → Turned i m₀ m₁ → m₁ ≡ turn_calls K 3 m₀
   all_turned i m₀ m₁ g t =
       let three : i ≡ 3 = omega (arith, t.few) in

@@ -12,4 +12,4 @@ pub shape_of-out : goal.shape_of-out
 shape_of-out c = c.assign-answer.auto.out
 
 pub returns : goal.returns
-returns c = assign-told _ _ c.lent_job-job.ensures _ _ _ _ c.assign-answer.ensures _ c.word_of_call.ensures
+returns c = assign-told _ _ c.lent_job-job.ensures.lent _ _ _ _ c.assign-answer.ensures _ c.word_of_call.ensures
