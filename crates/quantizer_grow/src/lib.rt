@@ -28,8 +28,9 @@ pub fn grow_palette(job: &Job, pal: &mut [f32], have: usize, hints: &mut [u32])
     ensures { (pal.new ≡ grown (job_in job.now) pal.old have)
         × (hints.new ≡ grown_hints (job_in job.now) pal.old have hints.old) }
 {
-    let total = quantizer_needs::color_distances(job, pal, have, hints);
+    let mut total_color_distances = [0.0f32; 256];
+    quantizer_needs::color_distances(job, pal, have, hints, &mut total_color_distances);
     for i in 0..job.sizes.s {
-        split_color(pal, job.sizes.c, have, i, &total);
+        split_color(pal, job.sizes.c, have, i, &total_color_distances);
     }
 }

@@ -5,6 +5,7 @@
 ghost use Rattle.std.specs.Prelude.{◌≡◌};
 ghost use Rattle.job.specs.Job.{job_in};
 ghost use Rattle.palette_tile.specs.Tiles.{winner, hint_step};
+ghost use Rattle.quantizer.specs.Sums.{zeros, places};
 ghost use Rattle.quantizer.specs.Growing.{need_step, grown_hints};
 ghost use Rattle.quantizer_needs.specs.Asked.{split_sums, NeedTurn, Growing};
 
@@ -34,17 +35,15 @@ fn tile_step(job: &Job, pal: &[f32], have: usize, hints: &mut [u32], i: usize, t
 }
 
 // The summed distance of each colour over the tiles; none is fitted where one colour each is present.
-pub fn color_distances(job: &Job, pal: &[f32], have: usize, hints: &mut [u32]) -> [f32; 256]
-    requires { Growing (job_in job.now) pal.now have hints.old }
-    ensures { (result ≡ split_sums (job_in job.now) pal.now have)
+pub fn color_distances(job: &Job, pal: &[f32], have: usize, hints: &mut [u32], total: &mut [f32])
+    requires { Growing (job_in job.now) pal.now have hints.old × (total.old ≡ zeros places) }
+    ensures { (total.new ≡ split_sums (job_in job.now) pal.now have)
         × (hints.new ≡ grown_hints (job_in job.now) pal.now have hints.old) }
 {
-    let mut total = [0.0; 256];
     if have == 1 {
-        return total;
+        return;
     }
     for i in 0..job.sizes.t {
-        tile_step(job, pal, have, hints, i, &mut total);
+        tile_step(job, pal, have, hints, i, total);
     }
-    total
 }

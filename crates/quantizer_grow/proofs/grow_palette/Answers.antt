@@ -6,10 +6,10 @@ pub loop-i-init : goal.loop-i-init
 loop-i-init c = splitting_start _ _ _ _ c.requires
 
 pub split_color-requires : goal.split_color-requires
-split_color-requires c = splitting_split _ _ _ _ c.requires _ _ c.loop-i.invariant _ c.color_distances-total.ensures.0 c.loop-i-test.true
+split_color-requires c = splitting_split _ _ _ _ c.requires _ _ c.loop-i.invariant _ c.color_distances.ensures.0 c.loop-i-test.true
 
 pub loop-i-preserved : goal.loop-i-preserved
-loop-i-preserved c = splitting_more _ _ _ _ c.requires _ _ c.loop-i.invariant _ c.color_distances-total.ensures.0 c.loop-i-test.true _ c.split_color.ensures
+loop-i-preserved c = splitting_more _ _ _ _ c.requires _ _ c.loop-i.invariant _ c.color_distances.ensures.0 c.loop-i-test.true _ c.split_color.ensures
 
 pub returns : goal.returns
-returns c = (splitting_end _ _ _ _ c.requires _ _ c.loop-i.invariant c.loop-i-test.false, c.color_distances-total.ensures.1)
+returns c = (splitting_end _ _ _ _ c.requires _ _ c.loop-i.invariant c.loop-i-test.false, c.color_distances.ensures.1)
