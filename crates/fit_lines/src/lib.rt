@@ -1,5 +1,6 @@
 // Text into lent bytes: words, numbers, and the lines that `fit` prints. Each function gives the place behind what it wrote.
-// Assumes nothing.
+// Not by Display: a line would go into an InlineText first and be copied from there, its digits stated by `output` in place of `decimal`,
+// which is no plainer; bytes and place go side by side, as what is lent to write does everywhere (docs/DECISIONS.md). Assumes nothing.
 #![tactic(auto)]
 
 ghost use Rattle.std.specs.Prelude.{◌≡◌, ◌+◌, ◌≤◌, ◌<◌, ◌++◌, length};

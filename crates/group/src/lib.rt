@@ -1,6 +1,6 @@
 // Grouping, from `extract` of the Rust: the kept pixels of a tile become entries, one for each colour, with a count of their pixels.
-// What the first pass did not refuse, a second one fills into the room that the caller lends. The four lent slices go one by one: the check
-// does not know that what a call leaves in a struct of `&mut` is what comes back to the slices that it was made of.
+// What the first pass did not refuse, a second one fills into the room that the caller lends. The four lent slices go one by one: of a
+// struct of `&mut` each function would have to ensure, field by field, that the same slice comes back, which is no plainer.
 #![tactic(auto)]
 
 ghost use Rattle.std.specs.Prelude.{◌≡◌, true, ◌*◌, ◌≤◌, ◌<◌, length};

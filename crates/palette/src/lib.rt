@@ -1,4 +1,4 @@
-// Parts of one flat palette, and the nearest colour of one.
+// A flat palette and a tile as they are lent to be read, the parts of a palette, and the nearest colour of one.
 // Each function gives what its definition in specs/Palette.antt says; no definition reads a hint.
 #![tactic(auto)]
 

@@ -1,5 +1,6 @@
 // Edits of a flat palette: a colour nudged towards a target, copied, duplicated; a subpalette copied, duplicated.
-// Each function leaves what its definition in specs/Edits.antt says; places that are not written keep theirs.
+// Each function leaves what its definition in specs/Edits.antt says; places that are not written keep theirs. What is lent to be written goes
+// as a slice with its numbers beside it, here and in the crates above: docs/DECISIONS.md, "lent to write".
 #![tactic(auto)]
 
 ghost use Rattle.std.specs.Prelude.{◌≡◌, ◌+◌, ◌*◌, ◌<◌, ◌≤◌, length};

@@ -13,7 +13,7 @@ ghost use Rattle.run_blank.specs.Blanks.{dealt, Blanking};
 use cycle::SampleCycle;
 use job::Sizes;
 use quantizer::Course;
-use run_stages::Record;
+use run_stages::{Record, Stage};
 
 // Both palettes are zeroed, and the first colour becomes the mean of the samples.
 pub fn blank(course: &Course, palette: &mut [f32], least: &mut [f32])
@@ -36,7 +36,7 @@ pub fn deal(z: Sizes, order: &mut [u32], seed: u64) -> Record
     let first = SampleCycle::new(order, seed);
     Record {
         generator: first.prng.state,
-        stage: 0,
+        stage: Stage::Seeding as u64,
         rounds: 0,
         left: 0,
         made: 0,

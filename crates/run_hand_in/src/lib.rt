@@ -34,9 +34,9 @@ fn after_stop(
         Ok(Stage::Reducing) => run_refine::final_draws(course.job.sizes.n, r),
         Ok(Stage::Refining) => {
             run_refine::refine_four(&course.job, palette, hints);
-            r.placed(Stage::Refined, 0, 0)
+            r.placed(Stage::Refined as u64, 0, 0)
         }
-        _ => r.placed(Stage::Finished, 0, 0),
+        _ => r.placed(Stage::Finished as u64, 0, 0),
     }
 }
 

@@ -52,5 +52,5 @@ pub fn enter_reducing(z: Sizes, palette: &mut [f32], least: &mut [f32], r: Recor
 {
     run_memory::copy(least, palette);
     run_memory::zero(least);
-    r.noted(0).placed(Stage::Reducing, 0, 0)
+    r.noted(0).placed(Stage::Reducing as u64, 0, 0)
 }

@@ -18,12 +18,12 @@ pub fn is_due(r: Record) -> bool
 pub fn open_round(r: Record, stage: Stage, round: u64, n: usize) -> Record
     ensures { result ≡ placed r (number_of stage) round (n / 10) }
 {
-    r.placed(stage, round, cycle::base_iterations(n))
+    r.placed(stage as u64, round, cycle::base_iterations(n))
 }
 
 // The final draws are one round; the next stop follows.
 pub fn end_final(r: Record) -> Record
     ensures { result ≡ placed r 5 0 0 }
 {
-    r.placed(Stage::Refining, 0, 0)
+    r.placed(Stage::Refining as u64, 0, 0)
 }

@@ -16,9 +16,9 @@ pub fn final_draws(n: usize, r: Record) -> Record
 {
     let left = 10 * cycle::base_iterations(n);
     if left == 0 {
-        return r.placed(Stage::Refining, 0, 0);
+        return r.placed(Stage::Refining as u64, 0, 0);
     }
-    r.placed(Stage::FinalDraws, 0, left)
+    r.placed(Stage::FinalDraws as u64, 0, left)
 }
 
 // Four passes of refinement.

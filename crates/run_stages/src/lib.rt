@@ -4,7 +4,7 @@
 
 ghost use Rattle.std.specs.Prelude.{◌≡◌};
 ghost use Rattle.run_stages.specs.State.{placed, noted};
-ghost use Rattle.run_stages.specs.Named.{number_of, Names};
+ghost use Rattle.run_stages.specs.Named.{Names};
 
 // The record's words by name: generator state, stage, rounds finished in the stage, draws left in the round, draws made, the bits of
 // the least error, and the job's sizes.
@@ -63,11 +63,11 @@ impl TryFrom<u64> for Stage {
 }
 
 impl Record {
-    // The record at another place.
-    pub fn placed(mut self, stage: Stage, rounds: u64, left: u64) -> Self
-        ensures { result ≡ placed self (number_of stage) rounds left }
+    // The record at another place; the stage is its number, as in the record.
+    pub fn placed(mut self, stage: u64, rounds: u64, left: u64) -> Self
+        ensures { result ≡ placed self stage rounds left }
     {
-        self.stage = stage as u64;
+        self.stage = stage;
         self.rounds = rounds;
         self.left = left;
         self

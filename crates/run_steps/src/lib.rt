@@ -50,6 +50,7 @@ pub fn advance_work(
         (state_with order.old hints.old palette.old least.old (record_of words.old)))) }
 {
     let mut r = run_record::record_of(words);
+    // Counted, since the count is the answer, and the record may end the draws before the allotment does.
     let mut drawn = 0u64;
     while run_record::goes_on(drawn, allotment, r.stage) {
         r = step(course, order, hints, palette, least, r);
