@@ -9,7 +9,8 @@ ghost use Rattle.quantizer_matches.specs.Matches.{Matched};
 
 use palette::Tile;
 
-// The distance of each colour's nearest, times its count.
+// The distance of each colour's nearest, times its count. This walk and quantizer_gather_tile's stay two: one that takes a closure would have
+// to say what each call asks of the sums, and what all calls leave in them, in more lines than both loops have.
 pub fn for_each_match(sub: &[f32], tile: &Tile, w: f32, base: usize, total: &mut [f32])
     requires { Matched sub.now (tile_in tile.now) base (length total.old) }
     ensures { total.new ≡ tile_needs sub.now (tile_in tile.now) w base total.old (length tile.now.counts.now) }

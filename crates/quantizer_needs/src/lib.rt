@@ -35,6 +35,7 @@ fn tile_step(job: &Job, pal: &[f32], have: usize, hints: &mut [u32], i: usize, t
 }
 
 // The summed distance of each colour over the tiles; none is fitted where one colour each is present.
+// The sums are lent: given back, they would be copied, by a function of C that hosts would have to have.
 pub fn color_distances(job: &Job, pal: &[f32], have: usize, hints: &mut [u32], total: &mut [f32])
     requires { Growing (job_in job.now) pal.now have hints.old × (total.old ≡ zeros places) }
     ensures { (total.new ≡ split_sums (job_in job.now) pal.now have)

@@ -23,9 +23,6 @@ module _ (J : Job) (pal : List Float) (S : Shown J pal J.S J.C) (first hints : L
   pub pairing_length : length hints ≡ length first
   pairing_length = walked_has G.1 (λ i h. length h ≡ length first) (λ i l. length-pair_hints J pal first i)
 
-  pub pairing_paired : length first ≡ J.T → t < J.T → Paired J pal J.S J.C hints t
-  pairing_paired L l = record { shown = S; tile = l; each = pairing_length ∙ L }
-
   -- r is the tile's best two
   module _ (r : Two) (p : r ≡ pair_at J pal t) where
     pub pairing_below : r.index < most_subpalettes
