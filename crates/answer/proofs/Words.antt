@@ -25,11 +25,6 @@ apart e value h =
     }
 
 -- ---- the word of what is done, and of a refusal
-pub word-done : (e : Answered) (value : ℕ) → e.number ≡ 0 → value * 256 ≡ word e value
-word-done e value h = rw (eq-eqb e.number 0 h, h) (sym (add-zero (value * 256)))
-
-pub word-refused : (e : Answered) (value : ℕ) → (e.number ≡ 0 → ⊥) → e.index * 256 + e.number ≡ word e value
-word-refused e value h = rw (ne_eqb e.number 0 h)
 
 -- ---- an answer's number is a rule's, and each of these is below 256
 abbrev pub below : ℕ → Bool

@@ -52,9 +52,6 @@ module _ (J : Job) (palette : List Float) (start now : TileMemory) (i : ℕ) (I 
   pub filled_lengths : (length now.hints ≡ length start.hints) × (length now.out ≡ length start.out)
   filled_lengths = (walked_hints J palette J.S J.C I.0, walked_has I.1 (λ k out. length out ≡ length start.out) (λ k l. length-subpalettes J palette start.out k))
 
-  pub filled-ready : CanAssign J palette start → CanAssign J palette now
-  filled-ready R = record { shown = R.shown; hints = filled_lengths.0 ∙ R.hints; out = filled_lengths.1 ∙ R.out }
-
   pub filled_more : i < J.T → (next : TileMemory) → next ≡ assign_step J palette i now → Filled J palette start next (i + 1)
   filled_more l next e = (walked_more I.0 l (ap (λ (h : TileMemory). h.hints) e), walked_more I.1 l (ap (λ (h : TileMemory). h.out) e))
 

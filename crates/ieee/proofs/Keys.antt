@@ -166,8 +166,6 @@ unfolding key
 size_small f x h = lt_of_le_of_lt (pack_mono f (key f x) (2 ^ (low f + suc (emax f))) (key-top f x h)) (subst (λ (z : ℕ). z < top f) (sym (pack-top f)) (small (ones f) (hid f) (pow_pos (prec f - 1))))
 
 -- ---- bits of no `nan`: the size is an infinity's at most
-pub real-bits : (f : Format) (b : ℕ) → b % top f ≤ ones f * hid f → T (not (nan_bits f b))
-real-bits f b h = subst (λ (z : Bool). T (not z)) (sym (nan_bits_above f b)) (le→nltb (ones f * hid f) (b % top f) h)
 
 -- ---- values that the format holds, no `nan`, with the sign clear
 plus-abs : (x : Float) → T (plus x) → abs x ≡ x

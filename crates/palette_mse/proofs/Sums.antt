@@ -25,10 +25,6 @@ use Rattle.palette_mse.proofs.Fine.{near_good, target_sized}
 widens : (x : Float) → Good binary32 x → T (fits binary64 x && not (is_nan x))
 widens x g = and_i (fits binary64 x) (not (is_nan x)) (fits_widens x g.fit) (plus-real x g.pos)
 
--- what the nearest distance asks, of a tile's colour k
-pub near_asks : (s : List Float) (X : Tile) (w : Float) → Summed s X w → (k : ℕ) → k < length X.counts → (q : Oklab) → q ≡ colour_at X.colours k → Clear s q w
-near_asks s X w R k l q e = record { sub = bounded-finite s 4 R.sub; colour = subst⁻¹ Real e (sized-real (colour_at X.colours k) 2 (target_sized s X w R k l)); weight = R.weight }
-
 pub near_widens : (s : List Float) (X : Tile) (w : Float) → Summed s X w → (k : ℕ) → k < length X.counts → (q : Oklab) (d : Float) → q ≡ colour_at X.colours k → d ≡ (nearest_of s q w).dist → T (fits binary64 d && not (is_nan d))
 near_widens s X w R k l q d g e =
     subst⁻¹ (λ (x : Float). T (fits binary64 x && not (is_nan x))) (e ∙ ap (λ (y : Oklab). (nearest_of s y w).dist) g) (widens _ (near_good s X w R k l))
@@ -42,8 +38,3 @@ tally_step_lem s X w a k x n q d h g e =
     ∙ sym (ap (tile_tally s X w a) (add-one k))
 
 module _ (a : Tally) where
-  pub mean_none : a.count ≡ 0 → of_bits binary32 0 ≡ mean_error a
-  mean_none e = sym (ap (λ (b : Bool). cond b (of_bits binary32 0) (narrow_of (div binary64 a.total (of_int binary64 (pos a.count))))) (eq-eqb a.count 0 e))
-
-  pub mean_some : (a.count ≡ 0 → ⊥) → (r : Float) → r ≡ narrow_of (div binary64 a.total (of_int binary64 (pos a.count))) → r ≡ mean_error a
-  mean_some n r e = e ∙ sym (ap (λ (b : Bool). cond b (of_bits binary32 0) (narrow_of (div binary64 a.total (of_int binary64 (pos a.count))))) (ne_eqb a.count 0 n))

@@ -33,8 +33,6 @@ module _ (J : Job) (pal : List Float) (n have : ℕ) (hints : List ℕ) (t : ℕ
   hint-kept p = passed_over J t r R hints (set hints t (winner J pal n have t)) p
 
   module _ (p : r ≡ false) where
-    pub turn_fitted : Fitted J pal n have hints t
-    turn_fitted = let some : size_of J.tiles t ≡ 0 → ⊥ = eqb-false (size_of J.tiles t) 0 (sym R ∙ p) in record { paired = K; full = omega (arith, some) }
 
     pub hint-written : (b : Near) → b ≡ fit_at J pal n have t → (after : List ℕ) → after ≡ set hints t b.index → after ≡ hint_step J pal n have t hints
     unfolding hint_step

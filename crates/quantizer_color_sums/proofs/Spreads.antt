@@ -17,8 +17,6 @@ use Rattle.quantizer_owner.specs.Owner.{owner_in}
 use Rattle.quantizer_color_sums.specs.Asked.{OwnerTurn}
 
 module _ (J : Job) (pal : List Float) (hints : List ℕ) (t : ℕ) (K : OwnerTurn J pal hints t) where
-  pub owner-paired : Paired J pal J.S J.C hints t
-  owner-paired = record { shown = K.owned.shown; tile = K.tile; each = K.owned.each }
 
   module _ (i : ℕ) (e : i ≡ owner_in J.S hints t) where
     mine : i ≡ owner_of J pal t
@@ -29,9 +27,6 @@ module _ (J : Job) (pal : List Float) (hints : List ℕ) (t : ℕ) (K : OwnerTur
 
     pub owner-part : (J.C ≤ J.C) × (i * (3 * J.C) + 3 * J.C ≤ length pal)
     owner-part = goes_part J pal J.S J.C K.owned.shown i (owner_of J pal t) mine below
-
-    pub owner-row : i * J.C + J.C ≤ places
-    owner-row = row-placed J pal J.S J.C K.owned.shown i (goes_below J pal J.S J.C K.owned.shown i (owner_of J pal t) mine below)
 
     module _ (sub tile : List Float) (part : List ℕ) (S : sub ≡ sub_of pal J.C J.C i) (E : tile ≡ tile_of J t) (C : part ≡ counts_of J t) where
       pub owner_matched : Matched sub (tile_with tile part) (i * J.C) places

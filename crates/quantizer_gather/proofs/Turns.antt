@@ -51,9 +51,3 @@ module _ (J : Job) (pal : List Float) (hints : List ℕ) (t : ℕ) (A : Gather) 
 module _ (J : Job) (pal : List Float) (S : Shown J pal J.S J.C) {A : Gather} {t : ℕ} (W : Walked J.T (λ i. gather_step J pal (winner J pal J.S J.C i) i) nothing A t) where
   pub walked_gathered : Gathered A (most_tile_size * t)
   walked_gathered = walked_has W (λ i B. Gathered B (most_tile_size * i)) (gathered J pal S)
-
-  -- the lists are as long as those before the walk
-  pub walked_whole : (B : Gather) → B ≡ nothing → (length A.sums ≡ length B.sums) × (length A.cnts ≡ length B.cnts)
-  walked_whole B e =
-      let H : SumsWithin B = subst⁻¹ SumsWithin e nothing-gathered.held in
-      (walked_gathered.held.whole ∙ sym H.whole, walked_gathered.held.all ∙ sym H.all)

@@ -50,8 +50,3 @@ module _ (s : List Float) (X : Tile) (w : Float) (base : ℕ) (A : Gather) (G : 
         ∙ ap (λ (i : ℕ). add_at (tile_gather s X w base A k) (base + i) q (get_or X.counts k 0)) near_is
         ∙ ap (λ (x : Oklab). add_at (tile_gather s X w base A k) (base + (nearest_of s x w).index) x (get_or X.counts k 0)) f
         ∙ sym (ap (tile_gather s X w base A) (add-one k))
-
-  pub whole-at : (k : ℕ) → k ≤ length X.counts → (a : List Float) (b : List ℕ) → gather a b ≡ tile_gather s X w base A k → (length a ≡ length A.sums) × (length b ≡ length A.cnts)
-  whole-at k h a b e =
-      let T = through s X w base A G k h in
-      (ap (λ (Y : Gather). length Y.sums) e ∙ T.held.whole ∙ sym G.held.whole, ap (λ (Y : Gather). length Y.cnts) e ∙ T.held.all ∙ sym G.held.all)

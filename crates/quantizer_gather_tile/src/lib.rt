@@ -21,7 +21,8 @@ fn add_at(gathered: &mut Gather, p: usize, q: Oklab, m: u32)
     gathered.cnts[p] += m;
 }
 
-// A tile's colours go to the colours of `sub` that are nearest to them, whose sums begin at `base`.
+// A tile's colours go to the colours of `sub` that are nearest to them, whose sums begin at `base`. Why this is not quantizer_matches' walk,
+// that says.
 pub fn gather_tile(sub: &[f32], tile: &Tile, w: f32, base: usize, gathered: &mut Gather)
     requires { Gathering sub.now (tile_in tile.now) base gathered.old }
     ensures { gathered.new ≡ tile_gather sub.now (tile_in tile.now) w base gathered.old (length tile.now.counts.now) }

@@ -48,9 +48,6 @@ module _ (pal : List Float) (c have i : ℕ) (total : List Float) (K : Split pal
     pub split_places : (3 * (i * c + r) + 2 < length pal) × (3 * (i * c + have) + 2 < length pal)
     split_places = (omega (arith, subst⁻¹ (λ (k : ℕ). k < have) chosen (greatest-below total (i * c) have present K.some), K.room), K.room)
 
-    pub split_done : (after : List Float) → after ≡ colour_copied pal c i r have → after ≡ colour_copied pal c i (greatest (sums_at total (i * c) have)) have
-    split_done after q = q ∙ ap (λ (k : ℕ). colour_copied pal c i k have) chosen
-
 -- ---- what the sums choose is what the definition does: of one colour, the one
 one-greatest : (xs : List Float) → length xs ≡ 1 → greatest xs ≡ 0
 one-greatest xs e = below (greatest xs) (subst (λ (n : ℕ). greatest xs < n) e (max_below (value_at xs) (length xs) (omega arith)))

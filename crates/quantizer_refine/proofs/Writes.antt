@@ -25,15 +25,9 @@ module _ (pal : List Float) (A : Gather) where
   pub means_length : (p : ℕ) (s : List Float) → s ≡ means_of pal A p → length s ≡ length pal
   means_length p s e = ap length e ∙ length_means pal A p
 
-  pub means_meaning : (n : ℕ) → Meaning pal n A → (p : ℕ) → p < n → (s : List Float) → s ≡ means_of pal A p → Meaning s (p + 1) A
-  means_meaning n M p l s e = record { room = omega (arith, means_length p s e, M.room); size = omega (arith, M.size); whole = M.whole; all = M.all; few = M.few }
-
   pub means_more : (p : ℕ) (s after : List Float) → s ≡ means_of pal A p → after ≡ mean_step A p s → after ≡ means_of pal A (p + 1)
   unfolding means_of
   means_more p s after e q = q ∙ ap (mean_step A p) e ∙ sym (ap (means_of pal A) (add-one p))
-
-  pub means_end : (n p : ℕ) (s : List Float) → p ≤ n → n ≤ p → s ≡ means_of pal A p → s ≡ means_of pal A n
-  means_end n p s a b e = e ∙ ap (means_of pal A) (le_antisymm a b)
 
 -- ---- a whole pass, whose sums and counts are A
 module _ (J : Job) (pal : List Float) (S : Shown J pal J.S J.C) (A : Gather) (e : A ≡ gather_of J pal J.T) where
