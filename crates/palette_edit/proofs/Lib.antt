@@ -1,2 +1,3 @@
+mod Copying
 pub mod Kept
 pub mod Gentle

@@ -34,7 +34,7 @@ pub fn duplicate_color(pal: &mut [f32], c: usize, have: usize, i: usize, from: u
     copy_color(pal, c, i, from, have)
 }
 
-// The `have` colours of subpalette `to` become those of subpalette `from`.
+// Place by place: the slice's own copy would have the library for hosts import memmove. The `have` colours of subpalette `to` become those of subpalette `from`.
 pub fn copy_subpalette(pal: &mut [f32], c: usize, have: usize, from: usize, to: usize)
     requires { (have ≤ c) × ((from * (3 * c) + 3 * c ≤ length pal.old) × (to * (3 * c) + 3 * c ≤ length pal.old)) }
     ensures { pal.new ≡ sub_copied pal.old c have from to }
@@ -42,7 +42,9 @@ pub fn copy_subpalette(pal: &mut [f32], c: usize, have: usize, from: usize, to: 
     let size = 3 * have;
     let f = from * (3 * c);
     let t = to * (3 * c);
-    pal.copy_within(f..f + size, t);
+    for j in 0..size {
+        pal[t + j] = pal[f + j];
+    }
 }
 
 // A palette of n subpalettes gets subpalette `from` once more, as its next.

@@ -5,7 +5,7 @@
 ghost use Rattle.std.specs.Prelude.{◌≡◌, length};
 ghost use Rattle.job.specs.Job.{job_in};
 ghost use Rattle.palette_tile.specs.Tiles.{winner, hint_step, hints_of, Shown};
-ghost use Rattle.quantizer.specs.Refining.{gather_step, gather_of};
+ghost use Rattle.quantizer.specs.Refining.{nothing, gather_step, gather_of};
 ghost use Rattle.quantizer_gather.specs.Turns.{Turned};
 
 use job::Job;
@@ -34,18 +34,13 @@ fn gather_step(job: &Job, pal: &[f32], hints: &mut [u32], i: usize, gathered: &m
     );
 }
 
-// All tiles' parts.
-pub fn gather_all(job: &Job, pal: &[f32], hints: &mut [u32]) -> Gather
-    requires { Shown (job_in job.now) pal.now job.now.sizes.s job.now.sizes.c × (length hints.old ≡ job.now.sizes.t) }
-    ensures { (result ≡ gather_of (job_in job.now) pal.now job.now.sizes.t)
+// All tiles' parts, from sums and counts of 0. They are lent: given back, they would be copied, by a function of C that hosts would have to have.
+pub fn gather_all(job: &Job, pal: &[f32], hints: &mut [u32], gathered: &mut Gather)
+    requires { Shown (job_in job.now) pal.now job.now.sizes.s job.now.sizes.c × ((length hints.old ≡ job.now.sizes.t) × (gathered.old ≡ nothing)) }
+    ensures { (gathered.new ≡ gather_of (job_in job.now) pal.now job.now.sizes.t)
         × (hints.new ≡ hints_of (job_in job.now) pal.now job.now.sizes.s job.now.sizes.c hints.old job.now.sizes.t) }
 {
-    let mut gathered = Gather {
-        sums: [0.0; 768],
-        cnts: [0; 256],
-    };
     for i in 0..job.sizes.t {
-        gather_step(job, pal, hints, i, &mut gathered);
+        gather_step(job, pal, hints, i, gathered);
     }
-    gathered
 }

@@ -27,6 +27,10 @@ pub fn refine(job: &Job, pal: &mut [f32], hints: &mut [u32])
     ensures { (pal.new ≡ refined (job_in job.now) pal.old)
         × (hints.new ≡ hints_of (job_in job.now) pal.old job.now.sizes.s job.now.sizes.c hints.old job.now.sizes.t) }
 {
-    let gathered = quantizer_gather::gather_all(job, pal, hints);
+    let mut gathered = Gather {
+        sums: [0.0; 768],
+        cnts: [0; 256],
+    };
+    quantizer_gather::gather_all(job, pal, hints, &mut gathered);
     write_means(pal, job.sizes.s * job.sizes.c, &gathered);
 }

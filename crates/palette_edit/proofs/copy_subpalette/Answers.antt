@@ -1,22 +1,25 @@
--- `palette_edit::copy_subpalette` meets its contract: what is copied is the first places of the row. Assumes nothing.
-use Prim.Native.Nat.{ℕ, ◌+◌, ◌*◌, ◌-◌}
-use mathlib.Core.Path.{◌≡◌, refl, sym, ap, ◌∙◌}
-use mathlib.Core.List.{List, ◌++◌}
-use native.Mathlib.Nat.{le_refl}
+-- `palette_edit::copy_subpalette` meets its contract. The loop's invariant: the first j numbers are copied. Assumes nothing.
+use Prim.Native.Nat.{◌*◌, ◌-◌}
+use mathlib.Core.Path.{refl}
 use native.Mathlib.Omega.{arith}
-use lib.ListN.{take, drop}
-use lib.Seq.{paste, take-take}
-use lib.Ieee.{Float}
+use lib.ListN.{length-set}
+use lib.Seq.{paste-zero}
+use Rattle.palette.specs.Palette.{sub_of}
+use Rattle.palette_edit.proofs.Copying.{copy_turn, copy_end}
 use Rattle.palette_edit.proofs.copy_subpalette.Goals as goal
 
--- the first n places of the rest are those of its first n
-first_places : (s : List Float) (at from n m : ℕ) → m ≡ from + n - from → paste s at (drop from s) m ≡ paste s at (take n (drop from s)) n
-first_places s at from n m e =
-    let size : m ≡ n = omega arith in
-    ap (paste s at (drop from s)) size
-    ∙ ap (λ (x : List Float). (take at s ++ x) ++ drop (at + n) s) (sym (take-take n n (drop from s) (le_refl n)))
+pub loop-j-init : goal.loop-j-init
+loop-j-init c = let a = c.args in (refl, paste-zero a.pal.now (a.to * (3 * a.c)) (sub_of a.pal.now a.c a.have a.from))
+
+pub loop-j-preserved : goal.loop-j-preserved
+loop-j-preserved c =
+    let v = c.loop-j in
+    (simp length-set v.invariant.0, copy_turn _ _ _ _ _ c.requires.0 c.requires.1.0 c.requires.1.1 _ _ c.loop-j-test.true v.invariant.1)
+
+pub shape_of-pal : goal.shape_of-pal
+shape_of-pal c = c.loop-j.invariant.0
 
 pub returns : goal.returns
 returns c =
-    let a = c.args in
-    c.copy_within.ensures.after ∙ first_places a.pal.now (a.to * (3 * a.c)) (a.from * (3 * a.c)) (3 * a.have) _ refl
+    let v = c.loop-j in
+    copy_end _ _ _ _ _ c.requires.0 c.requires.1.0 c.requires.1.1 _ _ v.auto.j-end c.loop-j-test.false v.invariant.1

@@ -1,0 +1,7 @@
+-- `run_memory::copy` meets its contract. The invariant: what stands before i is copied. Assumes nothing.
+use mathlib.Core.Path.{◌≡◌}
+use lib.ListN.{length, take}
+use Rattle.run_memory.proofs.copy.Given as goal
+
+abbrev pub invariant-loop-i : goal.invariant-loop-i
+invariant-loop-i l = (length l.to ≡ length l.from) × (take l.i l.to ≡ take l.i l.from)
