@@ -24,8 +24,6 @@ apart e value h =
       rest = mul-add-div_right (omega arith) (value_of e value) e.number ∙ ap (λ (k : ℕ). value_of e value + k) (div-eq_of_lt h) ∙ add-zero (value_of e value);
     }
 
--- ---- the word of what is done, and of a refusal
-
 -- ---- an answer's number is a rule's, and each of these is below 256
 abbrev pub below : ℕ → Bool
 below n = ltb n 256

@@ -1,6 +1,6 @@
-// Text into lent bytes: words, numbers, and the lines that `fit` prints. Each function gives the place behind what it wrote.
-// Not by Display: a line would go into an InlineText first and be copied from there, its digits stated by `output` in place of `decimal`,
-// which is no plainer; bytes and place go side by side, as what is lent to write does everywhere (docs/DECISIONS.md). Assumes nothing.
+// Text into lent bytes: words, numbers, and the lines that `fit` prints. Each function gives the place behind what it wrote: a struct of
+// the slice and the place would have to say in each clause, beside what it wrote, that it holds the same slice, as long as before. And the
+// lines are ASCII without heap: std's `write!` says what it writes as text of chars, where the lines are defined as bytes. Assumes nothing.
 #![tactic(auto)]
 
 ghost use Rattle.std.specs.Prelude.{◌≡◌, ◌+◌, ◌≤◌, ◌<◌, ◌++◌, length};

@@ -36,5 +36,3 @@ tally_step_lem s X w a k x n q d h g e =
     ap (λ (z : Tally). step_tally z (mul binary64 d (of_int binary64 (pos (get_or X.counts k 0)))) (get_or X.counts k 0)) h
     ∙ ap (λ (z : Float). step_tally (tile_tally s X w a k) (mul binary64 z (of_int binary64 (pos (get_or X.counts k 0)))) (get_or X.counts k 0)) (e ∙ ap (λ (y : Oklab). (nearest_of s y w).dist) g)
     ∙ sym (ap (tile_tally s X w a) (add-one k))
-
-module _ (a : Tally) where

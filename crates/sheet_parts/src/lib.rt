@@ -1,5 +1,5 @@
-// Room for any sheet, the job that a reading leaves in its first places, and the sheet of a job that can be written. What a program prints
-// for the bytes of a sheet is defined in specs/, with its laws in proofs/. Assumes nothing.
+// Room of any type and length, the job that a reading leaves in its first places, and the sheet of a job that can be written. What a
+// program prints for the bytes of a sheet is defined in specs/, with its laws in proofs/. Assumes nothing.
 #![tactic(auto)]
 
 ghost use Rattle.std.specs.Prelude.{◌≡◌, ℕ, ◌*◌, ◌≤◌, length, get_or};

@@ -17,6 +17,7 @@ pub fn read_full<R: Read>(input: &mut R, out: &mut [u8]) -> io::Result<usize>
     ensures failed { IfErr result (λ _. TakenAtFront (R.remaining input.old) (R.remaining input.new) out.new) }
     ensures end { IfOk result (λ n. n < length out.new → IsAtEnd (R.remaining input.new)) }
 {
+    // No range: each read says how far it came. And std's `read_exact` says little of what had come before an error.
     let mut done = 0;
     while done < out.len() {
         let n = input.read(&mut out[done..])?;
