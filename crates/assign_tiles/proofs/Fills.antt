@@ -13,7 +13,7 @@ use Rattle.palette_tile.specs.Tiles.{fit_at, winner, hint_step, Paired}
 use Rattle.palette_tile.proofs.Walks.{Walked, walked_more, walked_end, walked_has}
 use Rattle.palette_tile.proofs.Hints.{walked_hints}
 use Rattle.palette_tile.proofs.Turns.{passed_over, taken_up, hint-kept, hint-written, fit-index, fit-below}
-use Rattle.assign_tiles.specs.Tiles.{TileMemory, tile_memory, subpalette_of, subpalettes, assign_step, assigned, CanAssign, Turn}
+use Rattle.assign_tiles.specs.Tiles.{TileMemory, tile_memory, subpalette_of, subpalettes, assign_step, assigned, Turn}
 
 pub length-subpalettes : (J : Job) (palette : List Float) (found : List ℕ) (n : ℕ) → length (subpalettes J palette found n) ≡ length found
 unfolding walk

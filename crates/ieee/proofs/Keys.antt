@@ -10,14 +10,13 @@ use native.Mathlib.Omega.{arith}
 use mathlib.Core.Bool.{Bool, true, false, not, cond}
 use lib.IntN.{ℤ}
 use lib.Dec.{T, leb, ltb, eqb, leb→le, le→leb, nleb→lt, ltb→lt, lt→ltb, eqb→eq, not_T}
-use lib.Arith.{le→nltb}
 use lib.Pow.{pow-add, pow_pos, shr_mono}
-use lib.Ieee.{Float, nan, inf, fin, Format, binary32, binary64, prec, emax, low, up, down, size, hid, ones, top, lt, eq, le, fits, is_nan, nan_bits, to_bits, of_bits}
+use lib.Ieee.{Float, nan, inf, fin, Format, binary32, binary64, prec, emax, low, up, down, size, hid, ones, top, lt, eq, le, fits, is_nan, to_bits, of_bits}
 use lib.Ieee.Digits.{size-lt, size-le, size_reaches}
 use lib.Ieee.Exact.{HasValue}
 use lib.Ieee.Fits.{down_pos, kept-lt, two, two-le_pos, eq→eqb}
 use lib.Ieee.Nearest.{div_mono}
-use lib.Ieee.Bits.{of_bits-to_bits, nan_bits_above}
+use lib.Ieee.Bits.{of_bits-to_bits}
 use Rattle.ieee.proofs.Order.{same_test, le_fin→}
 use Rattle.ieee.proofs.Total.{total, refl-le, lt→le, lt-is, antisym, eq→le, eq→ge}
 use Rattle.ieee.proofs.Self.{fits_under}

@@ -1,25 +1,22 @@
 -- The sums in f64 follow the definitions: one colour more, at the code's `k + 1`; and the mean by its two cases. Assumes nothing.
 use Prim.Native.Nat.{ℕ, ◌+◌, ◌<◌}
 use mathlib.Core.Path.{◌≡◌, sym, ap, subst⁻¹, ◌∙◌}
-use mathlib.Core.Bool.{Bool, not, cond, ◌&&◌}
+use mathlib.Core.Bool.{not, ◌&&◌}
 use mathlib.Core.List.{List}
 use native.Mathlib.Numerals.{add-one}
 use lib.ListN.{get_or, length}
 use lib.IntN.{pos}
 use lib.Dec.{T}
-use lib.Ieee.{Float, binary32, binary64, add, mul, div, of_int, of_bits, fits, is_nan}
+use lib.Ieee.{Float, binary32, binary64, add, mul, of_int, fits, is_nan}
 use lib.Ieee.Fits.{and_i, fits_widens}
-use borrow.Author.Tests.{eq-eqb, ne_eqb}
 use Rattle.ieee.proofs.Plus.{plus-real}
 use Rattle.ieee.specs.Terms.{Good}
-use Rattle.ieee.specs.Narrow.{narrow_of}
 use Rattle.color.specs.declared.Oklab.{Oklab}
-use Rattle.color.specs.Color.{colour_at, Real}
-use Rattle.color.proofs.Sizes.{bounded-finite, sized-real}
-use Rattle.palette.specs.Palette.{Tile, nearest_of, Clear}
+use Rattle.color.specs.Color.{colour_at}
+use Rattle.palette.specs.Palette.{Tile, nearest_of}
 use Rattle.palette_mse.specs.declared.Tally.{Tally}
-use Rattle.palette_mse.specs.Mse.{step_tally, tile_tally, mean_error, Summed}
-use Rattle.palette_mse.proofs.Fine.{near_good, target_sized}
+use Rattle.palette_mse.specs.Mse.{step_tally, tile_tally, Summed}
+use Rattle.palette_mse.proofs.Fine.{near_good}
 
 -- an f64 holds every f32
 widens : (x : Float) → Good binary32 x → T (fits binary64 x && not (is_nan x))

@@ -4,15 +4,14 @@ use Prim.Native.Nat.{ℕ, ◌+◌, ◌*◌, ◌≤◌, ◌<◌}
 use mathlib.Core.Path.{◌≡◌, sym, ap, subst⁻¹, ◌∙◌}
 use mathlib.Core.Bool.{Bool, true, false, cond}
 use mathlib.Core.List.{List}
-use native.Mathlib.Omega.{arith}
 use lib.ListN.{length, set}
 use lib.Ieee.{Float}
-use borrow.Author.Tests.{eqb-true, eqb-false}
+use borrow.Author.Tests.{eqb-true}
 use Rattle.job.specs.Job.{Job, size_of, tile_of, counts_of, is_empty}
 use Rattle.job.proofs.Tiles.{counts-length}
 use Rattle.stats.specs.declared.Near.{Near}
 use Rattle.palette.specs.Palette.{Tile, tile_with, sub_of}
-use Rattle.palette_tile.specs.Tiles.{tile_at, fit_at, winner, hint_step, Shown, Paired, Fitted}
+use Rattle.palette_tile.specs.Tiles.{tile_at, fit_at, winner, hint_step, Shown, Paired}
 use Rattle.palette_tile.proofs.Present.{winner-below, shown-part}
 
 -- r is what the code's test of an empty tile answers

@@ -6,11 +6,10 @@ use lib.ListN.{length}
 use lib.Ieee.{Float}
 use Rattle.job.specs.Job.{Job, tile_of, counts_of}
 use Rattle.palette.specs.Palette.{tile_with, sub_of}
-use Rattle.palette_tile.specs.Tiles.{Paired}
-use Rattle.palette_tile.proofs.Turns.{goes_below, goes_part, goes_same, goes_asks}
+use Rattle.palette_tile.proofs.Turns.{goes_part, goes_same, goes_asks}
 use Rattle.quantizer.specs.Sums.{places}
 use Rattle.quantizer.specs.Replacing.{Shares, tile_shares, owner_of, spread_step}
-use Rattle.quantizer.proofs.Indexes.{owner-below, row-placed}
+use Rattle.quantizer.proofs.Indexes.{owner-below}
 use Rattle.quantizer_matches.specs.Matches.{Matched}
 use Rattle.quantizer_matches.proofs.Asked.{tile_matched}
 use Rattle.quantizer_owner.specs.Owner.{owner_in}

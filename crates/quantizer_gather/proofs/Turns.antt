@@ -1,6 +1,6 @@
 -- A turn over one tile: what its calls ask, and what it comes to; and the sums while the tiles are walked over. Assumes nothing.
 use Prim.Native.Nat.{ℕ, ◌*◌}
-use mathlib.Core.Path.{◌≡◌, sym, ap, subst⁻¹, ◌∙◌}
+use mathlib.Core.Path.{◌≡◌, sym, ap, ◌∙◌}
 use mathlib.Core.Bool.{Bool, true, false}
 use mathlib.Core.List.{List}
 use lib.ListN.{length, set}
@@ -14,8 +14,8 @@ use Rattle.palette_tile.proofs.Walks.{Walked, walked_has}
 use Rattle.palette_tile.proofs.Turns.{no_colours, hint-kept, hint-written, goes_same, goes_asks, fit-index}
 use Rattle.quantizer.specs.declared.Gather.{Gather}
 use Rattle.quantizer.specs.Refining.{nothing, tile_gather, gather_step}
-use Rattle.quantizer.specs.Refines.{SumsWithin, Gathered}
-use Rattle.quantizer.proofs.Refines.{nothing-gathered, gathered}
+use Rattle.quantizer.specs.Refines.{Gathered}
+use Rattle.quantizer.proofs.Refines.{gathered}
 use Rattle.quantizer_gather_tile.specs.Gathers.{Gathering}
 use Rattle.quantizer_gather_tile.proofs.Through.{gathering}
 use Rattle.quantizer_gather.specs.Turns.{Turned}

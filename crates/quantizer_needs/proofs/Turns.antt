@@ -11,11 +11,10 @@ use Rattle.stats.specs.declared.Near.{Near}
 use Rattle.palette.specs.Palette.{tile_with, sub_of}
 use Rattle.palette_tile.specs.Tiles.{tile_at, fit_at, winner, hint_step, hints_of}
 use Rattle.palette_tile.proofs.Present.{winner-below}
-use Rattle.palette_tile.proofs.Walks.{Walked, walked_end, walked_has}
+use Rattle.palette_tile.proofs.Walks.{Walked, walked_end}
 use Rattle.palette_tile.proofs.Turns.{no_colours, hint-kept, hint-written, goes_same, goes_asks, fit-index}
 use Rattle.quantizer.specs.Sums.{zeros, places}
 use Rattle.quantizer.specs.Growing.{tile_needs, need_step, needs_of, grown_hints}
-use Rattle.quantizer.proofs.Lengths.{length_needs}
 use Rattle.quantizer_matches.specs.Matches.{Matched}
 use Rattle.quantizer_matches.proofs.Asked.{tile_matched}
 use Rattle.quantizer_needs.specs.Asked.{split_sums, NeedTurn}

@@ -7,7 +7,7 @@ use lib.ListN.{length, set}
 use lib.Ieee.{Float}
 use Rattle.stats.specs.declared.Two.{Two}
 use Rattle.job.specs.Job.{Job, most_subpalettes}
-use Rattle.palette_tile.specs.Tiles.{Shown, Paired}
+use Rattle.palette_tile.specs.Tiles.{Shown}
 use Rattle.palette_tile.proofs.Present.{pair-below}
 use Rattle.palette_tile.proofs.Walks.{Walked, walked_more, walked_has}
 use Rattle.quantizer.specs.Replacing.{Shares, no_shares, share_with, pair_at}

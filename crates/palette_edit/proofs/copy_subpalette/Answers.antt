@@ -1,7 +1,6 @@
 -- `palette_edit::copy_subpalette` meets its contract. The loop's invariant: the first j numbers are copied. Assumes nothing.
 use Prim.Native.Nat.{◌*◌, ◌-◌}
 use mathlib.Core.Path.{refl}
-use native.Mathlib.Omega.{arith}
 use lib.ListN.{length-set}
 use lib.Seq.{paste-zero}
 use Rattle.palette.specs.Palette.{sub_of}
