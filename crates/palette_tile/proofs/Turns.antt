@@ -32,7 +32,6 @@ module _ (J : Job) (pal : List Float) (n have : ℕ) (hints : List ℕ) (t : ℕ
   hint-kept p = passed_over J t r R hints (set hints t (winner J pal n have t)) p
 
   module _ (p : r ≡ false) where
-
     pub hint-written : (b : Near) → b ≡ fit_at J pal n have t → (after : List ℕ) → after ≡ set hints t b.index → after ≡ hint_step J pal n have t hints
     unfolding hint_step
     hint-written b B after e = taken_up J t r R hints (set hints t (winner J pal n have t)) p (e ∙ ap (λ (x : Near). set hints t x.index) B)

@@ -16,7 +16,6 @@ use Rattle.quantizer_owner.specs.Owner.{owner_in}
 use Rattle.quantizer_color_sums.specs.Asked.{OwnerTurn}
 
 module _ (J : Job) (pal : List Float) (hints : List ℕ) (t : ℕ) (K : OwnerTurn J pal hints t) where
-
   module _ (i : ℕ) (e : i ≡ owner_in J.S hints t) where
     mine : i ≡ owner_of J pal t
     mine = e ∙ K.owned.owner t K.tile

@@ -62,7 +62,6 @@ module _ (J : Job) (pal : List Float) (have : ℕ) where
   )
 
   module _ {total : List Float} {t : ℕ} (W : Walked J.T (λ i. need_step J pal have (winner J pal J.S have i) i) (zeros places) total t) where
-
     pub all_fitted : {first hints : List ℕ} → Walked J.T (hint_step J pal J.S have) first hints t → (have ≡ 1 → ⊥) → J.T ≤ t → Split total first hints
     unfolding split_sums grown_hints
     all_fitted {first} H f h = (

@@ -9,12 +9,6 @@ use Rattle.train_samples.proofs.count_samples.Goals as goal
 pub loop-i-init : goal.loop-i-init
 loop-i-init c = sym (no_tile c.args.job.now.tiles.now c.args.job.now.counts.now)
 
-pub counts_part-part-requires : goal.counts_part-part-requires
-counts_part-part-requires c = c.requires.placed _ c.loop-i-test.true
-
-pub count_tile-n-requires : goal.count_tile-n-requires
-count_tile-n-requires c = omega (arith, ap units c.counts_part-part.ensures, c.requires.full c.loop-i.i c.loop-i-test.true)
-
 pub overflow_add-n : goal.overflow_add-n
 overflow_add-n c =
     let a = c.args in
@@ -25,8 +19,3 @@ pub loop-i-preserved : goal.loop-i-preserved
 loop-i-preserved c =
     let a = c.args in
     tile-more a.job.now.tiles.now a.job.now.counts.now c.loop-i.i c.loop-i.n _ c.loop-i.invariant c.counts_part-part.ensures c.count_tile-n.ensures
-
-pub returns : goal.returns
-returns c =
-    let all : c.loop-i.i ≡ c.args.job.now.sizes.t = omega arith in
-    c.loop-i.invariant ∙ ap (units_to c.args.job.now.tiles.now c.args.job.now.counts.now) all

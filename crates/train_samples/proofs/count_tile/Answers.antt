@@ -7,9 +7,6 @@ use Rattle.train_samples.proofs.count_tile.Goals as goal
 pub loop-m-init : goal.loop-m-init
 loop-m-init c = sym (none_of c.args.part.now)
 
-pub wide-n-requires : goal.wide-n-requires
-wide-n-requires c = tt
-
 pub overflow_add-n : goal.overflow_add-n
 overflow_add-n c = omega (arith, c.requires, part_small c.args.part.now c.loop-m.m-index c.loop-m.n c.loop-m.invariant _ c.wide-n.ensures c.loop-m-test.true)
 

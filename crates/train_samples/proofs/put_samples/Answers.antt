@@ -9,12 +9,6 @@ pub loop-i-init : goal.loop-i-init
 unfolding samples_to
 loop-i-init c = nothing _ _
 
-pub counts_part-part-requires : goal.counts_part-part-requires
-counts_part-part-requires c = c.requires.0.placed _ c.loop-i-test.true
-
-pub overflow_cast-i : goal.overflow_cast-i
-overflow_cast-i c = omega (arith, c.requires.0.few)
-
 pub put_tile-q-requires : goal.put_tile-q-requires
 put_tile-q-requires c =
     part_fits_lem _ _ _ c.requires.0 _ _ _ _ _ c.loop-i-test.true c.loop-i.invariant c.counts_part-part.ensures
@@ -23,6 +17,3 @@ put_tile-q-requires c =
 pub loop-i-preserved : goal.loop-i-preserved
 loop-i-preserved c =
     samples-more _ _ _ _ _ _ _ _ _ c.loop-i.invariant (rw c.counts_part-part.ensures at c.put_tile-q.ensures)
-
-pub returns : goal.returns
-returns c = let e : c.loop-i.i ≡ c.args.job.now.sizes.t = omega arith in rw e at c.loop-i.invariant

@@ -18,6 +18,3 @@ put_alike-q-requires c =
 
 pub loop-k-preserved : goal.loop-k-preserved
 loop-k-preserved c = tile-more _ _ _ _ _ _ _ _ _ c.loop-k.invariant c.put_alike-q.ensures
-
-pub returns : goal.returns
-returns c = let e : c.loop-k.k ≡ length c.args.part.now = omega arith in rw e at c.loop-k.invariant
