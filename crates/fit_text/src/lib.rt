@@ -36,6 +36,7 @@ fn put_job(
 }
 
 // What `fit` prints for these bytes, into `out`, and how many bytes that is: none where `out` has too little room for any sheet.
+// (A count and no Option: a call that could not fail still cannot.)
 pub fn fit(bytes: &[u8], out: &mut [u8]) -> usize
     ensures { (outcome result out.new ≡ fit_def bytes.now out.old) × IsPrefixLen result out.new }
 {

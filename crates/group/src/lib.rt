@@ -14,7 +14,7 @@ ghost use Rattle.group.specs.Group.{grouping};
 use answer::Refusal;
 use group_pixels::{Pixels, Rgba};
 
-// The first of n entries that has the bytes x, or n.
+// The first of n entries that has the bytes x, or n, the place where one begins. (So a number and no Option: the pixel is written there.)
 fn position(n: usize, entry_bytes: &[u8], x: Rgba) -> usize
     requires { 4 * n ≤ length entry_bytes.now }
     ensures { result ≡ seek n entry_bytes.now x }

@@ -16,15 +16,12 @@ use Rattle.palette.specs.Palette.{sub_of}
 use Rattle.palette_edit.specs.Edits.{sub_copied}
 
 module _ {A : Type 0} (z : A) (s : List A) (stride width from to : ℕ) (W : width ≤ stride) (F : from * stride + width ≤ length s) (G : to * stride + width ≤ length s) where
-  source-length : length (part s stride width from) ≡ width
-  source-length = part_length z s stride width from F
-
   -- what a turn reads is not yet overwritten
   copy_reads : (j : ℕ) → j < width → get_or (paste s (to * stride) (part s stride width from) j) (from * stride + j) z ≡ get_or (part s stride width from) j z
   copy_reads j l =
       elim (lt_or_ge from to) [
-        | inl g ↦ paste-before z s (to * stride) (part s stride width from) j (omega arith) (omega (arith, source-length)) (from * stride + j) (omega (arith, row_before from to stride g))
-        | inr g ↦ paste-after z s (to * stride) (part s stride width from) j (omega arith) (omega (arith, source-length)) (from * stride + j) (omega (arith, mul-le-mul_right stride g))
+        | inl g ↦ paste-before z s (to * stride) (part s stride width from) j (omega arith) (omega (arith, part_length z s stride width from F)) (from * stride + j) (omega (arith, row_before from to stride g))
+        | inr g ↦ paste-after z s (to * stride) (part s stride width from) j (omega arith) (omega (arith, part_length z s stride width from F)) (from * stride + j) (omega (arith, mul-le-mul_right stride g))
       ]
       ∙ sym (part_at z s stride width from j l)
 
@@ -34,7 +31,7 @@ module _ {A : Type 0} (z : A) (s : List A) (stride width from to : ℕ) (W : wid
   copy_more l j h e =
       ap (λ (x : List A). set x (to * stride + j) (get_or x (from * stride + j) z)) e
       ∙ ap (set (paste s (to * stride) (part s stride width from) j) (to * stride + j)) (copy_reads j h)
-      ∙ paste-suc s (to * stride) (part s stride width from) j z (omega arith) (omega (arith, source-length))
+      ∙ paste-suc s (to * stride) (part s stride width from) j z (omega arith) (omega (arith, part_length z s stride width from F))
       ∙ ap (paste s (to * stride) (part s stride width from)) (sym (add-one j))
 
   copy_done : (l : List A) (j : ℕ) → j ≤ width → width ≤ j → l ≡ paste s (to * stride) (part s stride width from) j → l ≡ copied s stride width from to

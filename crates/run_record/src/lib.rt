@@ -38,7 +38,7 @@ pub fn sizes_word(z: Sizes) -> u64
     s + c + t + z.n as u64
 }
 
-// Whether a stage makes draws.
+// Whether a stage makes draws. Here and below a stage is the number that a record has: a stranger may have written any.
 pub fn makes_draws(stage: u64) -> bool
     ensures { result ≡ draws stage }
 {

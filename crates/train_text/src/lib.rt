@@ -35,6 +35,7 @@ fn put_job(
 }
 
 // What `train` writes for these bytes, into `out`, and how many bytes that is: none where `out` has too little room for any sheet.
+// (A count and no Option: a call that could not fail still cannot.)
 pub fn train(bytes: &[u8], out: &mut [u8]) -> usize
     ensures { (outcome result out.new ≡ train_def bytes.now out.old) × IsPrefixLen result out.new }
 {
