@@ -2,9 +2,9 @@
 // hosts. Assumes nothing.
 #![tactic(auto)]
 
-ghost use Rattle.std.specs.Prelude.{◌≡◌};
-ghost use Rattle.answer.specs.Refusals.{number_of, index_of, Few};
-ghost use Rattle.answer.specs.Words.{word_of};
+ghost use Rattle.std.specs.Prelude.{◌≡◌, ◌≤◌};
+ghost use Rattle.answer.specs.Refusals.{refusal, number_of, index_of, Few};
+ghost use Rattle.answer.specs.Words.{word, word_of};
 
 // Why a call is refused; docs/SCOPE.md's table has the number of each. Where a colour or a pixel is at fault, its index.
 #[derive(Clone, Copy, Debug, PartialEq, Eq)]
@@ -66,13 +66,25 @@ impl Refusal {
     }
 }
 
-// A value times 256; or of a refusal its index times 256, and its number. Both are far smaller than what fits here.
+// An index times 256 and a number, a refusal's or any other; where the number is 0, a value times 256. Both are far smaller than what fits
+// here.
+pub fn word_of_number(number: u32, index: usize, value: u64) -> u64
+    requires { (index ≤ 0xffff_ffff) × (value ≤ 0xffff_ffff) }
+    ensures { result ≡ word (refusal number index) value }
+{
+    if number == 0 {
+        return value * 256;
+    }
+    index as u64 * 256 + number as u64
+}
+
+// The word of what a call answers.
 pub fn word(answer: Result<u64, Refusal>) -> u64
     requires { Few answer }
     ensures { result ≡ word_of answer }
 {
     match answer {
-        Ok(value) => value * 256,
-        Err(e) => e.index() as u64 * 256 + e.number() as u64,
+        Ok(value) => word_of_number(0, 0, value),
+        Err(e) => word_of_number(e.number(), e.index(), 0),
     }
 }
