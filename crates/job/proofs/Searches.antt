@@ -9,6 +9,7 @@ use lib.Dec.{eqb, ltb}
 use lib.ListN.{length}
 use borrow.Author.Tests.{eq-eqb, ne_eqb, ltb-true, ltb-false}
 use Rattle.std.specs.Prelude.{Option, Some, None, option_map}
+use Rattle.std.specs.Option.{unwrap_or}
 use Rattle.std.specs.List.{position, position_or_len}
 use Rattle.std.specs.Float.{nan}
 use Rattle.std.proofs.lemmas.List.Sums.{position_or_len_is}
@@ -36,3 +37,11 @@ module _ (m : Float) (xs : List Float) where
           → option_map (λ k. base + k / 3) (cond b (Some (first_bad m xs)) None) ≡ cond (eqb (first_bad m xs) (length xs)) None (Some (base + first_bad m xs / 3))
       by true g = rw (ne_eqb (first_bad m xs) (length xs) (λ z. omega (arith, z, ltb-true _ _ g)))
       by false g = rw (eq-eqb (first_bad m xs) (length xs) (unfold first_bad in omega (arith, ltb-false _ _ g, first-bound fits (length xs))))
+
+  -- the component found, or how many there are
+  pub or_all : (r : Option ℕ) → r ≡ position (λ x. not (within m x)) xs → unwrap_or r (length xs) ≡ first_bad m xs
+  or_all r e = rw (e, searched) (by (ltb (first_bad m xs) (length xs)) refl)
+    where
+      by : (b : Bool) → ltb (first_bad m xs) (length xs) ≡ b → unwrap_or (cond b (Some (first_bad m xs)) None) (length xs) ≡ first_bad m xs
+      by true g = refl
+      by false g = unfold first_bad in omega (arith, ltb-false _ _ g, first-bound fits (length xs))

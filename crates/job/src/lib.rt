@@ -2,8 +2,8 @@
 #![tactic(auto)]
 
 ghost use Rattle.std.specs.Prelude.{◌≡◌, ◌+◌, ◌*◌, ◌<◌, ◌≤◌, length, not, position};
-ghost use Rattle.job.specs.Job.{sizes_of, job_in, first_of, size_of, tile_of, counts_of, is_empty, Inside, most_subpalettes, most_colours};
-ghost use Rattle.job.specs.Checks.{tile_sized, within, bad_colour_from};
+ghost use Rattle.job.specs.Job.{sizes_of, job_in, first_of, size_of, colours_part, counts_part, tile_of, counts_of, is_empty, Inside, most_subpalettes, most_colours};
+ghost use Rattle.job.specs.Checks.{tile_sized, within, first_bad, bad_colour_from};
 
 // The numbers of a call, by value: how many pixels a tile has at most, subpalettes, colours in each, tiles, samples (0 where none are
 // lent), and the weight of brightness.
@@ -39,9 +39,7 @@ impl<'a> Job<'a> {
         requires { Inside 3 self.now.tiles.now i (length self.now.colours.now) }
         ensures { result.now ≡ tile_of (job_in self.now) i }
     {
-        let at = 3 * first_of(self.tiles, i);
-        let size = 3 * size_of(self.tiles, i);
-        &self.colours[at..at + size]
+        tile_part(self.tiles, self.colours, i)
     }
 
     // The counts of tile i.
@@ -49,9 +47,7 @@ impl<'a> Job<'a> {
         requires { Inside 1 self.now.tiles.now i (length self.now.counts.now) }
         ensures { result.now ≡ counts_of (job_in self.now) i }
     {
-        let at = first_of(self.tiles, i);
-        let size = size_of(self.tiles, i);
-        &self.counts[at..at + size]
+        counts_part(self.tiles, self.counts, i)
     }
 }
 
@@ -106,6 +102,26 @@ pub fn size_of(tiles: &[u32], i: usize) -> usize
     wide(tiles[2 * i + 1])
 }
 
+// The colours of tile i. The part lasts as long as the colours do, whatever becomes of the table.
+pub fn tile_part<'a>(tiles: &[u32], colours: &'a [f32], i: usize) -> &'a [f32]
+    requires { Inside 3 tiles.now i (length colours.now) }
+    ensures { result.now ≡ colours_part tiles.now colours.now i }
+{
+    let at = 3 * first_of(tiles, i);
+    let size = 3 * size_of(tiles, i);
+    &colours[at..at + size]
+}
+
+// The counts of tile i.
+pub fn counts_part<'a>(tiles: &[u32], counts: &'a [u32], i: usize) -> &'a [u32]
+    requires { Inside 1 tiles.now i (length counts.now) }
+    ensures { result.now ≡ counts_part tiles.now counts.now i }
+{
+    let at = first_of(tiles, i);
+    let size = size_of(tiles, i);
+    &counts[at..at + size]
+}
+
 // From -limit to limit: no NaN and no infinity is.
 pub fn is_within(x: f32, limit: f32) -> bool
     ensures { result ≡ within limit x }
@@ -117,10 +133,17 @@ pub fn is_within(x: f32, limit: f32) -> bool
 }
 
 // The index of the first component that is not within the limit.
-fn first_bad(xs: &[f32], limit: f32) -> Option<usize>
+fn bad_component(xs: &[f32], limit: f32) -> Option<usize>
     ensures { result ≡ position (λ x. not (within limit x)) xs.now }
 {
     xs.iter().position(|x| !is_within(*x, limit))
+}
+
+// The index of the first component that is not within the limit, or how many there are.
+pub fn first_bad(xs: &[f32], limit: f32) -> usize
+    ensures { result ≡ first_bad limit xs.now }
+{
+    bad_component(xs, limit).unwrap_or(xs.len())
 }
 
 // The first colour with a component that is not within the limit, counted from `base`.
@@ -128,6 +151,6 @@ pub fn bad_colour(base: usize, xs: &[f32], limit: f32) -> Option<usize>
     requires { base ≤ most_subpalettes * most_colours }
     ensures { result ≡ bad_colour_from base limit xs.now }
 {
-    let bad = first_bad(xs, limit)?;
+    let bad = bad_component(xs, limit)?;
     Some(base + bad / 3)
 }

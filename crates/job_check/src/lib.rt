@@ -27,7 +27,7 @@ pub fn check_tables(job: &Job) -> Result<(), Refusal>
     if total > MOST_TILE_COLOURS {
         return Err(Refusal::Tiles);
     }
-    if !job_tables::tiles_fit(job) {
+    if !job_tables::tiles_fit(job, total) {
         return Err(Refusal::Tiles);
     }
     if !job_tables::counts_fit(job) {

@@ -7,11 +7,11 @@ ghost use Rattle.job.specs.Checks.{tiles_fit, part_fits, counts_fit, samples_fit
 
 use job::Job;
 
-pub fn tiles_fit(job: &Job) -> bool
+// `total` colours are told, whatever is lent of them.
+pub fn tiles_fit(job: &Job, total: usize) -> bool
     requires { length job.now.tiles.now ≡ 2 * job.now.sizes.t }
-    ensures { result ≡ tiles_fit job.now.sizes.size (length job.now.counts.now) job.now.tiles.now job.now.sizes.t }
+    ensures { result ≡ tiles_fit job.now.sizes.size total job.now.tiles.now job.now.sizes.t }
 {
-    let total = job.counts.len();
     let mut at = 0;
     for i in 0..job.sizes.t {
         let n = job::size_of(job.tiles, i);
