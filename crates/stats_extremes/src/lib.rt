@@ -2,9 +2,28 @@
 // No value may be a NaN: it is placed by its bits, which the language keeps to itself.
 #![tactic(auto)]
 
-ghost use Rattle.std.specs.Prelude.{◌≡◌, cond, length};
+ghost use Rattle.std.specs.Prelude.{◌≡◌, cond, not, T, length};
+ghost use Rattle.std.specs.Float.{binary32};
+ghost use Rattle.std.specs.Float.Ieee.{is_nan, to_bits};
+ghost use Rattle.ieee.specs.Terms.{key_of};
 ghost use Rattle.stats.specs.Stats.{value_at};
 ghost use Rattle.stats_extremes.specs.Extremes.{NoNan, argmax_of, argmin_of};
+
+// The weight of the sign.
+const SIGN_32: u32 = 0x8000_0000;
+
+// A number that grows with IEEE 754's total order.
+pub fn total_key(x: f32) -> u32
+    requires { T (not (is_nan x)) }
+    ensures { result ≡ key_of binary32 (to_bits binary32 x) }
+{
+    let bits = f32::to_bits(x);
+    if bits < SIGN_32 {
+        bits + SIGN_32
+    } else {
+        0xffff_ffff - bits
+    }
+}
 
 // Where `greatest` is true the last of the greatest, else the first of the least; 0 where there is none.
 fn extreme(values: &[f32], greatest: bool) -> usize
