@@ -22,7 +22,8 @@ fn color_step(job: &Job, pal: &[f32], hints: &[u32], i: usize, sums: &mut Shares
         &palette_tile::tile(job, i),
         job.sizes.weight,
         owner * job.sizes.c,
-        sums,
+        &mut sums.had,
+        &mut sums.lost,
     )
 }
 
