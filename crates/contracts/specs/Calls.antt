@@ -1,5 +1,5 @@
 -- The ten public functions, the five for hosts (`dunkafeto`) and the text functions of both programs, as the prover has them. Assumes nothing.
-use Rattle.contracts.specs.Keeps.{Keeps, Sees}
+use Rattle.contracts.specs.Keeps.{Keeps, Sees, Determines}
 use Rattle.contracts.specs.Start as start
 use Rattle.contracts.specs.Advance as advance
 use Rattle.contracts.specs.HandIn as hand_in
@@ -25,6 +25,19 @@ pub record Contracts : Type 2 where
   pub grouping : Sees grouping.compiled grouping.defined
   pub read : Sees read.compiled read.defined
   pub write : Sees write.compiled write.defined
+
+-- what a caller sees of each is a number and an index where it refuses, and is of one result alone: so one result meets the contract
+pub record Determined : Type 0 where
+  pub start : Determines start.compiled
+  pub advance : Determines advance.compiled
+  pub hand_in : Determines hand_in.compiled
+  pub result : Determines result.compiled
+  pub single_fit : Determines single_fit.compiled
+  pub best_two : Determines best_two.compiled
+  pub assign : Determines assign.compiled
+  pub grouping : Determines grouping.compiled
+  pub read : Determines read.compiled
+  pub write : Determines write.compiled
 
 -- that of each that `dunkafeto_c` exports: the answer word and the memory are what is told of the definition's outcome
 pub record Exports : Type 2 where

@@ -42,3 +42,9 @@ Keeps f P =
 -- its contract: the caller sees what is defined
 abbrev pub Sees : {O : Type 0} (f : Compiled O) → Defined f → Type 2
 Sees f defined = Keeps f (λ κs a x. x ≡ defined κs a)
+
+-- what a caller sees is of one result alone: calls that left the same to see gave the same result
+abbrev pub Determines : {O : Type 0} → Compiled O → Type 0
+Determines f =
+    (κs : Lfts f.ended.signature.lifetimes) (a : Args f.ended.signature κs) (r q : Res f.ended.signature κs) (e d : AtExit f.ended κs)
+    → f.seen κs a r e ≡ f.seen κs a q d → r ≡ q
